@@ -1,0 +1,47 @@
+-- What callers use of the counters' conversions. Assumes nothing.
+use mathlib.Core.Path.{_≡_, refl, sym, ap, _∙_}
+use mathlib.Core.Bool.{Bool, true, false, cond}
+use Prim.Native.Nat.{ℕ, _+_, _-_, _^_, _≤_, _<_}
+use native.Mathlib.Omega.{arith}
+use lib.Dec.{ltb}
+use borrow.Author.Tests.{ltb-true, ltb-false, lt-ltb, le-ltb}
+use Rattle.types.specs.declared.Gsi.{Gsi}
+use Rattle.types.specs.declared.PicLine.{PicLine}
+use Rattle.types.specs.declared.PicPlace.{PicPlace}
+use Rattle.types.specs.declared.PicPlace.the-variants.{Master, Slave, Nowhere}
+use Rattle.types.specs.Counters.{entryIndex, placeOf}
+
+-- a GSI below 24 is its entry's index, and one from 24 up has no entry
+pub entry-is : (g : Gsi) → g .0 < 24 → entryIndex g ≡ g .0
+entry-is g h = rw (lt-ltb (g .0) 24 h)
+
+pub entry-none : (g : Gsi) → 24 ≤ g .0 → entryIndex g ≡ 24
+entry-none g h = rw (le-ltb (g .0) 24 h)
+
+pub entry-of : (g : Gsi) → entryIndex g < 24 → entryIndex g ≡ g .0
+entry-of g h = go (ltb (g .0) 24) refl h
+  where
+    go : (b : Bool) → ltb (g .0) 24 ≡ b → cond b (g .0) 24 < 24 → cond b (g .0) 24 ≡ g .0
+    go true e l = refl
+    go false e l = absurd (omega arith)
+
+-- a place holds one of eight lines, and the pair's line comes back from it
+pub master-line : (l k : PicLine) → placeOf l ≡ Master k → (k ≡ l) × (k .0 < 8)
+master-line l k e = go (ltb (l .0) 8) refl (ltb (l .0) 16) e
+  where
+    go : (b : Bool) → ltb (l .0) 8 ≡ b → (d : Bool) → cond b (Master l) (cond d (Slave (record { 0 = l .0 - 8 })) Nowhere) ≡ Master k → (k ≡ l) × (k .0 < 8)
+    go true p d q = let s : k ≡ l = cc in (s, omega (arith, ltb-true (l .0) 8 p, ap (λ (x : PicLine). x .0) s))
+    go false p true q = let z : _≡_ {A = ℕ} 0 1 = cc in absurd (omega arith)
+    go false p false q = let z : _≡_ {A = ℕ} 0 1 = cc in absurd (omega arith)
+
+pub slave-line : (l k : PicLine) → placeOf l ≡ Slave k → (l .0 ≡ k .0 + 8) × (k .0 < 8)
+slave-line l k e = go (ltb (l .0) 8) refl (ltb (l .0) 16) refl e
+  where
+    go : (b : Bool) → ltb (l .0) 8 ≡ b → (d : Bool) → ltb (l .0) 16 ≡ d
+        → cond b (Master l) (cond d (Slave (record { 0 = l .0 - 8 })) Nowhere) ≡ Slave k → (l .0 ≡ k .0 + 8) × (k .0 < 8)
+    go true p d t q = let z : _≡_ {A = ℕ} 0 1 = cc in absurd (omega arith)
+    go false p true t q =
+        let s : _≡_ {A = PicLine} (record { 0 = l .0 - 8 }) k = cc in
+        let d : l .0 - 8 ≡ k .0 = ap (λ (x : PicLine). x .0) s in
+        (omega (arith, ltb-false (l .0) 8 p), omega (arith, ltb-true (l .0) 16 t))
+    go false p false t q = let z : _≡_ {A = ℕ} 0 1 = cc in absurd (omega arith)
