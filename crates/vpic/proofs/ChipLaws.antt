@@ -1,0 +1,117 @@
+-- Laws of one chip: which line is pending, and that an answer is known by its reply. Assumes nothing.
+use mathlib.Core.Path.{_≡_, refl, sym, ap, ap₂, subst, _∙_}
+use mathlib.Core.Bool.{Bool, true, false, not, cond, _&&_}
+use Prim.Native.Nat.{ℕ, _+_, _<_, _≤_}
+use native.Mathlib.Omega.{arith}
+use lib.Dec.{ltb, eqb}
+use borrow.Author.Tests.{ltb-true, ltb-false, lt-ltb, le-ltb, not-true, not-false}
+use Rattle.utils.specs.Set.{bit, with, without, outside, first, lowest}
+use Rattle.utils.proofs.Search.{first-is, first-none, first-le, first-holds, first-before}
+use Rattle.utils.proofs.Laws.{bit-outside, lowest-le, lowest-in, lowest-before}
+use Rattle.types.specs.declared.PicLine.{PicLine}
+use Rattle.types.specs.declared.Reply.{Reply}
+use Rattle.types.specs.declared.Reply.the-variants as reply
+use Rattle.vpic.specs.declared.chip.PicChip.{PicChip}
+use Rattle.vpic.specs.declared.chip.PendingIrq.{PendingIrq}
+use Rattle.vpic.specs.declared.chip.PendingIrq.the-variants.{Irq, Nothing}
+use Rattle.vpic.specs.declared.chip.PicVector.{PicVector}
+use Rattle.vpic.specs.declared.chip.PicVector.the-variants.{Given, Nothing as NoVector}
+use Rattle.vpic.specs.declared.chip.Acknowledged.{Acknowledged}
+use Rattle.types.specs.Reply.{Outcome}
+use Rattle.vpic.specs.Chip.{counts, pendingLine, pendingIrq, irqOf, pendingReply, vectorReply, acknowledgeOutcome, pulsed, specificEoi, unacknowledged}
+
+-- the highest unmasked request, and the highest line in service
+abbrev pub asked : PicChip → ℕ
+asked c = lowest 8 (outside 8 (c .request) (c .mask))
+
+abbrev pub served : PicChip → ℕ
+served c = lowest 8 (c .«in_service»)
+
+and-false : (a b : Bool) → a ≡ false → (a && b) ≡ false
+and-false a b e = rw e
+
+and-no : (a b : Bool) → b ≡ false → (a && b) ≡ false
+and-no true b e = e
+and-no false b e = refl
+
+-- a line below eight counts if it is outside the mask and above the lines in service
+counts-is : (c : PicChip) (k : ℕ) → k < 8 → counts c k ≡ (bit (outside 8 (c .request) (c .mask)) k && ltb k (served c))
+unfolding counts
+counts-is c k l = rw (bit-outside 8 (c .request) (c .mask) k l)
+
+-- so the search has one comparison
+pub pending-line : (c : PicChip) → pendingLine c ≡ cond (ltb (asked c) (served c)) (asked c) 8
+unfolding pendingLine
+pending-line c = go (ltb (asked c) (served c)) refl
+  where
+    go : (b : Bool) → ltb (asked c) (served c) ≡ b → first 8 (counts c) ≡ cond b (asked c) 8
+    go true e =
+        let l : asked c < 8 = omega (arith, ltb-true (asked c) (served c) e, lowest-le 8 (c .«in_service»)) in
+        first-is 8 (counts c) (asked c) l
+        (counts-is c (asked c) l ∙ ap₂ _&&_ (lowest-in 8 (outside 8 (c .request) (c .mask)) l) e)
+        (λ j q. counts-is c j (omega arith) ∙ and-false _ _ (lowest-before 8 (outside 8 (c .request) (c .mask)) j q))
+    go false e =
+        first-none 8 (counts c) (λ j q. counts-is c j q ∙ blocked j (ltb j (asked c)) refl)
+      where
+        blocked : (j : ℕ) (d : Bool) → ltb j (asked c) ≡ d → (bit (outside 8 (c .request) (c .mask)) j && ltb j (served c)) ≡ false
+        blocked j true h = and-false (bit (outside 8 (c .request) (c .mask)) j) (ltb j (served c)) (lowest-before 8 (outside 8 (c .request) (c .mask)) j (ltb-true j (asked c) h))
+        blocked j false h = and-no (bit (outside 8 (c .request) (c .mask)) j) (ltb j (served c)) (le-ltb j (served c) (omega (arith, ltb-false j (asked c) h, ltb-false (asked c) (served c) e)))
+
+-- what the code's two searches say of it
+pub pending-some : (c : PicChip) (o k s : ℕ) → o ≡ outside 8 (c .request) (c .mask) → k ≡ lowest 8 o → s ≡ lowest 8 (c .«in_service») → k < s
+    → reply.One k ≡ pendingReply (pendingIrq c)
+unfolding pendingIrq
+pending-some c o k s eo ek es l =
+    let e : k ≡ asked c = ek ∙ ap (lowest 8) eo in
+    let a : asked c < served c = omega arith in
+    rw (pending-line c, lt-ltb (asked c) (served c) a, lt-ltb (asked c) 8 (omega (arith, lowest-le 8 (c .«in_service»)))) (ap reply.One e)
+
+pub pending-none : (c : PicChip) (o k s : ℕ) → o ≡ outside 8 (c .request) (c .mask) → k ≡ lowest 8 o → s ≡ lowest 8 (c .«in_service») → s ≤ k
+    → reply.Nothing ≡ pendingReply (pendingIrq c)
+unfolding pendingIrq
+pending-none c o k s eo ek es l =
+    let e : k ≡ asked c = ek ∙ ap (lowest 8) eo in
+    rw (pending-line c, le-ltb (asked c) (served c) (omega arith))
+
+-- a pending line is the line that the search found, one of eight
+pub pending-is-line : (c : PicChip) (k : PicLine) → pendingIrq c ≡ Irq k → (pendingLine c ≡ k .0) × (k .0 < 8)
+unfolding pendingIrq
+pending-is-line c k e = go (ltb (pendingLine c) 8) refl e
+  where
+    go : (b : Bool) → ltb (pendingLine c) 8 ≡ b → cond b (Irq (record { 0 = pendingLine c })) Nothing ≡ Irq k → (pendingLine c ≡ k .0) × (k .0 < 8)
+    go true h q =
+        let s : _≡_ {A = PicLine} (record { 0 = pendingLine c }) k = cc in
+        let d : pendingLine c ≡ k .0 = ap (λ (x : PicLine). x .0) s in
+        (d, omega (arith, ltb-true (pendingLine c) 8 h))
+    go false h q = let z : _≡_ {A = ℕ} 0 1 = cc in absurd (omega arith)
+
+-- an answer is known by its reply
+pub pending-reply-same : (a b : PendingIrq) → pendingReply a ≡ pendingReply b → a ≡ b
+pending-reply-same (Irq l) (Irq m) e = let k : l .0 ≡ m .0 = cc in ap (λ (n : ℕ). Irq (record { 0 = n })) k
+pending-reply-same (Irq l) Nothing e = let z : _≡_ {A = ℕ} 0 1 = cc in absurd (omega arith)
+pending-reply-same Nothing (Irq m) e = let z : _≡_ {A = ℕ} 0 1 = cc in absurd (omega arith)
+pending-reply-same Nothing Nothing e = refl
+
+pub vector-reply-same : (a b : PicVector) → vectorReply a ≡ vectorReply b → a ≡ b
+vector-reply-same (Given v) (Given w) e = let k : v .0 ≡ w .0 = cc in ap (λ (n : ℕ). Given (record { 0 = n })) k
+vector-reply-same (Given v) NoVector e = let z : _≡_ {A = ℕ} 0 1 = cc in absurd (omega arith)
+vector-reply-same NoVector (Given w) e = let z : _≡_ {A = ℕ} 0 1 = cc in absurd (omega arith)
+vector-reply-same NoVector NoVector e = refl
+
+pub acknowledge-same : (a b : Acknowledged) → acknowledgeOutcome a ≡ acknowledgeOutcome b → a ≡ b
+acknowledge-same a b e =
+    ap₂ (λ (c : PicChip) (v : PicVector). record { chip = c; vector = v }) (ap (λ (o : Outcome PicChip). o .state) e)
+    (vector-reply-same (a .vector) (b .vector) (ap (λ (o : Outcome PicChip). o .reply) e))
+
+-- a law for each way out of `unacknowledged`
+pub back-requested : (c r : PicChip) (l : PicLine) (f : Bool) → not f ≡ true → r ≡ pulsed c l → r ≡ unacknowledged c l f
+unfolding unacknowledged
+back-requested c r l f n e = rw (not-true f n) e
+
+pub back-outside : (c r : PicChip) (l : PicLine) (f : Bool) → not f ≡ false → 8 ≤ l .0 → r ≡ pulsed c l → r ≡ unacknowledged c l f
+unfolding unacknowledged
+back-outside c r l f n h e = rw (not-false f n, le-ltb (l .0) 8 h) e
+
+pub back-ended : (c a r : PicChip) (l : PicLine) (f : Bool) → not f ≡ false → l .0 < 8 → a ≡ pulsed c l → r ≡ specificEoi a (l .0) → r ≡ unacknowledged c l f
+unfolding unacknowledged
+back-ended c a r l f n h e q = rw (not-false f n, lt-ltb (l .0) 8 h) (q ∙ ap (λ (x : PicChip). specificEoi x (l .0)) e)

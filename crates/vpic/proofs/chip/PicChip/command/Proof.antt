@@ -1,0 +1,30 @@
+use Rattle.utils.specs.Cases.{cases}
+use Rattle.vpic.specs.Chip.{commanded}
+use borrow.Author.Needs.{needs}
+use Rattle.vpic.proofs.chip.PicChip.command.Statement.{statement}
+use Rattle.vpic.proofs.chip.PicChip.command.Tie as tie
+
+icw1-requires : tie.Need-icw1-requires
+icw1-requires c κs = search needs
+
+returns : tie.Need-returns
+unfolding commanded
+returns c = search cases
+
+ocw3-requires : tie.Need-ocw3-requires
+ocw3-requires c κs = search needs
+
+returns-2 : tie.Need-returns-2
+unfolding commanded
+returns-2 c = search cases
+
+ocw2-requires : tie.Need-ocw2-requires
+ocw2-requires c κs = search needs
+
+returns-3 : tie.Need-returns-3
+unfolding commanded
+returns-3 c = search cases
+
+pub command-spec : {M : Type 1} → statement M
+command-spec =
+    tie.close (tie.spec icw1-requires returns ocw3-requires returns-2 ocw2-requires returns-3)

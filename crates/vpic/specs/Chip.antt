@@ -1,0 +1,149 @@
+-- One 8259A chip: initialization command words ICW1 to ICW4, operation command words OCW1 to OCW3, fully nested mode, end of interrupt,
+-- automatic end of interrupt mode, reading the 8259A status. A set of the chip's eight lines is a number (`Rattle.utils.specs.Set`).
+-- Departures from the data sheet are marked D-nn and stand in docs/DIFFERENCES.md.
+use Prim.Native.Nat.{ℕ, _+_, _*_, _/_, _%_}
+use mathlib.Core.Bool.{Bool, true, false, not, cond, _&&_}
+use lib.Dec.{ltb, eqb}
+use Rattle.utils.specs.Set.{bit, with, without, first, lowest}
+use Rattle.types.specs.declared.PicLine.{PicLine}
+use Rattle.types.specs.declared.Reply.{Reply}
+use Rattle.types.specs.declared.Reply.the-variants as reply
+use Rattle.types.specs.Counters.{lineVector}
+use Rattle.types.specs.Reply.{Outcome}
+use Rattle.vpic.specs.declared.chip.PicChip.{PicChip}
+use Rattle.vpic.specs.declared.chip.PendingIrq.{PendingIrq}
+use Rattle.vpic.specs.declared.chip.PendingIrq.the-variants.{Irq, Nothing}
+use Rattle.vpic.specs.declared.chip.PicVector.{PicVector}
+use Rattle.vpic.specs.declared.chip.PicVector.the-variants.{Given, Nothing as NoVector}
+use Rattle.vpic.specs.declared.chip.Acknowledged.{Acknowledged}
+
+-- the chip of these nine words: vector base, mask (IMR), requests (IRR), in service (ISR), initialization step, ICW4 wanted, single, automatic EOI, reads show the ISR
+abbrev pub chip : ℕ → ℕ → ℕ → ℕ → ℕ → Bool → Bool → Bool → Bool → PicChip
+chip base mask irr isr step icw4 sngl aeoi ris = record {
+  «vector_base» = base;
+  mask = mask;
+  request = irr;
+  «in_service» = isr;
+  «init_step» = step;
+  «needs_icw4» = icw4;
+  single = sngl;
+  «auto_eoi» = aeoi;
+  «read_isr» = ris;
+}
+
+-- c with other requests, another in-service set
+abbrev pub withRequest : PicChip → ℕ → PicChip
+withRequest c irr = chip (c .«vector_base») (c .mask) irr (c .«in_service») (c .«init_step») (c .«needs_icw4») (c .single) (c .«auto_eoi») (c .«read_isr»)
+
+abbrev pub withInService : PicChip → ℕ → PicChip
+withInService c isr = chip (c .«vector_base») (c .mask) (c .request) isr (c .«init_step») (c .«needs_icw4») (c .single) (c .«auto_eoi») (c .«read_isr»)
+
+-- a new chip, at any base byte: every line masked (D-01: the data sheet's chip takes nothing before its ICWs)
+unfoldable pub opened : ℕ → PicChip
+opened base = chip base 255 0 0 0 false false false false
+
+-- ---- the command port
+
+-- ICW1: bit 0 announces ICW4, bit 1 is SNGL. D-02: the mask stays. D-03: in-service is cleared, D-04: LTIM (bit 3), the call interval (bit 2) and bits 5 to 7 do nothing
+abbrev pub icw1 : PicChip → ℕ → PicChip
+icw1 c v = chip (c .«vector_base») (c .mask) 0 0 1 (bit v 0) (bit v 1) false false
+
+-- OCW3. D-05: bit 1, which enables the choice in the data sheet, is the choice here, and bit 0 does nothing. D-06: no special mask mode (bits 5, 6), D-07: no poll (bit 2)
+abbrev pub ocw3 : PicChip → ℕ → PicChip
+ocw3 c v = chip (c .«vector_base») (c .mask) (c .request) (c .«in_service») (c .«init_step») (c .«needs_icw4») (c .single) (c .«auto_eoi») (bit v 1)
+
+-- OCW2, end of interrupt: specific (line in bits 0 to 2), or of the highest line in service
+abbrev pub specificEoi : PicChip → ℕ → PicChip
+specificEoi c k = withInService c (without (c .«in_service») k)
+
+abbrev pub nonSpecificEoi : PicChip → PicChip
+nonSpecificEoi c = cond (ltb (lowest 8 (c .«in_service»)) 8) (specificEoi c (lowest 8 (c .«in_service»))) c
+
+-- bit 5 is EOI, bit 6 SL. D-08: bit 7, rotation, does nothing, so line 7 stays lowest; set priority and rotation in automatic EOI are no operation
+abbrev pub ocw2 : PicChip → ℕ → PicChip
+ocw2 c v = cond (bit v 5) (cond (bit v 6) (specificEoi c (v % 8)) (nonSpecificEoi c)) c
+
+-- a byte written to the command port: ICW1 by bit 4, OCW3 by bits 4-3 = 01, else OCW2
+unfoldable pub commanded : PicChip → ℕ → PicChip
+commanded c v = cond (bit v 4) (icw1 c v) (cond (bit v 3) (ocw3 c v) (ocw2 c v))
+
+-- ---- the data port
+
+-- the step after ICW3, or after ICW2 where ICW3 is left out: ICW4 if ICW1 announced it, else ready
+abbrev pub afterIcw3 : PicChip → ℕ
+afterIcw3 c = cond (c .«needs_icw4») 3 0
+
+-- ICW2: bits 3 to 7 are the vector's; no ICW3 where single
+abbrev pub icw2 : PicChip → ℕ → PicChip
+icw2 c v =
+    chip (v / 8 * 8) (c .mask) (c .request) (c .«in_service») (cond (c .single) (afterIcw3 c) 2) (c .«needs_icw4») (c .single) (c .«auto_eoi») (c .«read_isr»)
+
+-- ICW3. D-09: its value does nothing: the slave hangs on the master's line 2
+abbrev pub icw3 : PicChip → PicChip
+icw3 c = chip (c .«vector_base») (c .mask) (c .request) (c .«in_service») (afterIcw3 c) (c .«needs_icw4») (c .single) (c .«auto_eoi») (c .«read_isr»)
+
+-- ICW4: bit 1 is AEOI. D-10: 8080 mode (bit 0 clear), buffered mode (bits 2, 3) and special fully nested mode (bit 4) do nothing
+abbrev pub icw4 : PicChip → ℕ → PicChip
+icw4 c v = chip (c .«vector_base») (c .mask) (c .request) (c .«in_service») 0 (c .«needs_icw4») (c .single) (bit v 1) (c .«read_isr»)
+
+-- OCW1: the interrupt mask
+abbrev pub ocw1 : PicChip → ℕ → PicChip
+ocw1 c v = chip (c .«vector_base») v (c .request) (c .«in_service») (c .«init_step») (c .«needs_icw4») (c .single) (c .«auto_eoi») (c .«read_isr»)
+
+-- a byte written to the data port, by the step of initialization
+unfoldable pub fed : PicChip → ℕ → PicChip
+fed c v =
+    cond (eqb (c .«init_step») 1) (icw2 c v)
+    (cond (eqb (c .«init_step») 2) (icw3 c)
+    (cond (eqb (c .«init_step») 3) (icw4 c v)
+    (ocw1 c v)))
+
+-- ---- reading the status: the command port shows the ISR or the IRR, the data port the IMR
+
+unfoldable pub commandRead : PicChip → ℕ
+commandRead c = cond (c .«read_isr») (c .«in_service») (c .request)
+
+-- ---- requests and their acknowledgement
+
+-- an edge on a line latches its request; a chip has eight lines. D-11: no level-triggered mode, and a request is never withdrawn by its line
+unfoldable pub pulsed : PicChip → PicLine → PicChip
+pulsed c l = cond (ltb (l .0) 8) (withRequest c (with (c .request) (l .0))) c
+
+-- fully nested mode, line 0 highest: a request counts if it is unmasked and above every line in service
+unfoldable pub counts : PicChip → ℕ → Bool
+counts c k = bit (c .request) k && not (bit (c .mask) k) && ltb k (lowest 8 (c .«in_service»))
+
+-- the highest request that counts, or 8
+unfoldable pub pendingLine : PicChip → ℕ
+pendingLine c = first 8 (counts c)
+
+abbrev pub irqOf : ℕ → PendingIrq
+irqOf k = cond (ltb k 8) (Irq (record { 0 = k })) Nothing
+
+unfoldable pub pendingIrq : PicChip → PendingIrq
+pendingIrq c = irqOf (pendingLine c)
+
+abbrev pub pendingReply : PendingIrq → Reply
+pendingReply (Irq l) = reply.One (l .0)
+pendingReply Nothing = reply.Nothing
+
+-- the interrupt acknowledge sequence on one chip: the request goes, and the line is in service unless in automatic EOI mode
+unfoldable pub acknowledged : PicChip → ℕ → PicChip
+acknowledged c k = withInService (withRequest c (without (c .request) k)) (cond (c .«auto_eoi») (c .«in_service») (with (c .«in_service») k))
+
+abbrev pub vectorReply : PicVector → Reply
+vectorReply (Given v) = reply.One (v .0)
+vectorReply NoVector = reply.Nothing
+
+abbrev pub acknowledgeOutcome : Acknowledged → Outcome PicChip
+acknowledgeOutcome r = record { state = r .chip; reply = vectorReply (r .vector) }
+
+-- with the vector, base plus line modulo 256; nothing for a line that a chip doesn't have. D-12: no spurious line 7
+unfoldable pub acknowledge : PicChip → PicLine → Outcome PicChip
+acknowledge c l =
+    cond (ltb (l .0) 8) (record { state = acknowledged c (l .0); reply = reply.One (lineVector (c .«vector_base») l .0) })
+    (record { state = c; reply = reply.Nothing })
+
+-- an acknowledgement taken back: requested again and, if that had put the line there, out of service
+unfoldable pub unacknowledged : PicChip → PicLine → Bool → PicChip
+unacknowledged c l inService = cond inService (cond (ltb (l .0) 8) (specificEoi (pulsed c l) (l .0)) (pulsed c l)) (pulsed c l)
