@@ -1,6 +1,6 @@
 -- Laws of one chip: which line is pending, and that an answer is known by its reply. Assumes nothing.
 use mathlib.Core.Path.{_≡_, refl, sym, ap, ap₂, subst, _∙_}
-use mathlib.Core.Bool.{Bool, true, false, not, cond, _&&_}
+use mathlib.Core.Bool.{Bool, true, false, not, cond, _&&_, true≢false}
 use Prim.Native.Nat.{ℕ, _+_, _<_, _≤_}
 use native.Mathlib.Omega.{arith}
 use lib.Dec.{ltb, eqb}
@@ -115,3 +115,34 @@ back-outside c r l f n h e = rw (not-false f n, le-ltb (l .0) 8 h) e
 pub back-ended : (c a r : PicChip) (l : PicLine) (f : Bool) → not f ≡ false → l .0 < 8 → a ≡ pulsed c l → r ≡ specificEoi a (l .0) → r ≡ unacknowledged c l f
 unfolding unacknowledged
 back-ended c a r l f n h e q = rw (not-false f n, lt-ltb (l .0) 8 h) (q ∙ ap (λ (x : PicChip). specificEoi x (l .0)) e)
+
+-- what a pending line is: requested, not in service, and the first that counts
+pub record Pending (c : PicChip) (k : ℕ) : Type 0 where
+  pub low : k < 8
+  pub counted : counts c k ≡ true
+  pub highest : (j : ℕ) → j < k → counts c j ≡ false
+  pub asked : bit (c .request) k ≡ true
+  pub idle : bit (c .«in_service») k ≡ false
+
+and-first : (a b : Bool) → (a && b) ≡ true → a ≡ true
+and-first true b e = refl
+and-first false b e = e
+
+and-second : (a b : Bool) → (a && b) ≡ true → b ≡ true
+and-second true b e = e
+and-second false b e = absurd (true≢false (sym e))
+
+pub pended : (c : PicChip) (k : PicLine) → pendingIrq c ≡ Irq k → Pending c (k .0)
+unfolding pendingLine counts
+pended c k e =
+    let is : (pendingLine c ≡ k .0) × (k .0 < 8) = pending-is-line c k e in
+    let here : first 8 (counts c) ≡ k .0 = is .0 in
+    let yes : counts c (k .0) ≡ true = subst (λ (n : ℕ). counts c n ≡ true) here (first-holds 8 (counts c) (omega arith)) in
+    let unmasked = bit (c .request) (k .0) && not (bit (c .mask) (k .0)) in
+    record {
+      low = is .1;
+      counted = yes;
+      highest = λ j l. first-before 8 (counts c) j (omega arith);
+      asked = and-first (bit (c .request) (k .0)) (not (bit (c .mask) (k .0))) (and-first unmasked (ltb (k .0) (served c)) yes);
+      idle = lowest-before 8 (c .«in_service») (k .0) (ltb-true (k .0) (served c) (and-second unmasked (ltb (k .0) (served c)) yes));
+    }

@@ -1,21 +1,33 @@
 -- Laws of the pair: what each way through a claim leaves, and that an outcome is known by its reply. Assumes nothing.
 use mathlib.Core.Path.{_≡_, refl, sym, ap, ap₂, subst, _∙_}
 use mathlib.Core.Bool.{Bool, true, false, cond}
-use Prim.Native.Nat.{ℕ, _+_, _*_, _<_, _≤_}
-use native.Mathlib.Omega.{arith}
-use lib.Dec.{ltb, eqb}
-use borrow.Author.Tests.{ltb-true, ltb-false, lt-ltb, le-ltb, eq-eqb, ne-eqb}
+use Prim.Native.Nat.{ℕ, _+_, _*_, _/_, _%_, _<_}
+use lib.Dec.{eqb}
+use borrow.Author.Tests.{eq-eqb, ne-eqb}
 use Rattle.types.specs.declared.PicLine.{PicLine}
-use Rattle.types.specs.declared.Refusal.{Refusal}
+use Rattle.types.specs.declared.Reply.{Reply}
+use Rattle.types.specs.declared.Reply.the-variants as reply
 use Rattle.types.specs.Reply.{Outcome, flag}
 use Rattle.vpic.specs.declared.chip.PicChip.{PicChip}
 use Rattle.vpic.specs.declared.chip.PendingIrq.{PendingIrq}
 use Rattle.vpic.specs.declared.chip.PendingIrq.the-variants.{Irq, Nothing}
+use Rattle.vpic.specs.declared.chip.PicVector.{PicVector}
 use Rattle.vpic.specs.declared.pair.PicState.{PicState}
+use Rattle.vpic.specs.declared.pair.EmulatedPic.{EmulatedPic}
+use Rattle.vpic.specs.declared.pair.PicClaim.{PicClaim}
+use Rattle.vpic.specs.declared.pair.PicClaim.the-variants.{Claimed, Nothing as NoClaim}
+use Rattle.vpic.specs.declared.pair.PicClaimed.{PicClaimed}
+use Rattle.vpic.specs.declared.pair.PicVectored.{PicVectored}
+use Rattle.vpic.specs.declared.pair.PicDone.{PicDone}
+use Rattle.vpic.specs.declared.pair.PicDone.the-variants.{Done, Refused}
+use Rattle.vpic.specs.declared.pair.PicWritten.{PicWritten}
+use Rattle.vpic.specs.declared.pair.PicValue.{PicValue}
+use Rattle.vpic.specs.declared.pair.PicValue.the-variants.{Value, Refused as NotRead}
+use Rattle.vpic.specs.declared.pair.PicRead.{PicRead}
 use Rattle.vpic.specs.declared.pair.StateClaim.{StateClaim}
-use Rattle.vpic.specs.Chip.{pendingLine, pendingIrq, pendingReply, irqOf}
-use Rattle.vpic.specs.Pair.{cascadeIrq, masterClaim, slaveClaim, cascadeClaim, nothingClaimed, pendingClaim, claimPending}
-use Rattle.vpic.proofs.ChipLaws.{pending-reply-same, pending-is-line}
+use Rattle.vpic.specs.Chip.{pendingIrq, pendingReply}
+use Rattle.vpic.specs.Pair.{cascadeIrq, masterClaim, slaveClaim, cascadeClaim, nothingClaimed, pendingClaim, claimPending, claimReply, doneReply, valueReply, claimOutcome, vectorOutcome, writeOutcome, readOutcome}
+use Rattle.vpic.proofs.ChipLaws.{pending-reply-same, pending-is-line, vector-reply-same}
 
 -- what `pending_irq` answered is what is pending
 answered : (c : PicChip) (a b : PendingIrq) → pendingReply a ≡ pendingReply (pendingIrq c) → a ≡ b → pendingIrq c ≡ b
@@ -43,3 +55,83 @@ pub claims-slave : (p : PicState) (a b : PendingIrq) (k j : PicLine) (q : StateC
     → pendingReply b ≡ pendingReply (pendingIrq (p .slave)) → b ≡ Irq j → q ≡ slaveClaim p j → q ≡ claimPending p
 unfolding claimPending
 claims-slave p a b k j q r e n s f h = rw (answered (p .master) a (Irq k) r e, eq-eqb (k .0) 2 n, answered (p .slave) b (Irq j) s f) h
+
+-- ---- an answer can be read back from its reply, so equal outcomes come from equal results
+
+claimOf : Reply → PicClaim
+claimOf (reply.Three v l f) = Claimed (record {
+  vector = record { 0 = v };
+  irq = record { 0 = l };
+  «master_in_service» = eqb (f % 2) 1;
+  «slave_in_service» = eqb (f / 2) 1;
+})
+claimOf (reply.Refused why) = NoClaim
+claimOf reply.Nothing = NoClaim
+claimOf (reply.One a) = NoClaim
+claimOf (reply.Two a b) = NoClaim
+
+flags-back : (m s : Bool) → (eqb ((flag m + 2 * flag s) % 2) 1 ≡ m) × (eqb ((flag m + 2 * flag s) / 2) 1 ≡ s)
+flags-back true true = (refl, refl)
+flags-back true false = (refl, refl)
+flags-back false true = (refl, refl)
+flags-back false false = (refl, refl)
+
+claim-back : (c : PicClaim) → claimOf (claimReply c) ≡ c
+unfolding claimOf
+claim-back (Claimed c) =
+    let b = flags-back (c .«master_in_service») (c .«slave_in_service») in
+    rw (b .0, b .1)
+claim-back NoClaim = refl
+
+pub claim-reply-same : (a b : PicClaim) → claimReply a ≡ claimReply b → a ≡ b
+claim-reply-same a b e = sym (claim-back a) ∙ ap claimOf e ∙ claim-back b
+
+doneOf : Reply → PicDone
+doneOf (reply.Refused why) = Refused why
+doneOf reply.Nothing = Done
+doneOf (reply.One a) = Done
+doneOf (reply.Two a b) = Done
+doneOf (reply.Three a b c) = Done
+
+done-back : (d : PicDone) → doneOf (doneReply d) ≡ d
+unfolding doneOf
+done-back Done = refl
+done-back (Refused why) = refl
+
+pub done-reply-same : (a b : PicDone) → doneReply a ≡ doneReply b → a ≡ b
+done-reply-same a b e = sym (done-back a) ∙ ap doneOf e ∙ done-back b
+
+valueOf : Reply → PicValue
+valueOf (reply.Refused why) = NotRead why
+valueOf (reply.One a) = Value a
+valueOf reply.Nothing = Value 0
+valueOf (reply.Two a b) = Value 0
+valueOf (reply.Three a b c) = Value 0
+
+value-back : (v : PicValue) → valueOf (valueReply v) ≡ v
+unfolding valueOf
+value-back (Value byte) = refl
+value-back (NotRead why) = refl
+
+pub value-reply-same : (a b : PicValue) → valueReply a ≡ valueReply b → a ≡ b
+value-reply-same a b e = sym (value-back a) ∙ ap valueOf e ∙ value-back b
+
+pub claim-same : (a b : PicClaimed) → claimOutcome a ≡ claimOutcome b → a ≡ b
+claim-same a b e =
+    ap₂ (λ (p : EmulatedPic) (c : PicClaim). record { pic = p; claim = c }) (ap (λ (o : Outcome EmulatedPic). o .state) e)
+    (claim-reply-same (a .claim) (b .claim) (ap (λ (o : Outcome EmulatedPic). o .reply) e))
+
+pub vector-same : (a b : PicVectored) → vectorOutcome a ≡ vectorOutcome b → a ≡ b
+vector-same a b e =
+    ap₂ (λ (p : EmulatedPic) (v : PicVector). record { pic = p; vector = v }) (ap (λ (o : Outcome EmulatedPic). o .state) e)
+    (vector-reply-same (a .vector) (b .vector) (ap (λ (o : Outcome EmulatedPic). o .reply) e))
+
+pub write-same : (a b : PicWritten) → writeOutcome a ≡ writeOutcome b → a ≡ b
+write-same a b e =
+    ap₂ (λ (p : EmulatedPic) (d : PicDone). record { pic = p; done = d }) (ap (λ (o : Outcome EmulatedPic). o .state) e)
+    (done-reply-same (a .done) (b .done) (ap (λ (o : Outcome EmulatedPic). o .reply) e))
+
+pub read-same : (a b : PicRead) → readOutcome a ≡ readOutcome b → a ≡ b
+read-same a b e =
+    ap₂ (λ (p : EmulatedPic) (v : PicValue). record { pic = p; value = v }) (ap (λ (o : Outcome EmulatedPic). o .state) e)
+    (value-reply-same (a .value) (b .value) (ap (λ (o : Outcome EmulatedPic). o .reply) e))

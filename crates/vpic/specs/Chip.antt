@@ -38,17 +38,18 @@ withRequest c irr = chip (c .«vector_base») (c .mask) irr (c .«in_service») 
 abbrev pub withInService : PicChip → ℕ → PicChip
 withInService c isr = chip (c .«vector_base») (c .mask) (c .request) isr (c .«init_step») (c .«needs_icw4») (c .single) (c .«auto_eoi») (c .«read_isr»)
 
--- a new chip, at any base byte: every line masked (D-01: the data sheet's chip takes nothing before its ICWs)
+-- a new chip (the data sheet says nothing of a chip before its ICW1): every line masked. D-17: any base byte, not only multiples of 8
 unfoldable pub opened : ℕ → PicChip
 opened base = chip base 255 0 0 0 false false false false
 
 -- ---- the command port
 
--- ICW1: bit 0 announces ICW4, bit 1 is SNGL. D-02: the mask stays. D-03: in-service is cleared, D-04: LTIM (bit 3), the call interval (bit 2) and bits 5 to 7 do nothing
+-- ICW1: bit 0 announces ICW4, bit 1 is SNGL. D-01: the mask stays. D-02: in-service is cleared. D-03: automatic EOI goes off also where ICW4 follows.
+-- D-04: LTIM (bit 3) does nothing: edges only. The call interval (bit 2) and bits 5 to 7 are for MCS-80/85 mode (D-11)
 abbrev pub icw1 : PicChip → ℕ → PicChip
 icw1 c v = chip (c .«vector_base») (c .mask) 0 0 1 (bit v 0) (bit v 1) false false
 
--- OCW3. D-05: bit 1, which enables the choice in the data sheet, is the choice here, and bit 0 does nothing. D-06: no special mask mode (bits 5, 6), D-07: no poll (bit 2)
+-- OCW3. D-05: bit 1, which enables the choice in the data sheet, is the choice here, and bit 0 does nothing. D-06: no special mask mode (bits 5, 6). D-07: no poll (bit 2)
 abbrev pub ocw3 : PicChip → ℕ → PicChip
 ocw3 c v = chip (c .«vector_base») (c .mask) (c .request) (c .«in_service») (c .«init_step») (c .«needs_icw4») (c .single) (c .«auto_eoi») (bit v 1)
 
@@ -59,7 +60,7 @@ specificEoi c k = withInService c (without (c .«in_service») k)
 abbrev pub nonSpecificEoi : PicChip → PicChip
 nonSpecificEoi c = cond (ltb (lowest 8 (c .«in_service»)) 8) (specificEoi c (lowest 8 (c .«in_service»))) c
 
--- bit 5 is EOI, bit 6 SL. D-08: bit 7, rotation, does nothing, so line 7 stays lowest; set priority and rotation in automatic EOI are no operation
+-- bit 5 is EOI, bit 6 SL. D-08: bit 7, rotation, does nothing: line 7 stays lowest, and set priority and rotation in automatic EOI mode are no operation
 abbrev pub ocw2 : PicChip → ℕ → PicChip
 ocw2 c v = cond (bit v 5) (cond (bit v 6) (specificEoi c (v % 8)) (nonSpecificEoi c)) c
 
@@ -73,7 +74,7 @@ commanded c v = cond (bit v 4) (icw1 c v) (cond (bit v 3) (ocw3 c v) (ocw2 c v))
 abbrev pub afterIcw3 : PicChip → ℕ
 afterIcw3 c = cond (c .«needs_icw4») 3 0
 
--- ICW2: bits 3 to 7 are the vector's; no ICW3 where single
+-- ICW2: bits 3 to 7 are the vector's; no ICW3 where single. D-12: single does no more than that, and leaves the slave where it is
 abbrev pub icw2 : PicChip → ℕ → PicChip
 icw2 c v =
     chip (v / 8 * 8) (c .mask) (c .request) (c .«in_service») (cond (c .single) (afterIcw3 c) 2) (c .«needs_icw4») (c .single) (c .«auto_eoi») (c .«read_isr»)
@@ -82,7 +83,7 @@ icw2 c v =
 abbrev pub icw3 : PicChip → PicChip
 icw3 c = chip (c .«vector_base») (c .mask) (c .request) (c .«in_service») (afterIcw3 c) (c .«needs_icw4») (c .single) (c .«auto_eoi») (c .«read_isr»)
 
--- ICW4: bit 1 is AEOI. D-10: 8080 mode (bit 0 clear), buffered mode (bits 2, 3) and special fully nested mode (bit 4) do nothing
+-- ICW4: bit 1 is AEOI. D-10: no special fully nested mode (bit 4). D-11: no MCS-80/85 mode (bit 0 clear); buffered mode (bits 2, 3) only drives a pin
 abbrev pub icw4 : PicChip → ℕ → PicChip
 icw4 c v = chip (c .«vector_base») (c .mask) (c .request) (c .«in_service») 0 (c .«needs_icw4») (c .single) (bit v 1) (c .«read_isr»)
 
@@ -105,7 +106,7 @@ commandRead c = cond (c .«read_isr») (c .«in_service») (c .request)
 
 -- ---- requests and their acknowledgement
 
--- an edge on a line latches its request; a chip has eight lines. D-11: no level-triggered mode, and a request is never withdrawn by its line
+-- an edge on a line latches its request; a chip has eight lines. D-15: the line need not stay up: a request is never withdrawn
 unfoldable pub pulsed : PicChip → PicLine → PicChip
 pulsed c l = cond (ltb (l .0) 8) (withRequest c (with (c .request) (l .0))) c
 
@@ -113,7 +114,7 @@ pulsed c l = cond (ltb (l .0) 8) (withRequest c (with (c .request) (l .0))) c
 unfoldable pub counts : PicChip → ℕ → Bool
 counts c k = bit (c .request) k && not (bit (c .mask) k) && ltb k (lowest 8 (c .«in_service»))
 
--- the highest request that counts, or 8
+-- the highest request that counts, or 8. D-14: with none there is nothing to acknowledge, where the data sheet's chip gives its line 7
 unfoldable pub pendingLine : PicChip → ℕ
 pendingLine c = first 8 (counts c)
 
@@ -138,7 +139,7 @@ vectorReply NoVector = reply.Nothing
 abbrev pub acknowledgeOutcome : Acknowledged → Outcome PicChip
 acknowledgeOutcome r = record { state = r .chip; reply = vectorReply (r .vector) }
 
--- with the vector, base plus line modulo 256; nothing for a line that a chip doesn't have. D-12: no spurious line 7
+-- with the vector, base plus line modulo 256; nothing for a line that a chip doesn't have
 unfoldable pub acknowledge : PicChip → PicLine → Outcome PicChip
 acknowledge c l =
     cond (ltb (l .0) 8) (record { state = acknowledged c (l .0); reply = reply.One (lineVector (c .«vector_base») l .0) })

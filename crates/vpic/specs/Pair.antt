@@ -88,7 +88,7 @@ unfoldable pub slaveClaim : PicState → PicLine → StateClaim
 slaveClaim p k =
     claimed p (chips (acknowledged (p .master) 2) (acknowledged (p .slave) (k .0))) (lineVector (p .slave .«vector_base») k) (record { 0 = k .0 + 8 })
 
--- the master's line 2 is acknowledged. D-14: with no slave request that counts the master answers for line 2 (the slave's spurious line 7 in the data sheet)
+-- the master's line 2 is acknowledged. D-16: with no slave request that counts the master answers for line 2 (in the data sheet the slave, for its line 7)
 abbrev pub cascadeClaim : PicState → PendingIrq → StateClaim
 cascadeClaim p (Irq k) = slaveClaim p k
 cascadeClaim p Nothing = masterClaim p cascadeIrq
