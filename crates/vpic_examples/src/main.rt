@@ -1,0 +1,94 @@
+// Examples 7, 8 and 9 of document 01 on the pair: each line is what was asked, the number, and the values.
+use types::PicLine;
+use vpic::pair::EmulatedPic;
+use vpic::pair::PicClaim;
+
+const MASTER_COMMAND: u16 = 0x20;
+const MASTER_DATA: u16 = 0x21;
+const SLAVE_COMMAND: u16 = 0xa0;
+const SLAVE_DATA: u16 = 0xa1;
+
+fn main() {
+    example_7();
+    example_8();
+    example_9();
+}
+
+// A byte written to a port.
+fn write(pic: EmulatedPic, port: u16, value: u64) -> EmulatedPic {
+    let written = pic.handle_write(port, 1, value);
+    let after = written.pic;
+    after
+}
+
+fn masks_0() -> EmulatedPic {
+    write(write(EmulatedPic::new(), MASTER_DATA, 0), SLAVE_DATA, 0)
+}
+
+// An EOI to the slave, then to the master.
+fn eoi_both(pic: EmulatedPic) -> EmulatedPic {
+    write(write(pic, SLAVE_COMMAND, 0x20), MASTER_COMMAND, 0x20)
+}
+
+fn print_claim(name: &[u8], claim: PicClaim) {
+    show::print_text(name);
+    show::print_reply(claim.reply());
+}
+
+fn claim(name: &[u8], pic: EmulatedPic, line: u8) -> EmulatedPic {
+    let claimed = pic.claim_irq(PicLine(line));
+    let after = claimed.pic;
+    print_claim(name, claimed.claim);
+    after
+}
+
+fn claim_pending(name: &[u8], pic: EmulatedPic) -> EmulatedPic {
+    let claimed = pic.claim_pending_interrupt();
+    let after = claimed.pic;
+    print_claim(name, claimed.claim);
+    after
+}
+
+fn read(name: &[u8], pic: EmulatedPic, port: u16) {
+    let seen = pic.handle_read(port, 1);
+    let value = seen.value;
+    show::print_text(name);
+    show::print_reply(value.reply());
+}
+
+fn example_7() {
+    let mut pic = masks_0();
+    pic = claim(b"7 claim 12: ", pic, 12);
+    pic = claim(b"7 claim 13: ", pic, 13);
+    pic = claim(b"7 claim 14: ", pic, 14);
+    pic = claim_pending(b"7 EOIs, claim pending: ", eoi_both(pic));
+    pic = claim_pending(b"7 EOIs, claim pending: ", eoi_both(pic));
+    read(b"7 slave requests: ", pic, SLAVE_COMMAND);
+}
+
+fn example_8() {
+    let claimed = masks_0().claim_irq(PicLine(2));
+    let after = claimed.pic;
+    let answer = claimed.claim;
+    print_claim(b"8 claim 2: ", answer);
+    let PicClaim::Claimed(taken) = answer else {
+        return;
+    };
+    let restored = after.restore_interrupt(taken);
+    let done = restored.done;
+    let pic = restored.pic;
+    show::print_text(b"8 restore: ");
+    show::print_reply(done.reply());
+    read(b"8 requests: ", pic, MASTER_COMMAND);
+    read(b"8 in service: ", write(pic, MASTER_COMMAND, 0x0b), MASTER_COMMAND);
+}
+
+fn example_9() {
+    let mut pic = write(EmulatedPic::new(), MASTER_DATA, 0xf8);
+    pic = write(pic, MASTER_COMMAND, 0x11);
+    pic = write(pic, MASTER_DATA, 0x20);
+    pic = write(pic, MASTER_DATA, 4);
+    pic = write(pic, MASTER_DATA, 1);
+    read(b"9 mask: ", pic, MASTER_DATA);
+    claim(b"9 claim 0: ", pic, 0);
+}
