@@ -9,7 +9,7 @@ use Rattle.types.specs.declared.Refusal.{Refusal}
 use Rattle.types.specs.declared.Refusal.the-variants.{Unsupported, InvalidRegister, InvalidDelivery, InvalidAddress, OutOfRange, BadField, ScriptTooLong}
 use Rattle.types.specs.declared.Reply.{Reply}
 use Rattle.types.specs.declared.Reply.the-variants.{Refused, Nothing, One, Two, Three}
-use Rattle.types.specs.Reply.{refusalNumber, replyNumber, replyValues, flag}
+use Rattle.types.specs.Reply.{refusalNumber, replyNumber, replyValues, flag, Outcome}
 
 pub refused-no-values : (r : Reply) → (replyNumber r ≡ 0 → ⊥) → replyValues r ≡ []
 refused-no-values (Refused why) h = refl
@@ -81,3 +81,8 @@ flag-back false = refl
 
 pub flag-same : (a b : Bool) → flag a ≡ flag b → a ≡ b
 flag-same a b e = sym (flag-back a) ∙ ap (λ (n : ℕ). eqb n 1) e ∙ flag-back b
+
+-- a result is a state and an answer: it is known by its outcome where the answer is known by its reply
+pub outcome-same : {S A : Type 0} (rep : A → Reply) → ((a b : A) → rep a ≡ rep b → a ≡ b) → (s t : S) (a b : A)
+    → _≡_ {A = Outcome S} (record { state = s; reply = rep a }) (record { state = t; reply = rep b }) → (s ≡ t) × (a ≡ b)
+outcome-same {S} {A} rep same s t a b e = (ap (λ (o : Outcome S). o .state) e, same a b (ap (λ (o : Outcome S). o .reply) e))

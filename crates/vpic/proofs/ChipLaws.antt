@@ -17,7 +17,7 @@ use Rattle.vpic.specs.declared.chip.PendingIrq.the-variants.{Irq, Nothin
 use Rattle.vpic.specs.declared.chip.PicVector.{PicVector}
 use Rattle.vpic.specs.declared.chip.PicVector.the-variants.{Given, Nothing as NoVector}
 use Rattle.vpic.specs.declared.chip.Acknowledged.{Acknowledged}
-use Rattle.types.specs.Reply.{Outcome}
+use Rattle.types.proofs.Replies.{outcome-same}
 use Rattle.vpic.specs.Chip.{counts, pendingLine, pendingIrq, irqOf, pendingReply, vectorReply, acknowledgeOutcome, pulsed, specificEoi, unacknowledged}
 
 -- the highest unmasked request, and the highest line in service
@@ -100,8 +100,8 @@ vector-reply-same NoVector NoVector e = refl
 
 pub acknowledge-same : (a b : Acknowledged) → acknowledgeOutcome a ≡ acknowledgeOutcome b → a ≡ b
 acknowledge-same a b e =
-    ap₂ (λ (c : PicChip) (v : PicVector). record { chip = c; vector = v }) (ap (λ (o : Outcome PicChip). o .state) e)
-    (vector-reply-same (a .vector) (b .vector) (ap (λ (o : Outcome PicChip). o .reply) e))
+    let d = outcome-same vectorReply vector-reply-same (a .chip) (b .chip) (a .vector) (b .vector) e in
+    ap₂ (λ (c : PicChip) (v : PicVector). record { chip = c; vector = v }) (d .0) (d .1)
 
 -- a law for each way out of `unacknowledged`
 pub back-requested : (c r : PicChip) (l : PicLine) (f : Bool) → not f ≡ true → r ≡ pulsed c l → r ≡ unacknowledged c l f

@@ -7,7 +7,8 @@ use borrow.Author.Tests.{eq-eqb, ne-eqb}
 use Rattle.types.specs.declared.PicLine.{PicLine}
 use Rattle.types.specs.declared.Reply.{Reply}
 use Rattle.types.specs.declared.Reply.the-variants as reply
-use Rattle.types.specs.Reply.{Outcome, flag}
+use Rattle.types.specs.Reply.{flag}
+use Rattle.types.proofs.Replies.{outcome-same}
 use Rattle.vpic.specs.declared.chip.PicChip.{PicChip}
 use Rattle.vpic.specs.declared.chip.PendingIrq.{PendingIrq}
 use Rattle.vpic.specs.declared.chip.PendingIrq.the-variants.{Irq, Nothing}
@@ -25,7 +26,7 @@ use Rattle.vpic.specs.declared.pair.PicValue.{PicValue}
 use Rattle.vpic.specs.declared.pair.PicValue.the-variants.{Value, Refused as NotRead}
 use Rattle.vpic.specs.declared.pair.PicRead.{PicRead}
 use Rattle.vpic.specs.declared.pair.StateClaim.{StateClaim}
-use Rattle.vpic.specs.Chip.{pendingIrq, pendingReply}
+use Rattle.vpic.specs.Chip.{pendingIrq, pendingReply, vectorReply}
 use Rattle.vpic.specs.Pair.{cascadeIrq, masterClaim, slaveClaim, cascadeClaim, nothingClaimed, pendingClaim, claimPending, claimReply, doneReply, valueReply, claimOutcome, vectorOutcome, writeOutcome, readOutcome}
 use Rattle.vpic.proofs.ChipLaws.{pending-reply-same, pending-is-line, vector-reply-same}
 
@@ -118,20 +119,20 @@ value-reply-same a b e = sym (value-back a) ∙ ap valueOf e ∙ value-back b
 
 pub claim-same : (a b : PicClaimed) → claimOutcome a ≡ claimOutcome b → a ≡ b
 claim-same a b e =
-    ap₂ (λ (p : EmulatedPic) (c : PicClaim). record { pic = p; claim = c }) (ap (λ (o : Outcome EmulatedPic). o .state) e)
-    (claim-reply-same (a .claim) (b .claim) (ap (λ (o : Outcome EmulatedPic). o .reply) e))
+    let d = outcome-same claimReply claim-reply-same (a .pic) (b .pic) (a .claim) (b .claim) e in
+    ap₂ (λ (p : EmulatedPic) (x : PicClaim). record { pic = p; claim = x }) (d .0) (d .1)
 
 pub vector-same : (a b : PicVectored) → vectorOutcome a ≡ vectorOutcome b → a ≡ b
 vector-same a b e =
-    ap₂ (λ (p : EmulatedPic) (v : PicVector). record { pic = p; vector = v }) (ap (λ (o : Outcome EmulatedPic). o .state) e)
-    (vector-reply-same (a .vector) (b .vector) (ap (λ (o : Outcome EmulatedPic). o .reply) e))
+    let d = outcome-same vectorReply vector-reply-same (a .pic) (b .pic) (a .vector) (b .vector) e in
+    ap₂ (λ (p : EmulatedPic) (x : PicVector). record { pic = p; vector = x }) (d .0) (d .1)
 
 pub write-same : (a b : PicWritten) → writeOutcome a ≡ writeOutcome b → a ≡ b
 write-same a b e =
-    ap₂ (λ (p : EmulatedPic) (d : PicDone). record { pic = p; done = d }) (ap (λ (o : Outcome EmulatedPic). o .state) e)
-    (done-reply-same (a .done) (b .done) (ap (λ (o : Outcome EmulatedPic). o .reply) e))
+    let d = outcome-same doneReply done-reply-same (a .pic) (b .pic) (a .done) (b .done) e in
+    ap₂ (λ (p : EmulatedPic) (x : PicDone). record { pic = p; done = x }) (d .0) (d .1)
 
 pub read-same : (a b : PicRead) → readOutcome a ≡ readOutcome b → a ≡ b
 read-same a b e =
-    ap₂ (λ (p : EmulatedPic) (v : PicValue). record { pic = p; value = v }) (ap (λ (o : Outcome EmulatedPic). o .state) e)
-    (value-reply-same (a .value) (b .value) (ap (λ (o : Outcome EmulatedPic). o .reply) e))
+    let d = outcome-same valueReply value-reply-same (a .pic) (b .pic) (a .value) (b .value) e in
+    ap₂ (λ (p : EmulatedPic) (x : PicValue). record { pic = p; value = x }) (d .0) (d .1)

@@ -4,8 +4,11 @@ use vpic::pair::EmulatedPic;
 use vpic::pair::PicClaim;
 
 const MASTER_COMMAND: u16 = 0x20;
+
 const MASTER_DATA: u16 = 0x21;
+
 const SLAVE_COMMAND: u16 = 0xa0;
+
 const SLAVE_DATA: u16 = 0xa1;
 
 fn main() {
@@ -80,7 +83,11 @@ fn example_8() {
     show::print_text(b"8 restore: ");
     show::print_reply(done.reply());
     read(b"8 requests: ", pic, MASTER_COMMAND);
-    read(b"8 in service: ", write(pic, MASTER_COMMAND, 0x0b), MASTER_COMMAND);
+    read(
+        b"8 in service: ",
+        write(pic, MASTER_COMMAND, 0x0b),
+        MASTER_COMMAND,
+    );
 }
 
 fn example_9() {
