@@ -1,0 +1,5 @@
+pub mod Answers
+pub mod IoApic
+pub mod Redirection
+pub mod Registers
+pub mod Table
