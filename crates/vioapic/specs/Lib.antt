@@ -1,4 +1,6 @@
 pub mod Answers
+pub mod Calls
+pub mod Departures
 pub mod IoApic
 pub mod Redirection
 pub mod Registers
