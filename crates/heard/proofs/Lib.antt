@@ -1,0 +1,6 @@
+pub mod Keeps
+pub mod OnTime
+pub mod Steps
+pub mod Tables
+pub mod Views
+pub mod Words

@@ -1,0 +1,4 @@
+pub mod Heard
+pub mod Premises
+pub mod Rules
+pub mod Sends
