@@ -1,3 +1,4 @@
+pub mod Demand
 pub mod Keeps
 pub mod OnTime
 pub mod Steps

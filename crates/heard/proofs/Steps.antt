@@ -106,8 +106,7 @@ send-fresh v e r (Sent.unfit p) s l f i = never f p
 send-fresh v e r (Sent.edge p q) s l f i = never l q
 send-fresh v e r (Sent.later p q j) s l f i = never j i
 send-fresh v e r (Sent.fresh p q j) s l f i =
-    let a = alike-with (e .word) in
-    (
+    let a = alike-with (e .word) in (
       record {
         fly = awaits-yes v (withWord e (withRemoteIrr (e .word))) (record { vector = same-vector a v ∙ s; level = same-level a ∙ l; flight = irr-with (e .word) });
         fit = same-fit a ∙ f;
@@ -164,12 +163,16 @@ pub raised-level : (v : Vector) (e : Entry) (r : EntryStep) → Raised e r → r
 raised-level v e r (Raised.again p q) h = absurd (let z : 0 ≡ 1 = ap levelIn h in omega arith)
 raised-level v e r (Raised.raised s) h = sent-level v (withInput e true) r s h
 
--- the line is up after it was raised, and not moved by a sending
+-- a sending doesn't move the line, and a raised line is up
 send-input : (e : Entry) (r : EntryStep) → Sent e r → r .entry .«input_level» ≡ e .«input_level»
 send-input e r (Sent.unfit p) = refl
 send-input e r (Sent.edge p q) = refl
 send-input e r (Sent.later p q i) = refl
 send-input e r (Sent.fresh p q i) = refl
+
+pub raise-input : (e : Entry) (r : EntryStep) → Raised e r → r .entry .«input_level» ≡ true
+raise-input e r (Raised.again p q) = refl
+raise-input e r (Raised.raised s) = send-input (withInput e true) r s
 
 -- ---- the end
 

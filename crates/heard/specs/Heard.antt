@@ -48,8 +48,8 @@ Demand3 =
     → throughout (demanded v (g .0)) (next (run (chipAt base size) before) (SetGsiLevel g true)) after ≡ true
     → SentOnTime (run (chipAt base size) before) g v after
 
--- last spring's story, and what the premise on lower lines is for: two entries of one vector in flight, the lower one's line up. However many EOIs
--- of the vector come, and nothing else, the upper entry is not sent again
+-- last spring's story, and what the premise on lower lines is for: of two entries of one vector the lower one is in flight with its line up.
+-- However many EOIs of the vector come, and nothing else, the upper entry is not sent again, in flight or not
 abbrev pub NeverHeard : Type 0
 NeverHeard =
     (m : EmulatedIoApic) (h g : ℕ) (v : Vector) (n : ℕ)
@@ -57,6 +57,5 @@ NeverHeard =
     → h < g
     → g < 24
     → awaits v (entryAt (m .state) h) ≡ true
-    → awaits v (entryAt (m .state) g) ≡ true
     → entryAt (m .state) h .«input_level» ≡ true
     → sends g m (replicate n (EndOfInterrupt v)) ≡ 0

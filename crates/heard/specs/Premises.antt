@@ -1,5 +1,5 @@
 -- Demand 3's premises, as tests of one call c on the chip m, while entry g is in flight with vector v: `demanded` in the demand's own words, and
--- `held`, what is really needed. Each follows from its namesakes in `demanded`.
+-- `held`, the weaker ones that are needed (proofs/Demand.antt: `held` follows from `demanded`).
 use Prim.Native.Nat.{ℕ, zero, suc}
 use mathlib.Core.Bool.{Bool, true, false, not, cond, _&&_}
 use mathlib.Core.List.{List, [], _∷_}
@@ -35,6 +35,14 @@ lowerKept v g m c = allBelow g (λ j. implies (awaits v (entryAt (m .state) j)) 
 
 -- ---- in the demand's own words
 
+-- the test holds before the call and after it
+abbrev pub always : (IoApicState → Bool) → EmulatedIoApic → Call → Bool
+always p m c = p (m .state) && p (next m c .state)
+
+-- the line of entry g is up
+abbrev pub lineUp : ℕ → IoApicState → Bool
+lineUp g s = entryAt s g .«input_level»
+
 -- no lower entry in flight with v has its line up; none is put off
 abbrev pub lowerDown : Vector → ℕ → IoApicState → Bool
 lowerDown v g s = allBelow g (λ j. implies (awaits v (entryAt s j)) (not (entryAt s j .«input_level»)))
@@ -42,22 +50,9 @@ lowerDown v g s = allBelow g (λ j. implies (awaits v (entryAt s j)) (not (entry
 abbrev pub lowerUndeferred : Vector → ℕ → IoApicState → Bool
 lowerUndeferred v g s = allBelow g (λ j. implies (awaits v (entryAt s j)) (not (entryAt s j .«pending_level»)))
 
--- entry h is a lower level entry of v
-abbrev pub lowerLevel : Vector → ℕ → IoApicState → ℕ → Bool
-lowerLevel v g s h = ltb h g && (isLevel (entryAt s h .word) && hasVector (entryAt s h .word) v)
-
--- no such entry is raised; none is asserted
-abbrev pub lowerUnraised : Vector → ℕ → IoApicState → Call → Bool
-lowerUnraised v g s (SetGsiLevel h up) = not (up && lowerLevel v g s (h .0))
-lowerUnraised v g s (AssertGsi h) = true
-lowerUnraised v g s (EndOfInterrupt u) = true
-lowerUnraised v g s (VectorForGsi h) = true
-lowerUnraised v g s AddressRange = true
-lowerUnraised v g s (HandleRead a w) = true
-lowerUnraised v g s (HandleWrite a w x) = true
-
+-- no lower level entry of v is asserted
 abbrev pub lowerUnasserted : Vector → ℕ → IoApicState → Call → Bool
-lowerUnasserted v g s (AssertGsi h) = not (lowerLevel v g s (h .0))
+lowerUnasserted v g s (AssertGsi h) = not (ltb (h .0) g && (isLevel (entryAt s (h .0) .word) && hasVector (entryAt s (h .0) .word) v))
 lowerUnasserted v g s (SetGsiLevel h up) = true
 lowerUnasserted v g s (EndOfInterrupt u) = true
 lowerUnasserted v g s (VectorForGsi h) = true
@@ -65,15 +60,15 @@ lowerUnasserted v g s AddressRange = true
 lowerUnasserted v g s (HandleRead a w) = true
 lowerUnasserted v g s (HandleWrite a w x) = true
 
--- the line is up and the low word stays; and the five about lower entries
+-- the line stays up and the low word the same; and what is said of the lower entries. The demand's further premise, that no lower level entry of v is
+-- raised, is superfluous and left out: raising one either puts it in flight with its line up, which `lowerDown` forbids, or sends nothing
 abbrev pub demanded : Vector → ℕ → EmulatedIoApic → Call → List Bool
 demanded v g m c =
-    entryAt (m .state) g .«input_level»
+    always (lineUp g) m c
     ∷ keepsLow m c g
-    ∷ lowerDown v g (m .state)
-    ∷ lowerUndeferred v g (m .state)
+    ∷ always (lowerDown v g) m c
+    ∷ always (lowerUndeferred v g) m c
     ∷ lowerKept v g m c
-    ∷ lowerUnraised v g (m .state) c
     ∷ lowerUnasserted v g (m .state) c
     ∷ []
 
