@@ -1,3 +1,4 @@
+pub mod CounterExamples
 pub mod Heard
 pub mod Premises
 pub mod Rules
