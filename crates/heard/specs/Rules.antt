@@ -1,9 +1,9 @@
 -- The rules that a chip keeps, and what holds of every public call.
 -- 82093AA: IOREDTBL, Remote IRR (defined for level entries).
 use Prim.Native.Nat.{ℕ, _≤_, _<_}
-use mathlib.Core.Bool.{Bool, true, cond, _&&_}
+use mathlib.Core.Bool.{Bool, true, false, cond, _&&_}
 use mathlib.Core.List.{List}
-use mathlib.Core.Path.{_≡_}
+use mathlib.Core.Path.{_≡_, refl}
 use lib.ListN.{length}
 use Rattle.types.specs.Reply.{replyNumber}
 use Rattle.vioapic.specs.Redirection.{remoteIrr, isLevel, isFit}
@@ -21,6 +21,12 @@ implies a b = cond a b true
 -- an entry's rules: put off only in flight; in flight only level, and fit to be sent
 abbrev pub entryRules : Entry → Bool
 entryRules e = implies (e .«pending_level») (remoteIrr (e .word)) && implies (remoteIrr (e .word)) (isLevel (e .word) && isFit (e .word))
+
+-- each of the three is broken by some entry: put off and not in flight; in flight and edge; in flight and masked
+pub rules-broken : (entryRules (record { word = 0x8030; «pending_level» = true; «input_level» = false }) ≡ false)
+    × (entryRules (record { word = 0x4030; «pending_level» = false; «input_level» = false }) ≡ false)
+    × (entryRules (record { word = 0x1C030; «pending_level» = false; «input_level» = false }) ≡ false)
+rules-broken = (refl, refl, refl)
 
 -- a chip's rules: 24 entries, and each keeps its own
 pub record ChipRules (s : IoApicState) : Type 0 where

@@ -102,12 +102,13 @@ entry-word-range sel e = let p = both (leb 0x10 sel) (leb sel 0x3f) e in (leb-tr
 
 pub read-entry : (s : IoApicState) (i r : ℕ) → isEntryWord (s .selector) ≡ true → i ≡ entryOf (s .selector) → r ≡ readWord (s .selector) (entryAt s i) → r ≡ readSelected s
 unfolding readSelected
-read-entry s i r h at p = rw (h, ← at) p
+read-entry s i r h at p = p ∙ ap (λ (k : ℕ). readWord (s .selector) (entryAt s k)) at ∙ rw h
 
 pub write-entry : (s : IoApicState) (x i : ℕ) (e : Entry) (t : IoApicState) → isEntryWord (s .selector) ≡ true → i ≡ entryOf (s .selector)
     → e ≡ writeWord (s .selector) (entryAt s i) x → t ≡ put s i e → done t ≡ writeSelected s x
 unfolding writeSelected
-write-entry s x i e t h at p q = rw (h, ← at, ← p) (ap done q)
+write-entry s x i e t h at p q =
+    ap done (q ∙ ap (put s i) p ∙ ap (λ (k : ℕ). put s k (writeWord (s .selector) (entryAt s k) x)) at) ∙ rw h
 
 -- ---- base and size
 
