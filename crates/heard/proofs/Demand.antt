@@ -1,11 +1,11 @@
 -- Demand 3 in its own words: its premises give those that are needed. And last spring's story. Assumes nothing.
-use Prim.Native.Nat.{ℕ, zero, suc, _+_, _-_, _≤_, _<_}
+use Prim.Native.Nat.{ℕ, zero, suc, _-_, _≤_, _<_}
 use native.Mathlib.Omega.{arith}
 use native.Mathlib.Decide.{ℕ-discrete}
-use mathlib.Core.Bool.{Bool, true, false, not, cond, _&&_}
+use mathlib.Core.Bool.{Bool, true, false, not, _&&_}
 use mathlib.Core.List.{List, [], _∷_}
-use mathlib.Core.Path.{_≡_, refl, sym, _∙_, ap}
-use borrow.Author.Tests.{eqb-true, ne-eqb, ltb-true, lt-ltb}
+use mathlib.Core.Path.{_≡_, refl, _∙_, ap}
+use borrow.Author.Tests.{eqb-true, ne-eqb, ltb-true}
 use lib.Dec.{eqb, ltb}
 use lib.ListN.{replicate}
 use Rattle.types.specs.declared.Gsi.{Gsi}
@@ -28,18 +28,10 @@ use Rattle.heard.specs.Sends.{routes, resends, sent, sends, isEoi}
 use Rattle.heard.specs.Premises.{allTrue, always, lineUp, keepsLow, lowerDown, lowerUndeferred, lowerKept, lowerUnasserted, demanded, asks, ownAsks, lowerRests, levelSent, lowerUnsent, held, throughout}
 use Rattle.heard.specs.Heard.{HeardFromRules, Demand3, NeverHeard}
 use Rattle.heard.proofs.Views.{sent-view, raised-view, over-view, Routes, assert-view, level-view, Ends, ends-view}
-use Rattle.heard.proofs.Steps.{never, and-true, not-is, one, Awaiting, awaiting, Flying, sent-level, raised-level, raise-input, end-again, end-input}
+use Rattle.heard.proofs.Steps.{never, and-true, implied, imply, not-is, awaiting, Flying, sent-level, raised-level, raise-input, end-again, end-input}
 use Rattle.heard.proofs.Tables.{put-same, put-other, all-at, first-awaits, first-lowest}
-use Rattle.heard.proofs.Keeps.{Rules, rules-of, calls-keep-rules, runs-keep-rules, new-keeps-rules}
+use Rattle.heard.proofs.Keeps.{rules-of, calls-keep-rules, runs-keep-rules, new-keeps-rules}
 use Rattle.heard.proofs.OnTime.{resends-one, heard}
-
-implied : (a b : Bool) → implies a b ≡ true → a ≡ true → b ≡ true
-implied true b e h = e
-implied false b e h = never h refl
-
-imply : (a b : Bool) → (a ≡ true → b ≡ true) → implies a b ≡ true
-imply true b f = f refl
-imply false b f = refl
 
 -- a test that can't be true
 refute : (b : Bool) → (b ≡ true → ⊥) → not b ≡ true
@@ -129,7 +121,6 @@ module _ (v : Vector) (g : ℕ) (within : g < 24) where
 
   demanded-held : (m : EmulatedIoApic) (c : Call) → ChipRules (m .state) → allTrue (demanded v g m c) ≡ true → allTrue (held v g m c) ≡ true
   demanded-held m c k h =
-      let up = always (lineUp g) m c in
       let a = and-true (always (lineUp g) m c) (keepsLow m c g && (always (lowerDown v g) m c && (always (lowerUndeferred v g) m c && (lowerKept v g m c && (lowerUnasserted v g (m .state) c && true))))) h in
       let b = and-true (keepsLow m c g) (always (lowerDown v g) m c && (always (lowerUndeferred v g) m c && (lowerKept v g m c && (lowerUnasserted v g (m .state) c && true)))) (a .1) in
       let d = and-true (always (lowerDown v g) m c) (always (lowerUndeferred v g) m c && (lowerKept v g m c && (lowerUnasserted v g (m .state) c && true))) (b .1) in
@@ -182,9 +173,6 @@ unfolding sent
 starved v h g m x k l w f u (Ends.unfound n) q r = absurd (let z = first-lowest (m .state) v h (f .fly) (omega arith) in omega (arith, z))
 starved v h g m x k l w f u (Ends.found n) q r = go (ℕ-discrete h (firstAwaiting (m .state) v))
   where
-    i : ℕ
-    i = firstAwaiting (m .state) v
-
     e : Entry
     e = entryAt (m .state) (firstAwaiting (m .state) v)
 

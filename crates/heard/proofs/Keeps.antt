@@ -1,36 +1,34 @@
 -- The chip's rules are kept by every public call, refused calls hand the chip back, and a selector names an entry of the table. Assumes nothing.
-use Prim.Native.Nat.{ℕ, zero, suc, _%_, _^_, _-_, _≤_, _<_}
+use Prim.Native.Nat.{ℕ, zero, suc, _%_, _-_, _<_}
 use native.Mathlib.Omega.{arith}
 use native.Mathlib.Decide.{ℕ-discrete}
-use mathlib.Core.Bool.{Bool, true, false, cond, _&&_}
-use mathlib.Core.List.{List, [], _∷_}
+use mathlib.Core.Bool.{Bool, true, false, _&&_}
+use mathlib.Core.List.{[], _∷_}
 use mathlib.Core.Path.{_≡_, refl, sym, _∙_, ap}
-use lib.Dec.{eqb, leb}
-use lib.ListN.{length, getD, set, length-set, replicate}
+use lib.Dec.{leb}
+use lib.ListN.{getD, length-set, replicate}
 use Rattle.types.specs.Reply.{replyNumber}
 use Rattle.types.specs.declared.Gsi.{Gsi}
 use Rattle.types.specs.declared.Vector.{Vector}
 use Rattle.vioapic.specs.Answers.{routedReply, eoiReply, writtenReply}
-use Rattle.vioapic.specs.Redirection.{isFit, isLevel, remoteIrr, withWord, withPending, withInput, withoutRemoteIrr, sendEntry, moveLine, endEntry}
-use Rattle.vioapic.specs.Table.{newEntry, noEntry, newState, entryAt, put, interruptForEntry, setLevel, firstAwaiting, endOfEntry}
+use Rattle.vioapic.specs.Redirection.{isFit, isLevel, remoteIrr, withInput, withoutRemoteIrr, sendEntry, moveLine, endEntry}
+use Rattle.vioapic.specs.Table.{newEntry, noEntry, entryAt, put, interruptForEntry, setLevel, firstAwaiting, endOfEntry}
 use Rattle.vioapic.specs.Registers.{writeAt}
-use Rattle.vioapic.specs.IoApic.{chipAt, goodWidth, withState, setGsiLevel, assertGsi, endOfInterrupt, handleWrite}
-use Rattle.vioapic.specs.Calls.{Call, SetGsiLevel, AssertGsi, EndOfInterrupt, VectorForGsi, AddressRange, HandleRead, HandleWrite, outcome, next, run}
+use Rattle.vioapic.specs.IoApic.{goodWidth, setGsiLevel, assertGsi, endOfInterrupt, handleWrite}
+use Rattle.vioapic.specs.Calls.{SetGsiLevel, AssertGsi, EndOfInterrupt, VectorForGsi, AddressRange, HandleRead, HandleWrite, outcome, next, run}
 use Rattle.vioapic.specs.declared.redirection.Entry.{Entry}
 use Rattle.vioapic.specs.declared.redirection.EntryStep.{EntryStep}
 use Rattle.vioapic.specs.declared.redirection.Routed.{Routed}
 use Rattle.vioapic.specs.declared.redirection.Routed.the-variants.{NotRouted, Interrupt}
 use Rattle.vioapic.specs.declared.Eoi.{Eoi}
 use Rattle.vioapic.specs.declared.Eoi.the-variants.{NotEnded, Ended}
-use Rattle.vioapic.specs.declared.IoApicEoi.{IoApicEoi}
 use Rattle.vioapic.specs.declared.IoApicState.{IoApicState}
-use Rattle.vioapic.specs.declared.EmulatedIoApic.{EmulatedIoApic}
 use Rattle.vioapic.specs.declared.Routing.{Routing}
 use Rattle.vioapic.specs.declared.Ending.{Ending}
 use Rattle.vioapic.specs.declared.Writing.{Writing}
 use Rattle.heard.specs.Rules.{implies, entryRules, ChipRules, NewKeepsRules, CallsKeepRules, RunsKeepRules, RefusedKeeps, TableIndex}
 use Rattle.heard.proofs.Words.{same-fit, same-level, alike-with, alike-without, alike-high, irr-with, irr-without, irr-low, irr-high}
-use Rattle.heard.proofs.Steps.{never, and-true}
+use Rattle.heard.proofs.Steps.{never, and-true, implied, imply}
 use Rattle.heard.proofs.Tables.{put-same, put-other}
 use Rattle.heard.proofs.Views.{Sent, sent-view, Raised, Moved, moved-view, Over, over-view, Wrote, Routes, assert-view, level-view, Ends, ends-view, Writes, writes-view}
 
@@ -40,14 +38,6 @@ pub record Rules (e : Entry) : Type 0 where
   pub deferred : e .«pending_level» ≡ true → remoteIrr (e .word) ≡ true
   pub level : remoteIrr (e .word) ≡ true → isLevel (e .word) ≡ true
   pub fit : remoteIrr (e .word) ≡ true → isFit (e .word) ≡ true
-
-implied : (a b : Bool) → implies a b ≡ true → a ≡ true → b ≡ true
-implied true b e h = e
-implied false b e h = never h refl
-
-imply : (a b : Bool) → (a ≡ true → b ≡ true) → implies a b ≡ true
-imply true b f = f refl
-imply false b f = refl
 
 pub rules-of : (e : Entry) → entryRules e ≡ true → Rules e
 rules-of e h =
@@ -120,7 +110,6 @@ routes-rules s gsi step x (Routes.miss l) f k = k
 
 ends-rules : (s : IoApicState) (v : Vector) (x : Ending) → Ends s v x → ChipRules s → ChipRules (x .state)
 ends-rules s v x (Ends.found l) k =
-    let h : ℕ = firstAwaiting s v in
     put-rules s (firstAwaiting s v) (endEntry (entryAt s (firstAwaiting s v)) .entry) k l
     (end-rules (entryAt s (firstAwaiting s v)) (endEntry (entryAt s (firstAwaiting s v))) (over-view (entryAt s (firstAwaiting s v))) (at-rules s k (firstAwaiting s v) l))
 ends-rules s v x (Ends.unfound l) k = k

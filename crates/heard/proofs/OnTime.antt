@@ -1,7 +1,7 @@
 -- Demand 3 with the premises that are needed: each call's part in the count, and then a run of calls. Assumes nothing.
-use Prim.Native.Nat.{ℕ, zero, suc, _+_, _-_, _%_, _≤_, _<_}
+use Prim.Native.Nat.{ℕ, zero, suc, _+_, _-_, _%_, _<_}
 use native.Mathlib.Omega.{arith}
-use native.Mathlib.Decide.{ℕ-discrete, decLt}
+use native.Mathlib.Decide.{ℕ-discrete}
 use mathlib.Core.Bool.{Bool, true, false, not, cond, _&&_}
 use mathlib.Core.List.{List, [], _∷_}
 use mathlib.Core.Path.{_≡_, refl, sym, _∙_, ap}
@@ -10,10 +10,9 @@ use lib.Dec.{eqb, ltb, leb}
 use lib.ListN.{length, length-set}
 use Rattle.types.specs.declared.Gsi.{Gsi}
 use Rattle.types.specs.declared.Vector.{Vector}
-use Rattle.types.specs.declared.Reply.{Reply}
-use Rattle.types.specs.declared.Reply.the-variants.{Refused, Nothing, One, Two, Three}
+use Rattle.types.specs.declared.Reply.the-variants.{Two}
 use Rattle.vioapic.specs.Answers.{routedReply, pendingReply, eoiReply}
-use Rattle.vioapic.specs.Redirection.{isFit, awaits, hasVector, lowPart, sendEntry, raiseEntry, moveLine, endEntry}
+use Rattle.vioapic.specs.Redirection.{awaits, hasVector, lowPart, sendEntry, raiseEntry, moveLine, endEntry}
 use Rattle.vioapic.specs.Table.{entryAt, put, firstAwaiting, endOfEntry, interruptForEntry, setLevel}
 use Rattle.vioapic.specs.Registers.{writeAt}
 use Rattle.vioapic.specs.IoApic.{goodWidth, setGsiLevel, assertGsi, endOfInterrupt, handleWrite}
@@ -30,10 +29,10 @@ use Rattle.vioapic.specs.declared.Writing.{Writing}
 use Rattle.heard.specs.Rules.{implies}
 use Rattle.heard.specs.Sends.{routes, resends, sent, sends, isEoi, eois, lowerInFlight}
 use Rattle.heard.specs.Premises.{allTrue, keepsLow, lowerKept, asks, ownAsks, lowerRests, levelSent, lowerUnsent, held, throughout}
-use Rattle.heard.specs.Heard.{Heard, SentOnTime}
+use Rattle.heard.specs.Heard.{Heard}
 use Rattle.heard.proofs.Words.{Alike, same-vector}
-use Rattle.heard.proofs.Views.{Sent, sent-view, Raised, raised-view, Moved, moved-view, Over, over-view, Wrote, Routes, assert-view, level-view, Ends, ends-view, Writes, writes-view}
-use Rattle.heard.proofs.Steps.{never, and-true, not-is, one, Awaiting, awaiting, awaits-no, Flying, send-awaits, send-flying, move-awaits, move-flying, raised-level, end-alike, end-again, end-rest, wrote-kept, wrote-none}
+use Rattle.heard.proofs.Views.{sent-view, raised-view, moved-view, Over, over-view, Routes, assert-view, level-view, Ends, ends-view, Writes, writes-view}
+use Rattle.heard.proofs.Steps.{and-true, implied, not-is, one, awaiting, awaits-no, Flying, send-awaits, send-flying, move-awaits, move-flying, raised-level, end-alike, end-again, end-rest, wrote-kept, wrote-none}
 use Rattle.heard.proofs.Tables.{put-same, put-other, all-at, lower-put, lower-gone, first-awaits, first-lowest, first-own, first-lower}
 
 -- ---- the premises of one call
@@ -47,17 +46,12 @@ pub record Held (v : Vector) (g : ℕ) (m : EmulatedIoApic) (c : Call) : Type 0 
 
 held-of : (v : Vector) (g : ℕ) (m : EmulatedIoApic) (c : Call) → allTrue (held v g m c) ≡ true → Held v g m c
 held-of v g m c h =
-    let a = ownAsks v g (m .state) c in
     let p = and-true (ownAsks v g (m .state) c) (keepsLow m c g && (lowerRests v g (m .state) c && (lowerKept v g m c && (lowerUnsent v g c (outcome m c .reply) && true)))) h in
     let q = and-true (keepsLow m c g) (lowerRests v g (m .state) c && (lowerKept v g m c && (lowerUnsent v g c (outcome m c .reply) && true))) (p .1) in
     let r = and-true (lowerRests v g (m .state) c) (lowerKept v g m c && (lowerUnsent v g c (outcome m c .reply) && true)) (q .1) in
     let s = and-true (lowerKept v g m c) (lowerUnsent v g c (outcome m c .reply) && true) (r .1) in
     let t = and-true (lowerUnsent v g c (outcome m c .reply)) true (s .1) in
     record { own-asks = p .0; own-kept = q .0; lower-rests = r .0; lower-kept = s .0; lower-unsent = t .0 }
-
-implied : (a b : Bool) → implies a b ≡ true → a ≡ true → b ≡ true
-implied true b e h = e
-implied false b e h = never h refl
 
 -- ---- what holds of entry g all the while
 
@@ -152,7 +146,6 @@ line-turn : (v : Vector) (g : ℕ) (m : EmulatedIoApic) (c : Call) (gsi : Gsi) (
     → Routes (m .state) gsi step x → next m c .state ≡ x .state → sent g c (outcome m c .reply) ≡ cond (eqb (gsi .0) g) (routes (routedReply (x .answer))) 0 → isEoi v c ≡ false
     → not (ltb (gsi .0) g && levelSent v (routedReply (x .answer))) ≡ true → Turn v g m c
 line-turn v g m c gsi step x k t (Routes.hit l) q z i u =
-    let e : Entry = entryAt (m .state) (gsi .0) in
     moves v g m c (gsi .0) (step (entryAt (m .state) (gsi .0)) .entry) k l q
     (z ∙ only (gsi .0) g (routes (routedReply (step (entryAt (m .state) (gsi .0)) .answer)))
     (λ p. routes-one (step (entryAt (m .state) (gsi .0)) .answer) ∙ t .flying (entryAt (m .state) (gsi .0)) (own v g (m .state) (gsi .0) k p .fly) .1))
@@ -171,9 +164,6 @@ word-turn : (v : Vector) (g : ℕ) (m : EmulatedIoApic) (c : Call) (x : ℕ) (w 
 word-turn v g m c x w b k d (Writes.selected y) q z i = still v g m c k (ap (λ (s : IoApicState). s .entries) q) z i
 word-turn v g m c x w b k d (Writes.word h f l u) q z i = moves v g m c h f k l q z i (λ p. lower p (awaits v (entryAt (m .state) h)) refl) mine
   where
-    at : entryAt (next m c .state) h ≡ f
-    at = ap (λ (s : IoApicState). entryAt s h) q ∙ put-same (m .state) h f (k .size) l
-
     low : (j : ℕ) → j ≡ h → keepsLow m c j ≡ true → lowPart (f .word) ≡ lowPart (entryAt (m .state) h .word)
     low j e r =
         let t : keepsLow m c h ≡ true = rw e at r in
@@ -313,7 +303,6 @@ record Begun (v : Vector) (g : ℕ) (m : EmulatedIoApic) (s : IoApicState) : Typ
 begun : (m : EmulatedIoApic) (gsi : Gsi) (v : Vector) (x : Routing) → length (m .state .entries) ≡ 24 → Routes (m .state) gsi (λ e. moveLine e true) x
     → routedReply (x .answer) ≡ Two (v .0) 1 → Begun v (gsi .0) m (x .state)
 begun m gsi v x n (Routes.hit l) q =
-    let e : Entry = entryAt (m .state) (gsi .0) in
     let f : Entry = raiseEntry (entryAt (m .state) (gsi .0)) .entry in
     let t = raised-level v (entryAt (m .state) (gsi .0)) (raiseEntry (entryAt (m .state) (gsi .0))) (raised-view (entryAt (m .state) (gsi .0))) q in
     record {

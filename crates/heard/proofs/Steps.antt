@@ -1,10 +1,9 @@
 -- What each rule does to an entry that is in flight, and what it keeps. Assumes nothing.
-use Prim.Native.Nat.{ℕ, zero, suc, _+_, _/_, _%_, _^_, _<_}
+use Prim.Native.Nat.{ℕ, _%_, _^_, _<_}
 use native.Mathlib.Omega.{arith}
 use mathlib.Core.Bool.{Bool, true, false, not, cond, _&&_, true≢false}
 use mathlib.Core.Path.{_≡_, refl, sym, _∙_, ap}
 use borrow.Author.Tests.{eq-eqb}
-use lib.Dec.{eqb}
 use Rattle.types.specs.Reply.{flag}
 use Rattle.types.specs.declared.Vector.{Vector}
 use Rattle.types.specs.declared.Reply.{Reply}
@@ -15,6 +14,7 @@ use Rattle.vioapic.specs.declared.redirection.Entry.{Entry}
 use Rattle.vioapic.specs.declared.redirection.EntryStep.{EntryStep}
 use Rattle.vioapic.specs.declared.redirection.Routed.{Routed}
 use Rattle.vioapic.specs.declared.redirection.Routed.the-variants.{NotRouted, Interrupt}
+use Rattle.heard.specs.Rules.{implies}
 use Rattle.heard.specs.Premises.{asks, levelSent}
 use Rattle.heard.proofs.Words.{Alike, alike-refl, alike-then, same-fit, same-level, same-vector, alike-with, alike-without, alike-high, irr-with, irr-without, irr-low, irr-high, low-written}
 use Rattle.heard.proofs.Views.{Sent, Raised, Moved, Over, Wrote}
@@ -30,6 +30,14 @@ and-true false b e = never e refl
 pub not-is : (b : Bool) → not b ≡ true → b ≡ false
 not-is true e = never refl (sym e)
 not-is false e = refl
+
+pub implied : (a b : Bool) → implies a b ≡ true → a ≡ true → b ≡ true
+implied true b e h = e
+implied false b e h = never h refl
+
+pub imply : (a b : Bool) → (a ≡ true → b ≡ true) → implies a b ≡ true
+imply true b f = f refl
+imply false b f = refl
 
 cond-true : (a b : Bool) → cond a b false ≡ true → (a ≡ true) × (b ≡ true)
 cond-true true b e = (refl, e)
@@ -78,9 +86,6 @@ send-awaits v e r (Sent.edge p q) n = refl
 send-awaits v e r (Sent.later p q i) n = refl
 send-awaits v e r (Sent.fresh p q i) n = other ∙ sym (grounded v e i)
   where
-    w : ℕ
-    w = withRemoteIrr (e .word)
-
     level : isLevel (withRemoteIrr (e .word)) ≡ true
     level = same-level (alike-with (e .word)) ∙ q
 

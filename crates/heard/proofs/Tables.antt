@@ -2,11 +2,11 @@
 use Prim.Native.Nat.{ℕ, zero, suc, _+_, _≤_, _<_}
 use native.Mathlib.Omega.{arith}
 use native.Mathlib.Decide.{ℕ-discrete, decLt}
-use mathlib.Core.Bool.{Bool, true, false, cond, _&&_}
+use mathlib.Core.Bool.{Bool, true, false, cond}
 use mathlib.Core.Path.{_≡_, refl, sym, _∙_, ap, ap₂}
-use lib.ListN.{length, getD, set}
+use lib.ListN.{length}
 use lib.Seq.{getD-set-same, getD-set-other}
-use Rattle.utils.proofs.Search.{first-holds, first-before, first-is, first-le}
+use Rattle.utils.proofs.Search.{first-holds, first-before}
 use Rattle.types.specs.declared.Vector.{Vector}
 use Rattle.vioapic.specs.Redirection.{awaits}
 use Rattle.vioapic.specs.Table.{noEntry, entryAt, put, firstAwaiting}

@@ -1,14 +1,13 @@
 -- The cases of each rule of an entry and of each call, so that what is shown of them is shown case by case. Assumes nothing.
-use Prim.Native.Nat.{ℕ, zero, suc, _-_, _%_, _^_, _≤_, _<_}
+use Prim.Native.Nat.{ℕ, _-_, _≤_, _<_}
 use native.Mathlib.Omega.{arith}
-use mathlib.Core.Bool.{Bool, true, false, not, cond, _&&_}
-use mathlib.Core.Path.{_≡_, refl, sym, _∙_, ap, subst⁻¹}
-use borrow.Author.Tests.{ltb-true, ltb-false, leb-true, eqb-false}
-use lib.Dec.{eqb, ltb, leb}
+use mathlib.Core.Bool.{Bool, true, false, cond, _&&_}
+use mathlib.Core.Path.{_≡_, refl, subst⁻¹}
+use borrow.Author.Tests.{ltb-true, ltb-false, eqb-false}
+use lib.Dec.{eqb, ltb}
 use Rattle.types.specs.Counters.{entryIndex}
 use Rattle.types.specs.declared.Gsi.{Gsi}
 use Rattle.types.specs.declared.Vector.{Vector}
-use Rattle.types.proofs.Counters.{entry-of, entry-is}
 use Rattle.vioapic.specs.Redirection.{isFit, isLevel, remoteIrr, isMasked, sameLow, lowPart, withRemoteIrr, withoutRemoteIrr, replaceLow, replaceHigh, withWord, withPending, withInput, quietly, sending, settled, sendEntry, raiseEntry, lowerEntry, moveLine, endEntry, writeLow, writeHigh}
 use Rattle.vioapic.specs.Table.{entryAt, put, routeAt, unrouted, endAt, interruptForEntry, setLevel, firstAwaiting, endOfEntry}
 use Rattle.vioapic.specs.Registers.{isEntryWord, entryOf, isLow, done, writeWord, writeSelected, writeAt}

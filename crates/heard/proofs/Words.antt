@@ -1,11 +1,11 @@
 -- What setting and clearing Remote IRR, and writing a half of the register, do to its fields. Assumes nothing.
-use Prim.Native.Nat.{ℕ, _+_, _*_, _/_, _%_, _^_, _<_}
+use Prim.Native.Nat.{ℕ, _/_, _%_, _<_}
 use native.Mathlib.Omega.{arith}
-use mathlib.Core.Bool.{Bool, true, false}
+use mathlib.Core.Bool.{true, false}
 use mathlib.Core.Path.{_≡_, refl, sym, _∙_, ap}
 use borrow.Author.Tests.{eq-eqb, ne-eqb}
 use Rattle.types.specs.declared.Vector.{Vector}
-use Rattle.vioapic.specs.Redirection.{remoteIrr, isLevel, isFit, hasVector, vectorOf, withRemoteIrr, withoutRemoteIrr, lowPart, replaceLow, replaceHigh}
+use Rattle.vioapic.specs.Redirection.{remoteIrr, isLevel, isFit, hasVector, withRemoteIrr, withoutRemoteIrr, lowPart, replaceLow, replaceHigh}
 
 -- two registers with the same vector, delivery mode, trigger mode and mask
 pub record Alike (u w : ℕ) : Type 0 where

@@ -2,7 +2,7 @@
 -- On a new chip at address 0, entries 0 and 1 are level entries of vector 0x30; entry 1 is the one that is counted.
 use Prim.Native.Nat.{ℕ, _+_, _-_}
 use mathlib.Core.Bool.{Bool, true, false, _&&_}
-use mathlib.Core.List.{List, [], _∷_, _++_}
+use mathlib.Core.List.{List, [], _∷_}
 use mathlib.Core.Path.{_≡_, refl}
 use lib.Dec.{eqb}
 use Rattle.types.specs.declared.Vector.{Vector}

@@ -1,7 +1,7 @@
 -- Demand 3: a device that holds its line is heard. The statements; every definition that they use is in this folder or in `vioapic`.
 use Prim.Native.Nat.{ℕ, _+_, _-_, _<_}
 use mathlib.Core.Bool.{true}
-use mathlib.Core.List.{List, [], _∷_}
+use mathlib.Core.List.{List, _∷_}
 use mathlib.Core.Path.{_≡_}
 use lib.ListN.{length, replicate}
 use Rattle.types.specs.declared.Gsi.{Gsi}

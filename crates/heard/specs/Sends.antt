@@ -1,7 +1,7 @@
 -- What is counted over a run of public calls: the times that an entry is sent, and the EOIs of a vector.
 -- "Sent" is read off the replies: a line's or an assertion's reply is (vector, level), and an EOI's that sends again is (GSI, vector, level).
 use Prim.Native.Nat.{ℕ, zero, suc, _+_}
-use mathlib.Core.Bool.{Bool, true, false, cond}
+use mathlib.Core.Bool.{Bool, false, cond}
 use mathlib.Core.List.{List, [], _∷_}
 use lib.Dec.{eqb}
 use Rattle.types.specs.declared.Vector.{Vector}

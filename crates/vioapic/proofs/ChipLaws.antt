@@ -1,24 +1,21 @@
 -- The calls, a law for each case: what the proofs of the code cite. Assumes nothing.
-use Prim.Native.Nat.{ℕ, zero, suc, _+_, _-_, _≤_, _<_}
+use Prim.Native.Nat.{ℕ, _+_, _-_, _≤_, _<_}
 use native.Mathlib.Omega.{arith}
 use mathlib.Core.Bool.{Bool, true, false, cond}
 use mathlib.Core.Path.{_≡_, refl, sym, _∙_, ap}
 use borrow.Author.Tests.{lt-ltb, le-ltb, le-leb, lt-leb, leb-true, leb-false}
 use borrow.Author.Count.{below-more}
-use lib.Dec.{ltb, leb}
+use lib.Dec.{leb}
 use Rattle.utils.proofs.Search.{first-is, first-none}
 use Rattle.types.specs.Reply.{Outcome}
 use Rattle.types.specs.Counters.{entryIndex}
 use Rattle.types.specs.declared.Gsi.{Gsi}
 use Rattle.types.specs.declared.Vector.{Vector}
-use Rattle.types.specs.declared.Reply.{Reply}
-use Rattle.types.specs.declared.Reply.the-variants.{Nothing, Refused, One, Two}
-use Rattle.types.specs.declared.Refusal.the-variants.{InvalidAddress}
-use Rattle.vioapic.specs.Answers.{routedReply, eoiReply, writtenReply, gsiVectorReply}
+use Rattle.vioapic.specs.Answers.{routedReply, eoiReply, writtenReply}
 use Rattle.vioapic.specs.Redirection.{vectorOf, isFit, awaits, sendEntry, moveLine, endEntry}
-use Rattle.vioapic.specs.Table.{newState, entryAt, put, routeAt, unrouted, interruptForEntry, setLevel, firstAwaiting, endOfEntry, vectorFor}
-use Rattle.vioapic.specs.Registers.{isEntryWord, entryOf, readFixed, readWord, readSelected, writeWord, writeSelected, done}
-use Rattle.vioapic.specs.IoApic.{fits, withState, addressRange}
+use Rattle.vioapic.specs.Table.{entryAt, put, routeAt, unrouted, interruptForEntry, setLevel, firstAwaiting, endOfEntry, vectorFor}
+use Rattle.vioapic.specs.Registers.{isEntryWord, entryOf, readWord, readSelected, writeWord, writeSelected, done}
+use Rattle.vioapic.specs.IoApic.{fits, withState}
 use Rattle.vioapic.specs.declared.redirection.Entry.{Entry}
 use Rattle.vioapic.specs.declared.redirection.EntryStep.{EntryStep}
 use Rattle.vioapic.specs.declared.IoApicState.{IoApicState}

@@ -10,7 +10,6 @@ use Rattle.vioapic.specs.Answers.{routedReply, eoiReply, gsiVectorReply,
 use Rattle.vioapic.specs.declared.redirection.IoApicInterrupt.{IoApicInterrupt}
 use Rattle.vioapic.specs.declared.redirection.Routed.{Routed}
 use Rattle.vioapic.specs.declared.redirection.Routed.the-variants.{NotRouted, Interrupt}
-use Rattle.vioapic.specs.declared.IoApicEoi.{IoApicEoi}
 use Rattle.vioapic.specs.declared.Eoi.{Eoi}
 use Rattle.vioapic.specs.declared.Eoi.the-variants.{NotEnded, Ended}
 use Rattle.vioapic.specs.declared.GsiVector.{GsiVector}

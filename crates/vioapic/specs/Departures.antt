@@ -7,11 +7,10 @@ use mathlib.Core.Path.{refl}
 use Rattle.types.specs.Reply.{replyValues}
 use Rattle.types.specs.Departure.{Departure, Shown}
 use Rattle.types.specs.declared.Gsi.{Gsi}
-use Rattle.types.specs.declared.Vector.{Vector}
 use Rattle.vioapic.specs.Redirection.{sendEntry, raiseEntry, lowerEntry, endEntry, writeLow, writeHigh}
-use Rattle.vioapic.specs.Table.{interruptForEntry, setLevel, firstAwaiting, endOfEntry, vectorFor}
+use Rattle.vioapic.specs.Table.{interruptForEntry, setLevel, firstAwaiting, endOfEntry}
 use Rattle.vioapic.specs.Registers.{readFixed, readWord, readSelected, writeWord, writeSelected, readAt, writeAt}
-use Rattle.vioapic.specs.IoApic.{chipAt, assertGsi, setGsiLevel, endOfInterrupt, vectorForGsi, addressRange, handleRead, handleWrite}
+use Rattle.vioapic.specs.IoApic.{chipAt, assertGsi, setGsiLevel, endOfInterrupt, handleRead, handleWrite}
 use Rattle.vioapic.specs.Calls.{Call, SetGsiLevel, AssertGsi, EndOfInterrupt, HandleRead, HandleWrite, outcome, run}
 
 -- ---- short names for calls: a line goes up, a line is asserted, an EOI; IOREGSEL and IOWIN written, IOWIN read, all with width 4

@@ -1,7 +1,7 @@
 -- The public calls of the I/O APIC: for each the complete chip after it, and its reply in document 01's numbers.
 -- 82093AA: the memory map (base address 0xFEC00000, 32-bit accesses; D-47: 8-byte accesses are served).
 use Prim.Native.Nat.{ℕ, _+_, _-_, _%_, _^_}
-use mathlib.Core.Bool.{Bool, true, false, cond}
+use mathlib.Core.Bool.{Bool, true, cond}
 use lib.Dec.{eqb, leb}
 use Rattle.types.specs.Reply.{Outcome}
 use Rattle.types.specs.declared.Gsi.{Gsi}

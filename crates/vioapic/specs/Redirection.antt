@@ -8,7 +8,6 @@ use Rattle.utils.specs.Set.{bit}
 use Rattle.types.specs.declared.Vector.{Vector}
 use Rattle.vioapic.specs.declared.redirection.Entry.{Entry}
 use Rattle.vioapic.specs.declared.redirection.EntryStep.{EntryStep}
-use Rattle.vioapic.specs.declared.redirection.IoApicInterrupt.{IoApicInterrupt}
 use Rattle.vioapic.specs.declared.redirection.Routed.the-variants.{NotRouted, Interrupt}
 
 -- ---- the fields of the register

@@ -1,7 +1,7 @@
 -- The registers behind the selector and the window.
 -- 82093AA: IOREGSEL (offset 0x00), IOWIN (offset 0x10), IOAPICID (0x00), IOAPICVER (0x01), IOAPICARB (0x02), IOREDTBL (0x10 to 0x3F, the low word of each entry before its high word).
 use Prim.Native.Nat.{ℕ, _-_, _/_, _%_, _^_}
-use mathlib.Core.Bool.{Bool, true, false, cond}
+use mathlib.Core.Bool.{Bool, false, cond}
 use lib.Dec.{eqb, leb}
 use Rattle.vioapic.specs.Redirection.{writeLow, writeHigh}
 use Rattle.vioapic.specs.Table.{entryAt, put}

@@ -15,7 +15,6 @@ use types::Vector;
 ghost use mathlib.Core.Path.{_≡_};
 ghost use mathlib.Core.Bool.{true};
 ghost use Prim.Native.Nat.{_<_};
-ghost use Rattle.vioapic.specs.Redirection.{isFit};
 ghost use Rattle.vioapic.specs.Answers.{eoiReply, gsiVectorReply, readReply, writtenReply, rangeReply, endedReply, routingOutcome, endingOutcome, writingOutcome};
 ghost use Rattle.vioapic.specs.Table.{newState, put, routeAt, interruptForEntry, setLevel, firstAwaiting, endOfEntry, vectorFor};
 ghost use Rattle.vioapic.specs.Registers.{isEntryWord, isLow, entryOf, versionWord, readFixed, readWord, readSelected, writeWord, writeSelected, readAt, writeAt};
