@@ -1,6 +1,5 @@
 // Runs document 01's numbered examples 1 to 6 on the I/O APIC, and prints the number and the values of each reply.
 
-use libc::STDOUT_FILENO;
 use types::Gsi;
 use types::Reply;
 use types::Vector;
@@ -10,38 +9,11 @@ const IOREGSEL: u64 = 0xfec0_0000;
 
 const IOWIN: u64 = 0xfec0_0010;
 
-fn number(n: u64) {
-    io::print_decimal(STDOUT_FILENO, n);
-}
-
-fn text(s: &[u8]) {
-    io::write_all(STDOUT_FILENO, s);
-}
-
 // A line: what was done, the reply's number, and its values or `-`.
 fn say(what: &[u8], reply: Reply) {
-    text(what);
-    text(b": ");
-    number(reply.number() as u64);
-    text(b" ");
-    match reply {
-        Reply::Refused(_) => text(b"-"),
-        Reply::Nothing => text(b"-"),
-        Reply::One(a) => number(a),
-        Reply::Two(a, b) => {
-            number(a);
-            text(b",");
-            number(b);
-        }
-        Reply::Three(a, b, c) => {
-            number(a);
-            text(b",");
-            number(b);
-            text(b",");
-            number(c);
-        }
-    }
-    text(b"\n");
+    show::print_text(what);
+    show::print_text(b": ");
+    show::print_reply(reply);
 }
 
 fn select(chip: EmulatedIoApic, register: u64) -> EmulatedIoApic {
@@ -139,16 +111,16 @@ fn example_6() {
 }
 
 fn main() {
-    text(b"example 1\n");
+    show::print_text(b"example 1\n");
     example_1();
-    text(b"example 2\n");
+    show::print_text(b"example 2\n");
     example_2();
-    text(b"example 3\n");
+    show::print_text(b"example 3\n");
     example_3();
-    text(b"example 4\n");
+    show::print_text(b"example 4\n");
     example_4();
-    text(b"example 5\n");
+    show::print_text(b"example 5\n");
     example_5();
-    text(b"example 6\n");
+    show::print_text(b"example 6\n");
     example_6();
 }
