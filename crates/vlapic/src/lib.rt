@@ -1,0 +1,2 @@
+mod consts;
+mod vectors;
