@@ -10,7 +10,7 @@ use Rattle.vlapic.specs.declared.VirtualApicRegs.{VirtualApicRegs}
 use Rattle.vlapic.specs.Regs.{start, withCommand}
 use Rattle.vlapic.specs.Answers.{done, refused}
 use Rattle.vlapic.specs.Priority.{handleEoi}
-use Rattle.vlapic.specs.Registers.{isStored, stored}
+use Rattle.vlapic.specs.Registers.{writeStored}
 use Rattle.vlapic.specs.Icr.{idle, command, selfIpi}
 
 -- more vCPUs than a mask has bits, or an own id that no mask can hold
@@ -35,4 +35,4 @@ handleWrite s offset val width num active =
     (cond (eqb offset 0xb0) (done (handleEoi s .state))
     (cond (eqb offset 0x300) (writeIcr s val width num active)
     (cond (eqb offset 0x3f0) (cond (s .x2apic) (selfIpi s (val % 256)) (refused s InvalidRegister))
-    (cond (isStored s offset) (done (stored s offset (val % 0x100000000))) (refused s InvalidRegister)))))
+    (writeStored s offset (val % 0x100000000)))))

@@ -69,15 +69,17 @@ share w a b = ltb (first w (λ k. bit a k && bit b k)) w
 abbrev pub matching : Bool → DestMatch
 matching same = cond same Matched Unmatched
 
--- the logical destination d against this APIC's own LDR and DFR: in the flat model (15) a bit in common with the logical id;
--- in the cluster model (0) the same cluster, bits 4-7, and a bit in common with bits 0-3
+-- the cluster model: the same cluster, bits 4-7, and a bit in common with bits 0-3
+abbrev pub inCluster : ℕ → ℕ → Bool
+inCluster ldr d = cond (eqb (ldr / 0x10000000) (d / 16 % 16)) (share 4 (ldr / 0x1000000 % 16) (d % 16)) false
+
+-- the logical destination d against this APIC's own LDR and DFR: in the flat model (15) a bit in common with the logical id,
+-- in the cluster model (0) as above
 unfoldable pub destFieldMatched : VirtualApicRegs → ℕ → DestMatch
 destFieldMatched s d =
     cond (s .x2apic) Matched  -- D-66: in x2APIC mode cluster and member bits are compared
     (cond (eqb (s .dfr / 0x10000000) 15) (matching (share 8 (s .ldr / 0x1000000) (d % 256)))
-    (cond (eqb (s .dfr / 0x10000000) 0)
-    (matching (cond (eqb (s .ldr / 0x10000000) (d / 16 % 16)) (share 4 (s .ldr / 0x1000000 % 16) (d % 16)) false))
-    ReservedModel))
+    (cond (eqb (s .dfr / 0x10000000) 0) (matching (inCluster (s .ldr) d)) ReservedModel))
 
 -- every active vCPU, or none: D-65: each APIC has to be matched by its own LDR and DFR
 abbrev pub logicalDest : DestMatch → ℕ → ℕ → Dest
@@ -85,27 +87,33 @@ logicalDest Matched num active = Mask active
 logicalDest Unmatched num active = Mask 0
 logicalDest ReservedModel num active = cond (eqb (below active num) 0) (Mask 0) (Refused InvalidDelivery)
 
+abbrev pub physicalDest : ℕ → Dest
+physicalDest d = cond (ltb d 64) (Mask (2 ^ d)) (Refused OutOfRange)
+
 unfoldable pub destNoShorthand : VirtualApicRegs → ℕ → ℕ → Dest
 destNoShorthand s num active =
     cond (isBroadcast s) (Mask active)
-    (cond (isLogical (s .«icr_lo»)) (logicalDest (destFieldMatched s (destField s)) num active)
-    (cond (ltb (destField s) 64) (Mask (2 ^ destField s)) (Refused OutOfRange)))
+    (cond (isLogical (s .«icr_lo»)) (logicalDest (destFieldMatched s (destField s)) num active) (physicalDest (destField s)))
 
 unfoldable pub calculateDest : VirtualApicRegs → ℕ → ℕ → Dest
 calculateDest s num active =
-    cond (eqb (shorthand (s .«icr_lo»)) 1) (Mask (2 ^ (s .«vapic_id»)))
+    cond (eqb (shorthand (s .«icr_lo»)) 1) (physicalDest (s .«vapic_id»))
     (cond (eqb (shorthand (s .«icr_lo»)) 2) (Mask active)
     (cond (eqb (shorthand (s .«icr_lo»)) 3) (Mask (without active (s .«vapic_id»)))
     (destNoShorthand s num active)))
 
 -- ---- the command that stands in the ICR of s
 
--- the mask is cut to the vCPU count; an empty mask, lowest priority and SMI send nothing
+-- an empty mask, lowest priority and SMI send nothing
+abbrev pub send : VirtualApicRegs → ℕ → Outcome VirtualApicRegs
+send s mask =
+    cond (eqb mask 0) (done s)
+    (cond (isUnsent (s .«icr_lo»)) (done s)  -- D-73: lowest priority and SMI are not sent
+    (sent s (deliveryMode (s .«icr_lo»)) (vectorField (s .«icr_lo»)) mask))  -- D-72: level and trigger mode are ignored
+
+-- the mask is cut to the vCPU count
 abbrev pub deliver : VirtualApicRegs → ℕ → Dest → Outcome VirtualApicRegs
-deliver s num (Mask mask) =
-    cond (eqb (below mask num) 0) (done s)
-    (cond (isUnsent (s .«icr_lo»)) (done s)  -- D-73
-    (sent s (deliveryMode (s .«icr_lo»)) (vectorField (s .«icr_lo»)) (below mask num)))  -- D-72: level and trigger mode are ignored
+deliver s num (Mask mask) = send s (below mask num)
 deliver s num (Refused why) = refused s why
 
 -- in this order: a reserved mode, an illegal vector, a shorthand that doesn't go with the mode, the destination

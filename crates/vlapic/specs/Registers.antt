@@ -8,13 +8,15 @@ use lib.ListN.{getD}
 use Rattle.types.specs.declared.Refusal.the-variants.{InvalidRegister}
 use Rattle.types.specs.declared.Reply.{Reply}
 use Rattle.types.specs.declared.Reply.the-variants.{Refused, One}
+use Rattle.types.specs.Reply.{Outcome}
 use Rattle.vlapic.specs.declared.VirtualApicRegs.{VirtualApicRegs}
+use Rattle.vlapic.specs.Answers.{done, refused}
 
 -- ---- reading
 
--- the id, in the top byte in xAPIC mode, the whole word in x2APIC mode
+-- the id: the whole word in x2APIC mode, the top byte in xAPIC mode
 abbrev pub idWord : VirtualApicRegs → ℕ
-idWord s = cond (s .x2apic) (s .«vapic_id») (s .«vapic_id» * 0x1000000)
+idWord s = cond (s .x2apic) (s .«vapic_id») (s .«vapic_id» % 256 * 0x1000000)
 
 -- the registers of one word that can be read, by offset
 abbrev pub readable : VirtualApicRegs → List (ℕ × ℕ)
@@ -76,9 +78,12 @@ topByte v = v / 0x1000000 * 0x1000000
 abbrev pub modelBits : ℕ → ℕ
 modelBits v = v / 0x10000000 * 0x10000000 + 0xfffffff
 
--- the registers that store what is written, in both modes, and in xAPIC mode only. (ID takes the write and keeps its word.)
+-- the registers that store what is written: the entries of the local vector table and some others (ID takes the write and keeps its word); in xAPIC mode also these
+abbrev pub lvtEntries : List ℕ
+lvtEntries = 0x2f0 ∷ 0x320 ∷ 0x330 ∷ 0x340 ∷ 0x350 ∷ 0x360 ∷ 0x370 ∷ []
+
 abbrev pub stores : List ℕ
-stores = 0x20 ∷ 0x80 ∷ 0xf0 ∷ 0x280 ∷ 0x2f0 ∷ 0x320 ∷ 0x330 ∷ 0x340 ∷ 0x350 ∷ 0x360 ∷ 0x370 ∷ []
+stores = 0x20 ∷ 0x80 ∷ 0xf0 ∷ 0x280 ∷ lvtEntries
 
 abbrev pub storesInXapic : List ℕ
 storesInXapic = 0xd0 ∷ 0xe0 ∷ 0x310 ∷ []
@@ -88,7 +93,7 @@ listed offset [] = false
 listed offset (o ∷ os) = cond (eqb offset o) true (listed offset os)
 
 abbrev pub isStored : VirtualApicRegs → ℕ → Bool
-isStored s offset = cond (listed offset stores) true (cond (listed offset storesInXapic) (not (s .x2apic)) false)
+isStored s offset = cond (listed offset storesInXapic) (not (s .x2apic)) (listed offset stores)
 
 -- the registers after v is written at `offset`: each has its own offset and takes of v what it keeps
 abbrev on : ℕ → ℕ → ℕ → ℕ → ℕ
@@ -118,3 +123,7 @@ stored s offset v = record {
   tmr = s .tmr;
   irr = s .irr;
 }
+
+-- refused where no such register can be written
+unfoldable pub writeStored : VirtualApicRegs → ℕ → ℕ → Outcome VirtualApicRegs
+writeStored s offset v = cond (isStored s offset) (done (stored s offset v)) (refused s InvalidRegister)

@@ -8,15 +8,15 @@
 // APIC base register were left out, `setup` was added, and each function has its contract.
 
 ghost use mathlib.Core.Path.{_≡_};
-ghost use mathlib.Core.Bool.{true, false};
-ghost use Prim.Native.Nat.{_<_, _≤_};
-ghost use lib.Dec.{eqb};
+ghost use mathlib.Core.Bool.{false, not, cond};
+ghost use Prim.Native.Nat.{_<_, _≤_, _%_};
+ghost use Rattle.types.specs.declared.Refusal.the-variants.{InvalidRegister};
 ghost use Rattle.types.specs.declared.Reply.the-variants.{One};
 ghost use Rattle.vlapic.specs.Regs.{start, servicing, withError, withCommand};
 ghost use Rattle.vlapic.specs.Answers.{eoiReply, readReply, writeReply, acceptOutcome, eoiOutcome, writeOutcome, done, refused};
 ghost use Rattle.vlapic.specs.Priority.{findIsrv, priority, updatePpr, acceptInterrupt, broadcasts, handleEoi};
-ghost use Rattle.vlapic.specs.Registers.{idWord, readable, wordAt, eightFrom, eightAt, handleRead, lvtTimer, lvtError, lvtPin, lvtMonitor, isStored, stored};
-ghost use Rattle.vlapic.specs.Icr.{destField, isBroadcast, destFieldMatched, destNoShorthand, calculateDest, deliver, command, selfIpi};
+ghost use Rattle.vlapic.specs.Registers.{idWord, readable, wordAt, eightFrom, eightAt, handleRead, lvtTimer, lvtError, lvtPin, lvtMonitor, lvtEntries, listed, stored, writeStored};
+ghost use Rattle.vlapic.specs.Icr.{idle, share, matching, inCluster, destField, isBroadcast, destFieldMatched, logicalDest, physicalDest, destNoShorthand, calculateDest, send, deliver, command, selfIpi};
 ghost use Rattle.vlapic.specs.Calls.{outOfRange, setup, writeIcr, handleWrite};
 
 mod consts;
@@ -69,7 +69,7 @@ pub struct EoiStep {
 }
 
 pub enum ReadAnswer {
-    Value(u64),
+    Value(u32),
     Refused(Refusal),
 }
 
@@ -114,7 +114,7 @@ impl ReadAnswer {
         ensures { λ r. ⌜ r ≡ readReply self ⌝ }
     {
         match self {
-            ReadAnswer::Value(word) => Reply::One(word),
+            ReadAnswer::Value(word) => Reply::One(word as u64),
             ReadAnswer::Refused(why) => Reply::Refused(why),
         }
     }
@@ -140,13 +140,6 @@ fn is_out_of_range(vcpu_num: usize, vcpu_id: usize) -> bool
         return true;
     }
     vcpu_id > 63
-}
-
-// Whether a mask names no vCPU below the count.
-fn is_empty(mask: u64) -> bool
-    ensures { λ r. ⌜ r ≡ eqb mask 0 ⌝ }
-{
-    mask == 0
 }
 
 // The start, by id and mode.
@@ -324,18 +317,18 @@ fn word_at(words: [u32; 8], offset: u64) -> ReadAnswer
     ensures { λ r. ⌜ readReply r ≡ One (eightAt words offset) ⌝ }
 {
     let i = (offset / 16 % 8) as usize;
-    ReadAnswer::Value(words[i] as u64)
+    ReadAnswer::Value(words[i])
 }
 
 impl VirtualApicRegs {
     // The ID register's word.
-    fn id_word(self) -> u64
+    fn id_word(self) -> u32
         ensures { λ r. ⌜ r ≡ idWord self ⌝ }
     {
         if self.x2apic {
-            return self.vapic_id as u64;
+            return self.vapic_id;
         }
-        self.vapic_id as u64 * 0x1000000
+        self.vapic_id % 256 * 0x1000000
     }
 
     // Reads the register at an offset: the word that is stored.
@@ -359,22 +352,422 @@ impl VirtualApicRegs {
     {
         match offset {
             consts::ID => ReadAnswer::Value(self.id_word()),
-            consts::TPR => ReadAnswer::Value(self.tpr as u64),
-            consts::PPR => ReadAnswer::Value(self.ppr as u64),
-            consts::LDR => ReadAnswer::Value(self.ldr as u64),
-            consts::DFR => ReadAnswer::Value(self.dfr as u64),
-            consts::SIVR => ReadAnswer::Value(self.svr as u64),
-            consts::ESR => ReadAnswer::Value(self.esr as u64),
-            consts::LVT_CMCI => ReadAnswer::Value(self.lvt_cmci as u64),
-            consts::ICR_LOW => ReadAnswer::Value(self.icr_lo as u64),
-            consts::ICR_HI => ReadAnswer::Value(self.icr_hi as u64),
-            consts::LVT_TIMER => ReadAnswer::Value(self.lvt_timer as u64),
-            consts::LVT_THERMAL => ReadAnswer::Value(self.lvt_thermal as u64),
-            consts::LVT_PMC => ReadAnswer::Value(self.lvt_pmi as u64),
-            consts::LVT_LINT0 => ReadAnswer::Value(self.lvt_lint0 as u64),
-            consts::LVT_LINT1 => ReadAnswer::Value(self.lvt_lint1 as u64),
-            consts::LVT_ERR => ReadAnswer::Value(self.lvt_error as u64),
+            consts::TPR => ReadAnswer::Value(self.tpr),
+            consts::PPR => ReadAnswer::Value(self.ppr),
+            consts::LDR => ReadAnswer::Value(self.ldr),
+            consts::DFR => ReadAnswer::Value(self.dfr),
+            consts::SIVR => ReadAnswer::Value(self.svr),
+            consts::ESR => ReadAnswer::Value(self.esr),
+            consts::LVT_CMCI => ReadAnswer::Value(self.lvt_cmci),
+            consts::ICR_LOW => ReadAnswer::Value(self.icr_lo),
+            consts::ICR_HI => ReadAnswer::Value(self.icr_hi),
+            consts::LVT_TIMER => ReadAnswer::Value(self.lvt_timer),
+            consts::LVT_THERMAL => ReadAnswer::Value(self.lvt_thermal),
+            consts::LVT_PMC => ReadAnswer::Value(self.lvt_pmi),
+            consts::LVT_LINT0 => ReadAnswer::Value(self.lvt_lint0),
+            consts::LVT_LINT1 => ReadAnswer::Value(self.lvt_lint1),
+            consts::LVT_ERR => ReadAnswer::Value(self.lvt_error),
             _ => ReadAnswer::Refused(Refusal::InvalidRegister),
+        }
+    }
+}
+
+// What a local vector table entry keeps of a value: vector, delivery status, mask, and what the entry has besides.
+fn lvt_timer(val: u32) -> u32
+    ensures { λ r. ⌜ r ≡ lvtTimer val ⌝ }
+{
+    val % 0x100 + val / 0x1000 % 2 * 0x1000 + val / 0x10000 % 8 * 0x10000
+}
+
+fn lvt_error(val: u32) -> u32
+    ensures { λ r. ⌜ r ≡ lvtError val ⌝ }
+{
+    val % 0x100 + val / 0x1000 % 2 * 0x1000 + val / 0x10000 % 2 * 0x10000
+}
+
+fn lvt_pin(val: u32) -> u32
+    ensures { λ r. ⌜ r ≡ lvtPin val ⌝ }
+{
+    val % 0x800 + val / 0x1000 % 32 * 0x1000
+}
+
+fn lvt_monitor(val: u32) -> u32
+    ensures { λ r. ⌜ r ≡ lvtMonitor val ⌝ }
+{
+    val % 0x800 + val / 0x1000 % 2 * 0x1000 + val / 0x10000 % 2 * 0x10000
+}
+
+impl VirtualApicRegs {
+    fn write_tpr(mut self, val: u32) -> VirtualApicRegs
+        ensures { λ r. ⌜ r ≡ stored self 0x80 val ⌝ }
+    {
+        self.tpr = val % 0x100;
+        self
+    }
+
+    fn write_ldr(mut self, val: u32) -> VirtualApicRegs
+        ensures { λ r. ⌜ r ≡ stored self 0xd0 val ⌝ }
+    {
+        self.ldr = val / 0x1000000 * 0x1000000;
+        self
+    }
+
+    fn write_dfr(mut self, val: u32) -> VirtualApicRegs
+        ensures { λ r. ⌜ r ≡ stored self 0xe0 val ⌝ }
+    {
+        self.dfr = val / 0x10000000 * 0x10000000 + 0xfffffff;
+        self
+    }
+
+    fn write_svr(mut self, val: u32) -> VirtualApicRegs
+        ensures { λ r. ⌜ r ≡ stored self 0xf0 val ⌝ }
+    {
+        self.svr = val;
+        self
+    }
+
+    // Shows the errors since the last write.
+    fn write_esr(mut self, val: u32) -> VirtualApicRegs
+        ensures { λ r. ⌜ r ≡ stored self 0x280 val ⌝ }
+    {
+        self.esr = self.esr_pending;
+        self.esr_pending = 0;
+        self
+    }
+
+    fn write_icr_hi(mut self, val: u32) -> VirtualApicRegs
+        ensures { λ r. ⌜ r ≡ stored self 0x310 val ⌝ }
+    {
+        self.icr_hi = val / 0x1000000 * 0x1000000;
+        self
+    }
+
+    // Writes an entry of the local vector table; another offset is refused.
+    fn write_lvt(mut self, offset: u64, val: u32) -> Written
+        ensures { λ r. ⌜ writeOutcome r ≡ cond (listed offset lvtEntries) (done (stored self offset val)) (refused self InvalidRegister) ⌝ }
+    {
+        match offset {
+            consts::LVT_CMCI => {
+                self.lvt_cmci = lvt_monitor(val);
+                self.ok()
+            }
+            consts::LVT_TIMER => {
+                self.lvt_timer = lvt_timer(val);
+                self.ok()
+            }
+            consts::LVT_THERMAL => {
+                self.lvt_thermal = lvt_monitor(val);
+                self.ok()
+            }
+            consts::LVT_PMC => {
+                self.lvt_pmi = lvt_monitor(val);
+                self.ok()
+            }
+            consts::LVT_LINT0 => {
+                self.lvt_lint0 = lvt_pin(val);
+                self.ok()
+            }
+            consts::LVT_LINT1 => {
+                self.lvt_lint1 = lvt_pin(val);
+                self.ok()
+            }
+            consts::LVT_ERR => {
+                self.lvt_error = lvt_error(val);
+                self.ok()
+            }
+            _ => self.refuse(Refusal::InvalidRegister),
+        }
+    }
+
+    // What a register that only xAPIC mode has leaves after its write.
+    fn in_xapic(self, next: VirtualApicRegs) -> Written
+        ensures { λ r. ⌜ writeOutcome r ≡ cond (not (self .x2apic)) (done next) (refused self InvalidRegister) ⌝ }
+    {
+        if !self.x2apic {
+            return next.ok();
+        }
+        self.refuse(Refusal::InvalidRegister)
+    }
+
+    // Writes a register that only stores the value.
+    fn write_register(self, offset: u64, val: u32) -> Written
+        ensures { λ r. ⌜ writeOutcome r ≡ writeStored self offset val ⌝ }
+    {
+        match offset {
+            // Force APIC ID to be read-only.
+            consts::ID => self.ok(),
+            consts::TPR => self.write_tpr(val).ok(),
+            consts::LDR => self.in_xapic(self.write_ldr(val)),
+            consts::DFR => self.in_xapic(self.write_dfr(val)),
+            consts::SIVR => self.write_svr(val).ok(),
+            consts::ESR => self.write_esr(val).ok(),
+            consts::ICR_HI => self.in_xapic(self.write_icr_hi(val)),
+            _ => self.write_lvt(offset, val),
+        }
+    }
+
+    // Keeps an error until ESR is written.
+    fn set_err(mut self, error: u32) -> VirtualApicRegs
+        requires { ⌜ error < 32 ⌝ }
+        ensures { λ r. ⌜ r ≡ withError self error ⌝ }
+    {
+        self.esr_pending = utils::set32::with(self.esr_pending, error);
+        self
+    }
+
+    fn vcpu_id(self) -> VcpuId
+        ensures { λ r. ⌜ r .0 ≡ self .«vapic_id» ⌝ }
+    {
+        VcpuId(self.vapic_id as usize)
+    }
+
+    // The logical destination against this APIC's own LDR and DFR.
+    fn is_dest_field_matched(self, dest: u32) -> DestMatch
+        ensures { λ r. ⌜ r ≡ destFieldMatched self dest ⌝ }
+    {
+        if self.x2apic {
+            return DestMatch::Matched;
+        }
+        let model = self.dfr / 0x10000000;
+        if model == 15 {
+            return matching(share8(self.ldr / 0x1000000, dest % 256));
+        }
+        if model == 0 {
+            return matching(self.is_in_cluster(dest));
+        }
+        DestMatch::ReservedModel
+    }
+
+    fn is_in_cluster(self, dest: u32) -> bool
+        ensures { λ r. ⌜ r ≡ inCluster (self .ldr) dest ⌝ }
+    {
+        let cluster = dest / 16 % 16;
+        if self.ldr / 0x10000000 == cluster {
+            return share4(self.ldr / 0x1000000 % 16, dest % 16);
+        }
+        false
+    }
+
+    // The destination that stands in the command.
+    fn dest_field(self) -> u32
+        ensures { λ r. ⌜ r ≡ destField self ⌝ }
+    {
+        if self.x2apic {
+            return self.icr_hi;
+        }
+        self.icr_hi / 0x1000000
+    }
+
+    fn is_broadcast(self) -> bool
+        ensures { λ r. ⌜ r ≡ isBroadcast self ⌝ }
+    {
+        if self.x2apic {
+            return self.icr_hi == consts::X2APIC_BROADCAST_DEST_ID;
+        }
+        self.icr_hi / 0x1000000 == consts::XAPIC_BROADCAST_DEST_ID
+    }
+
+    fn calculate_dest_no_shorthand(self, vcpu_num: usize, active_vcpus: u64) -> Dest
+        requires { ⌜ «vcpu_num» ≤ 64 ⌝ }
+        ensures { λ r. ⌜ r ≡ destNoShorthand self «vcpu_num» «active_vcpus» ⌝ }
+    {
+        if self.is_broadcast() {
+            return Dest::Mask(active_vcpus);
+        }
+        let dest = self.dest_field();
+        if icr::is_logical(self.icr_lo) {
+            return logical_dest(self.is_dest_field_matched(dest), vcpu_num, active_vcpus);
+        }
+        physical_dest(dest)
+    }
+
+    fn calculate_dest(self, vcpu_num: usize, active_vcpus: u64) -> Dest
+        requires { ⌜ («vcpu_num» ≤ 64) × (self .«vapic_id» ≤ 63) ⌝ }
+        ensures { λ r. ⌜ r ≡ calculateDest self «vcpu_num» «active_vcpus» ⌝ }
+    {
+        let shorthand = icr::shorthand(self.icr_lo);
+        match shorthand {
+            1 => physical_dest(self.vapic_id),
+            2 => Dest::Mask(active_vcpus),
+            3 => Dest::Mask(utils::set64::without(active_vcpus, self.vapic_id as u64)),
+            _ => self.calculate_dest_no_shorthand(vcpu_num, active_vcpus),
+        }
+    }
+
+    // Sends the command to the vCPUs of its destination.
+    fn deliver(self, dest: Dest, vcpu_num: usize) -> Written
+        requires { ⌜ «vcpu_num» ≤ 64 ⌝ }
+        ensures { λ r. ⌜ writeOutcome r ≡ deliver self «vcpu_num» dest ⌝ }
+    {
+        match dest {
+            Dest::Mask(mask) => self.send(utils::set64::below(mask, vcpu_num as u64)),
+            Dest::Refused(why) => self.refuse(why),
+        }
+    }
+
+    fn send(self, mask: u64) -> Written
+        ensures { λ r. ⌜ writeOutcome r ≡ send self mask ⌝ }
+    {
+        if mask == 0 {
+            return self.ok();
+        }
+        if icr::is_unsent(self.icr_lo) {
+            return self.ok();
+        }
+        Written {
+            regs: self,
+            answer: WriteAnswer::Ipi {
+                kind: icr::delivery_mode(self.icr_lo),
+                vector: Vector(icr::vector(self.icr_lo)),
+                mask,
+            },
+        }
+    }
+
+    // Carries out the command that stands in the ICR.
+    fn write_icr(self, vcpu_num: usize, active_vcpus: u64) -> Written
+        requires { ⌜ («vcpu_num» ≤ 64) × (self .«vapic_id» ≤ 63) ⌝ }
+        ensures { λ r. ⌜ writeOutcome r ≡ command self «vcpu_num» «active_vcpus» ⌝ }
+    {
+        let lo = self.icr_lo;
+        if icr::is_reserved_mode(lo) {
+            return self.refuse(Refusal::InvalidDelivery);
+        }
+        if icr::is_illegal_vector(lo) {
+            return self.set_err(consts::SEND_ILLEGAL_VECTOR).ok();
+        }
+        if icr::is_invalid_shorthand(lo) {
+            return self.ok();
+        }
+        self.deliver(self.calculate_dest(vcpu_num, active_vcpus), vcpu_num)
+    }
+
+    // Puts the command words, bit 12 cleared.
+    fn put_icr(mut self, lo: u32, hi: u32) -> VirtualApicRegs
+        ensures { λ r. ⌜ r ≡ withCommand self (idle lo) hi ⌝ }
+    {
+        self.icr_lo = icr::idle(lo);
+        self.icr_hi = hi;
+        self
+    }
+
+    // A write of the ICR's low word, in x2APIC mode of both words.
+    fn write_icr_low(self, val: u64, width: u8, vcpu_num: usize, active_vcpus: u64) -> Written
+        requires { ⌜ («vcpu_num» ≤ 64) × (self .«vapic_id» ≤ 63) ⌝ }
+        ensures { λ r. ⌜ writeOutcome r ≡ writeIcr self val width «vcpu_num» «active_vcpus» ⌝ }
+    {
+        let lo = (val % 0x100000000) as u32;
+        if self.x2apic {
+            if width == 8 {
+                let hi = (val / 0x100000000) as u32;
+                return self.put_icr(lo, hi).write_icr(vcpu_num, active_vcpus);
+            }
+            return self.refuse(Refusal::InvalidRegister);
+        }
+        if width == 8 {
+            return self.refuse(Refusal::InvalidRegister);
+        }
+        self.put_icr(lo, self.icr_hi).write_icr(vcpu_num, active_vcpus)
+    }
+
+    fn handle_self_ipi(self, vector: Vector) -> Written
+        requires { ⌜ self .«vapic_id» ≤ 63 ⌝ }
+        ensures { λ r. ⌜ writeOutcome r ≡ selfIpi self (vector .0) ⌝ }
+    {
+        if vector.0 < 16 {
+            return self.set_err(consts::SEND_ILLEGAL_VECTOR).ok();
+        }
+        Written {
+            regs: self,
+            answer: WriteAnswer::Ipi {
+                kind: 0,
+                vector,
+                mask: self.vcpu_id().mask(),
+            },
+        }
+    }
+
+    // In x2APIC mode alone.
+    fn write_self_ipi(self, val: u64) -> Written
+        requires { ⌜ self .«vapic_id» ≤ 63 ⌝ }
+        ensures { λ r. ⌜ writeOutcome r ≡ cond (self .x2apic) (selfIpi self (val % 256)) (refused self InvalidRegister) ⌝ }
+    {
+        if self.x2apic {
+            return self.handle_self_ipi(Vector((val % 256) as u8));
+        }
+        self.refuse(Refusal::InvalidRegister)
+    }
+
+    // The EOI register: what is broadcast is dropped.
+    fn write_eoi(self) -> Written
+        ensures { λ r. ⌜ writeOutcome r ≡ done (handleEoi self .state) ⌝ }
+    {
+        let step = self.process_eoi();
+        let regs = step.regs;
+        regs.ok()
+    }
+
+    // Writes the register at an offset, where the VM has `vcpu_num` vCPUs, of which those in `active_vcpus` are active.
+    pub fn handle_write(self, offset: u64, val: u64, width: u8, vcpu_num: usize, active_vcpus: u64) -> Written
+        ensures { λ r. ⌜ writeOutcome r ≡ handleWrite self offset val width «vcpu_num» «active_vcpus» ⌝ }
+    {
+        if is_out_of_range(vcpu_num, self.vapic_id as usize) {
+            return self.refuse(Refusal::OutOfRange);
+        }
+        match offset {
+            consts::EOI => self.write_eoi(),
+            consts::ICR_LOW => self.write_icr_low(val, width, vcpu_num, active_vcpus),
+            consts::SELF_IPI => self.write_self_ipi(val),
+            _ => self.write_register(offset, (val % 0x100000000) as u32),
+        }
+    }
+}
+
+fn share8(a: u32, b: u32) -> bool
+    requires { ⌜ (a < 256) × (b < 256) ⌝ }
+    ensures { λ r. ⌜ r ≡ share 8 a b ⌝ }
+{
+    a & b != 0
+}
+
+fn share4(a: u32, b: u32) -> bool
+    requires { ⌜ (a < 16) × (b < 16) ⌝ }
+    ensures { λ r. ⌜ r ≡ share 4 a b ⌝ }
+{
+    a & b != 0
+}
+
+fn matching(same: bool) -> DestMatch
+    ensures { λ r. ⌜ r ≡ matching same ⌝ }
+{
+    if same {
+        return DestMatch::Matched;
+    }
+    DestMatch::Unmatched
+}
+
+// The one vCPU, by its APIC's id.
+fn physical_dest(dest: u32) -> Dest
+    ensures { λ r. ⌜ r ≡ physicalDest dest ⌝ }
+{
+    if dest < 64 {
+        return Dest::Mask(VcpuId(dest as usize).mask());
+    }
+    Dest::Refused(Refusal::OutOfRange)
+}
+
+fn logical_dest(matched: DestMatch, vcpu_num: usize, active_vcpus: u64) -> Dest
+    requires { ⌜ «vcpu_num» ≤ 64 ⌝ }
+    ensures { λ r. ⌜ r ≡ logicalDest matched «vcpu_num» «active_vcpus» ⌝ }
+{
+    match matched {
+        DestMatch::Matched => Dest::Mask(active_vcpus),
+        DestMatch::Unmatched => Dest::Mask(0),
+        DestMatch::ReservedModel => {
+            if utils::set64::below(active_vcpus, vcpu_num as u64) == 0 {
+                return Dest::Mask(0);
+            }
+            Dest::Refused(Refusal::InvalidDelivery)
         }
     }
 }

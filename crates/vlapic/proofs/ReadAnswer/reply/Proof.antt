@@ -1,25 +1,28 @@
-use Rattle.utils.specs.Cases.{cases}
 use borrow.Author.Needs.{needs}
 use Rattle.vlapic.proofs.ReadAnswer.reply.Statement.{statement}
 use Rattle.vlapic.proofs.ReadAnswer.reply.Tie as tie
 use Rattle.vlapic.proofs.ReadAnswer.reply.Reads as reads
 use Rattle.vlapic.proofs.ReadAnswer.reply.Lts as lts
 
--- src/lib.rt:116:31
+-- src/lib.rt:117:31
 enum-known-self : tie.Need-enum-known-self
 enum-known-self c = search needs
 
--- src/lib.rt:117:33
+-- src/lib.rt:117:51
+cast-t5 : tie.Need-cast-t5
+cast-t5 c = search needs
+
+-- src/lib.rt:118:33
 enum-known-self-2 : tie.Need-enum-known-self-2
 enum-known-self-2 c = search needs
 
--- src/lib.rt:112:5
+-- src/lib.rt:113:5
 returns : tie.Need-returns
 returns c = rw (c .before .self .given .1)
 
--- src/lib.rt:112:5
+-- src/lib.rt:113:5
 returns-2 : tie.Need-returns-2
 returns-2 c = rw (c .before .self2 .given .1)
 
 pub reply-spec : {M : Type 1} → statement M
-reply-spec = tie.close (tie.spec enum-known-self enum-known-self-2 returns returns-2)
+reply-spec = tie.close (tie.spec enum-known-self cast-t5 enum-known-self-2 returns returns-2)

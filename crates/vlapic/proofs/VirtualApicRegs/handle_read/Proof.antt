@@ -1,3 +1,5 @@
+use Rattle.utils.specs.Cases.{cases}
+use Rattle.vlapic.specs.Registers.{handleRead}
 use borrow.Author.Needs.{needs}
 use Rattle.vlapic.proofs.VirtualApicRegs.handle_read.Statement.{statement}
 use Rattle.vlapic.proofs.VirtualApicRegs.handle_read.Tie as tie
@@ -17,7 +19,8 @@ word-at-requires c κs = search needs
 
 -- src/lib.rt:347:13
 returns : tie.Need-returns
-returns c = ?
+unfolding handleRead
+returns c = search cases
 
 -- src/lib.rt:349:12
 is-eight-from-requires-2 : tie.Need-is-eight-from-requires-2
@@ -29,7 +32,8 @@ word-at-requires-2 c κs = search needs
 
 -- src/lib.rt:351:13
 returns-2 : tie.Need-returns-2
-returns-2 c = ?
+unfolding handleRead
+returns-2 c = search cases
 
 -- src/lib.rt:353:9
 read-word-requires : tie.Need-read-word-requires
@@ -37,7 +41,8 @@ read-word-requires c κs = search needs
 
 -- src/lib.rt:342:5
 returns-3 : tie.Need-returns-3
-returns-3 c = ?
+unfolding handleRead
+returns-3 c = search cases
 
 pub handle-read-spec : {M : Type 1} → statement M
 handle-read-spec =

@@ -1,5 +1,6 @@
+use mathlib.Core.Path.{sym, _∙_}
 use native.Mathlib.Omega.{arith}
-use Rattle.utils.specs.Cases.{cases, so}
+use Rattle.utils.specs.Cases.{cases}
 use Rattle.vlapic.proofs.Range.{in-range}
 use Rattle.vlapic.specs.Calls.{setup}
 use borrow.Author.Needs.{needs}
@@ -27,7 +28,9 @@ returns c = search cases
 
 -- src/lib.rt:196:23
 cast-reset : tie.Need-cast-reset
-cast-reset c = record { fits = omega (arith, in-range _ _ (search so) .1) }
+cast-reset c =
+    let r = c .before .is-out-of-range in
+    record { fits = omega (arith, in-range (c .before .before .args .vcpu-num) (c .before .before .args .vcpu-id .0) (sym (r .ensures) ∙ c .if1 .left) .1) }
 
 -- src/lib.rt:196:9
 reset-requires : tie.Need-reset-requires

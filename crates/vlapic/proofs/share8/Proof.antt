@@ -1,0 +1,12 @@
+use Rattle.vlapic.proofs.Share.{share-and}
+use Rattle.vlapic.proofs.share8.Statement.{statement}
+use Rattle.vlapic.proofs.share8.Tie as tie
+use Rattle.vlapic.proofs.share8.Reads as reads
+use Rattle.vlapic.proofs.share8.Lts as lts
+
+-- src/lib.rt:726:1
+returns : tie.Need-returns
+returns c = share-and 8 _ _ (c .pre .0)
+
+pub share8-spec : {M : Type 1} → statement M
+share8-spec = tie.close (tie.spec returns)
