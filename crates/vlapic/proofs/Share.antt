@@ -14,7 +14,9 @@ use Rattle.utils.proofs.Search.{first-holds, first-before}
 use Rattle.vlapic.specs.Icr.{share}
 
 both-digit : (a b : ℕ) → a < 2 → b < 2 → eqb (min a b) 1 ≡ (eqb a 1 && eqb b 1)
-both-digit zero b ha hb = refl
+both-digit zero zero ha hb = refl
+both-digit zero (suc zero) ha hb = refl
+both-digit zero (suc (suc b)) ha hb = absurd (omega arith)
 both-digit (suc zero) zero ha hb = refl
 both-digit (suc zero) (suc zero) ha hb = refl
 both-digit (suc zero) (suc (suc b)) ha hb = absurd (omega arith)

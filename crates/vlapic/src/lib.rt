@@ -126,7 +126,11 @@ impl WriteAnswer {
     {
         match self {
             WriteAnswer::Done => Reply::Nothing,
-            WriteAnswer::Ipi { kind, vector, mask } => Reply::Three(kind as u64, vector.0 as u64, mask),
+            WriteAnswer::Ipi { kind, vector, mask } => Reply::Three(
+                kind as u64,
+                vector.0 as u64,
+                mask,
+            ),
             WriteAnswer::Refused(why) => Reply::Refused(why),
         }
     }
@@ -667,7 +671,8 @@ impl VirtualApicRegs {
         if width == 8 {
             return self.refuse(Refusal::InvalidRegister);
         }
-        self.put_icr(lo, self.icr_hi).write_icr(vcpu_num, active_vcpus)
+        self.put_icr(lo, self.icr_hi)
+            .write_icr(vcpu_num, active_vcpus)
     }
 
     fn handle_self_ipi(self, vector: Vector) -> Written
@@ -708,7 +713,14 @@ impl VirtualApicRegs {
     }
 
     // Writes the register at an offset, where the VM has `vcpu_num` vCPUs, of which those in `active_vcpus` are active.
-    pub fn handle_write(self, offset: u64, val: u64, width: u8, vcpu_num: usize, active_vcpus: u64) -> Written
+    pub fn handle_write(
+        self,
+        offset: u64,
+        val: u64,
+        width: u8,
+        vcpu_num: usize,
+        active_vcpus: u64,
+    ) -> Written
         ensures { λ r. ⌜ writeOutcome r ≡ handleWrite self offset val width «vcpu_num» «active_vcpus» ⌝ }
     {
         if is_out_of_range(vcpu_num, self.vapic_id as usize) {

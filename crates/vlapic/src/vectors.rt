@@ -7,7 +7,6 @@
 
 ghost use mathlib.Core.Path.{_≡_};
 ghost use Rattle.vlapic.specs.Vectors.{inWords, withVector, withoutVector, highestFrom};
-
 use types::Vector;
 
 // The highest vector from 32 to 255, or 0: words 7 down to 1, and in each its bits from 31 down; the first set bit ends both loops.

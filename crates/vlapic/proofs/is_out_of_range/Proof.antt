@@ -1,14 +1,10 @@
 use Rattle.utils.specs.Cases.{cases}
 use Rattle.vlapic.proofs.is_out_of_range.Statement.{statement}
 use Rattle.vlapic.proofs.is_out_of_range.Tie as tie
-use Rattle.vlapic.proofs.is_out_of_range.Reads as reads
-use Rattle.vlapic.proofs.is_out_of_range.Lts as lts
 
--- src/lib.rt:139:9
 returns : tie.Need-returns
 returns c = search cases
 
--- src/lib.rt:135:1
 returns-2 : tie.Need-returns-2
 returns-2 c = search cases
 

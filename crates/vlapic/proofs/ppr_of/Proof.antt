@@ -3,32 +3,23 @@ use Rattle.vlapic.specs.Priority.{priority}
 use borrow.Author.Needs.{needs}
 use Rattle.vlapic.proofs.ppr_of.Statement.{statement}
 use Rattle.vlapic.proofs.ppr_of.Tie as tie
-use Rattle.vlapic.proofs.ppr_of.Reads as reads
-use Rattle.vlapic.proofs.ppr_of.Lts as lts
-use Rattle.utils.proofs.prio.Reads as prio-reads
 
--- src/lib.rt:302:29
 cast-prio : tie.Need-cast-prio
 cast-prio c = search needs
 
--- src/lib.rt:302:9
 prio-requires : tie.Need-prio-requires
 prio-requires c κs = search needs
 
--- src/lib.rt:303:8
 prio-requires-2 : tie.Need-prio-requires-2
 prio-requires-2 c κs = search needs
 
--- src/lib.rt:304:9
 returns : tie.Need-returns
 unfolding priority
 returns c = rw (← c .before .prio2 .ensures, ← c .before .before .prio .ensures) (search cases)
 
--- src/lib.rt:306:5
 mul-result : tie.Need-mul-result
 mul-result c = search needs
 
--- src/lib.rt:299:1
 returns-2 : tie.Need-returns-2
 unfolding priority
 returns-2 c = rw (← c .before .prio2 .ensures, ← c .before .before .prio .ensures) (search cases)

@@ -1,10 +1,7 @@
 use Rattle.vlapic.proofs.Share.{share-and}
 use Rattle.vlapic.proofs.share8.Statement.{statement}
 use Rattle.vlapic.proofs.share8.Tie as tie
-use Rattle.vlapic.proofs.share8.Reads as reads
-use Rattle.vlapic.proofs.share8.Lts as lts
 
--- src/lib.rt:726:1
 returns : tie.Need-returns
 returns c = share-and 8 _ _ (c .pre .0)
 

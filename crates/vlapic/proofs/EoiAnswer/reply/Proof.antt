@@ -1,26 +1,19 @@
 use borrow.Author.Needs.{needs}
 use Rattle.vlapic.proofs.EoiAnswer.reply.Statement.{statement}
 use Rattle.vlapic.proofs.EoiAnswer.reply.Tie as tie
-use Rattle.vlapic.proofs.EoiAnswer.reply.Reads as reads
-use Rattle.vlapic.proofs.EoiAnswer.reply.Lts as lts
 
--- src/lib.rt:105:34
 enum-known-self : tie.Need-enum-known-self
 enum-known-self c = search needs
 
--- src/lib.rt:105:56
 cast-t4 : tie.Need-cast-t4
 cast-t4 c = search needs
 
--- src/lib.rt:106:35
 enum-told : tie.Need-enum-told
 enum-told c = search needs
 
--- src/lib.rt:101:5
 returns : tie.Need-returns
 returns c = rw (c .before .before .self .given .1)
 
--- src/lib.rt:101:5
 returns-2 : tie.Need-returns-2
 returns-2 c = search needs
 

@@ -1,26 +1,19 @@
 use borrow.Author.Needs.{needs}
 use Rattle.vlapic.proofs.ReadAnswer.reply.Statement.{statement}
 use Rattle.vlapic.proofs.ReadAnswer.reply.Tie as tie
-use Rattle.vlapic.proofs.ReadAnswer.reply.Reads as reads
-use Rattle.vlapic.proofs.ReadAnswer.reply.Lts as lts
 
--- src/lib.rt:117:31
 enum-known-self : tie.Need-enum-known-self
 enum-known-self c = search needs
 
--- src/lib.rt:117:51
 cast-t5 : tie.Need-cast-t5
 cast-t5 c = search needs
 
--- src/lib.rt:118:33
 enum-known-self-2 : tie.Need-enum-known-self-2
 enum-known-self-2 c = search needs
 
--- src/lib.rt:113:5
 returns : tie.Need-returns
 returns c = rw (c .before .self .given .1)
 
--- src/lib.rt:113:5
 returns-2 : tie.Need-returns-2
 returns-2 c = rw (c .before .self2 .given .1)
 

@@ -2,42 +2,29 @@ use Rattle.vlapic.specs.Priority.{acceptInterrupt}
 use borrow.Author.Needs.{needs}
 use Rattle.vlapic.proofs.VirtualApicRegs.accept_interrupt.Statement.{statement}
 use Rattle.vlapic.proofs.VirtualApicRegs.accept_interrupt.Tie as tie
-use Rattle.vlapic.proofs.VirtualApicRegs.accept_interrupt.Reads as reads
-use Rattle.vlapic.proofs.VirtualApicRegs.accept_interrupt.Lts as lts
-use Rattle.vlapic.proofs.VirtualApicRegs.service.Reads as service-reads
-use Rattle.vlapic.proofs.vectors.with.Reads as with-reads
-use Rattle.vlapic.proofs.vectors.without.Reads as without-reads
 
--- src/lib.rt:249:33
 with-requires : tie.Need-with-requires
 with-requires c κs = search needs
 
--- src/lib.rt:249:61
 with-requires-2 : tie.Need-with-requires-2
 with-requires-2 c κs = search needs
 
--- src/lib.rt:249:13
 service-requires : tie.Need-service-requires
 service-requires c κs = search needs
 
--- src/lib.rt:249:13
 returns : tie.Need-returns
 unfolding acceptInterrupt
 returns c = simp (c .service .ensures, c .before .with2 .ensures, c .before .before .with .ensures, c .before .before .before .if1 .taken)
 
--- src/lib.rt:251:22
 with-requires-3 : tie.Need-with-requires-3
 with-requires-3 c κs = search needs
 
--- src/lib.rt:251:50
 without-requires : tie.Need-without-requires
 without-requires c κs = search needs
 
--- src/lib.rt:251:9
 service-requires-2 : tie.Need-service-requires-2
 service-requires-2 c κs = search needs
 
--- src/lib.rt:243:5
 returns-2 : tie.Need-returns-2
 unfolding acceptInterrupt
 returns-2 c = simp (c .service2 .ensures, c .before .without .ensures, c .before .before .with3 .ensures, c .before .before .before .if1 .left)

@@ -1,14 +1,10 @@
 use Rattle.utils.specs.Cases.{cases}
 use Rattle.vlapic.proofs.VirtualApicRegs.dest_field.Statement.{statement}
 use Rattle.vlapic.proofs.VirtualApicRegs.dest_field.Tie as tie
-use Rattle.vlapic.proofs.VirtualApicRegs.dest_field.Reads as reads
-use Rattle.vlapic.proofs.VirtualApicRegs.dest_field.Lts as lts
 
--- src/lib.rt:556:13
 returns : tie.Need-returns
 returns c = search cases
 
--- src/lib.rt:552:5
 returns-2 : tie.Need-returns-2
 returns-2 c = search cases
 

@@ -3,43 +3,30 @@ use Rattle.vlapic.specs.Registers.{handleRead}
 use borrow.Author.Needs.{needs}
 use Rattle.vlapic.proofs.VirtualApicRegs.handle_read.Statement.{statement}
 use Rattle.vlapic.proofs.VirtualApicRegs.handle_read.Tie as tie
-use Rattle.vlapic.proofs.VirtualApicRegs.handle_read.Reads as reads
-use Rattle.vlapic.proofs.VirtualApicRegs.handle_read.Lts as lts
-use Rattle.vlapic.proofs.VirtualApicRegs.read_word.Reads as read-word-reads
-use Rattle.vlapic.proofs.is_eight_from.Reads as is-eight-from-reads
-use Rattle.vlapic.proofs.word_at.Reads as word-at-reads
 
--- src/lib.rt:345:12
 is-eight-from-requires : tie.Need-is-eight-from-requires
 is-eight-from-requires c κs = search needs
 
--- src/lib.rt:347:13
 word-at-requires : tie.Need-word-at-requires
 word-at-requires c κs = search needs
 
--- src/lib.rt:347:13
 returns : tie.Need-returns
 unfolding handleRead
 returns c = search cases
 
--- src/lib.rt:349:12
 is-eight-from-requires-2 : tie.Need-is-eight-from-requires-2
 is-eight-from-requires-2 c κs = search needs
 
--- src/lib.rt:351:13
 word-at-requires-2 : tie.Need-word-at-requires-2
 word-at-requires-2 c κs = search needs
 
--- src/lib.rt:351:13
 returns-2 : tie.Need-returns-2
 unfolding handleRead
 returns-2 c = search cases
 
--- src/lib.rt:353:9
 read-word-requires : tie.Need-read-word-requires
 read-word-requires c κs = search needs
 
--- src/lib.rt:342:5
 returns-3 : tie.Need-returns-3
 unfolding handleRead
 returns-3 c = search cases

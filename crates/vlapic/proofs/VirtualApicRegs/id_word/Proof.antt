@@ -2,18 +2,13 @@ use Rattle.utils.specs.Cases.{cases}
 use borrow.Author.Needs.{needs}
 use Rattle.vlapic.proofs.VirtualApicRegs.id_word.Statement.{statement}
 use Rattle.vlapic.proofs.VirtualApicRegs.id_word.Tie as tie
-use Rattle.vlapic.proofs.VirtualApicRegs.id_word.Reads as reads
-use Rattle.vlapic.proofs.VirtualApicRegs.id_word.Lts as lts
 
--- src/lib.rt:329:13
 returns : tie.Need-returns
 returns c = search cases
 
--- src/lib.rt:331:9
 mul-result : tie.Need-mul-result
 mul-result c = search needs
 
--- src/lib.rt:325:5
 returns-2 : tie.Need-returns-2
 returns-2 c = search cases
 

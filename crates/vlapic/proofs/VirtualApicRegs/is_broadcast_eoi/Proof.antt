@@ -2,19 +2,13 @@ use Rattle.utils.specs.Cases.{cases}
 use borrow.Author.Needs.{needs}
 use Rattle.vlapic.proofs.VirtualApicRegs.is_broadcast_eoi.Statement.{statement}
 use Rattle.vlapic.proofs.VirtualApicRegs.is_broadcast_eoi.Tie as tie
-use Rattle.vlapic.proofs.VirtualApicRegs.is_broadcast_eoi.Reads as reads
-use Rattle.vlapic.proofs.VirtualApicRegs.is_broadcast_eoi.Lts as lts
-use Rattle.vlapic.proofs.vectors.has.Reads as has-reads
 
--- src/lib.rt:259:12
 has-requires : tie.Need-has-requires
 has-requires c κs = search needs
 
--- src/lib.rt:260:13
 returns : tie.Need-returns
 returns c = search cases
 
--- src/lib.rt:255:5
 returns-2 : tie.Need-returns-2
 returns-2 c = search cases
 

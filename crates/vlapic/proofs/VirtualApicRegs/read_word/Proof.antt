@@ -1,84 +1,69 @@
-use Rattle.utils.specs.Cases.{cases}
-use mathlib.Core.Path.{ap}
+use Prim.Native.Nat.{ℕ}
+use mathlib.Core.List.{[], map}
+use mathlib.Core.Path.{sym, ap}
+use Rattle.vlapic.specs.Registers.{readable}
+use Rattle.vlapic.proofs.Offsets.{onto, apart, no-word}
 use Rattle.types.specs.declared.Reply.the-variants.{One}
 use borrow.Author.Needs.{needs}
 use Rattle.vlapic.proofs.VirtualApicRegs.read_word.Statement.{statement}
 use Rattle.vlapic.proofs.VirtualApicRegs.read_word.Tie as tie
-use Rattle.vlapic.proofs.VirtualApicRegs.read_word.Reads as reads
-use Rattle.vlapic.proofs.VirtualApicRegs.read_word.Lts as lts
-use Rattle.vlapic.proofs.VirtualApicRegs.id_word.Reads as id-word-reads
 
--- src/lib.rt:354:45
 id-word-requires : tie.Need-id-word-requires
 id-word-requires c κs = search needs
 
--- src/lib.rt:350:5
 returns : tie.Need-returns
 returns c = rw (c .before .match .keys1) (ap One (c .id-word .ensures))
 
--- src/lib.rt:350:5
 returns-2 : tie.Need-returns-2
 returns-2 c = rw (c .match .keys2)
 
--- src/lib.rt:350:5
 returns-3 : tie.Need-returns-3
 returns-3 c = rw (c .match .keys3)
 
--- src/lib.rt:350:5
 returns-4 : tie.Need-returns-4
 returns-4 c = rw (c .match .keys4)
 
--- src/lib.rt:350:5
 returns-5 : tie.Need-returns-5
 returns-5 c = rw (c .match .keys5)
 
--- src/lib.rt:350:5
 returns-6 : tie.Need-returns-6
 returns-6 c = rw (c .match .keys6)
 
--- src/lib.rt:350:5
 returns-7 : tie.Need-returns-7
 returns-7 c = rw (c .match .keys7)
 
--- src/lib.rt:350:5
 returns-8 : tie.Need-returns-8
 returns-8 c = rw (c .match .keys8)
 
--- src/lib.rt:350:5
 returns-9 : tie.Need-returns-9
 returns-9 c = rw (c .match .keys9)
 
--- src/lib.rt:350:5
 returns-10 : tie.Need-returns-10
 returns-10 c = rw (c .match .keys10)
 
--- src/lib.rt:350:5
 returns-11 : tie.Need-returns-11
 returns-11 c = rw (c .match .keys11)
 
--- src/lib.rt:350:5
 returns-12 : tie.Need-returns-12
 returns-12 c = rw (c .match .keys12)
 
--- src/lib.rt:350:5
 returns-13 : tie.Need-returns-13
 returns-13 c = rw (c .match .keys13)
 
--- src/lib.rt:350:5
 returns-14 : tie.Need-returns-14
 returns-14 c = rw (c .match .keys14)
 
--- src/lib.rt:350:5
 returns-15 : tie.Need-returns-15
 returns-15 c = rw (c .match .keys15)
 
--- src/lib.rt:350:5
 returns-16 : tie.Need-returns-16
 returns-16 c = rw (c .match .keys16)
 
--- src/lib.rt:350:5
 returns-17 : tie.Need-returns-17
-returns-17 c = search cases
+returns-17 c =
+    let o = c .before .args .offset in
+    let l = readable (c .before .args .self) in
+    sym (no-word o l (apart o (onto (map (λ (r : ℕ × ℕ). r .0) l) []) [] (c .match .rest)))
 
 pub read-word-spec : {M : Type 1} → statement M
 read-word-spec =

@@ -6,41 +6,28 @@ use Rattle.vlapic.specs.Calls.{setup}
 use borrow.Author.Needs.{needs}
 use Rattle.vlapic.proofs.VirtualApicRegs.setup.Statement.{statement}
 use Rattle.vlapic.proofs.VirtualApicRegs.setup.Tie as tie
-use Rattle.vlapic.proofs.VirtualApicRegs.setup.Reads as reads
-use Rattle.vlapic.proofs.VirtualApicRegs.setup.Lts as lts
-use Rattle.vlapic.proofs.VirtualApicRegs.ok.Reads as ok-reads
-use Rattle.vlapic.proofs.VirtualApicRegs.refuse.Reads as refuse-reads
-use Rattle.vlapic.proofs.is_out_of_range.Reads as is-out-of-range-reads
-use Rattle.vlapic.proofs.reset.Reads as reset-reads
 
--- src/lib.rt:193:12
 is-out-of-range-requires : tie.Need-is-out-of-range-requires
 is-out-of-range-requires c κs = search needs
 
--- src/lib.rt:194:13
 refuse-requires : tie.Need-refuse-requires
 refuse-requires c κs = search needs
 
--- src/lib.rt:194:13
 returns : tie.Need-returns
 unfolding setup
 returns c = search cases
 
--- src/lib.rt:196:23
 cast-reset : tie.Need-cast-reset
 cast-reset c =
     let r = c .before .is-out-of-range in
     record { fits = omega (arith, in-range (c .before .before .args .vcpu-num) (c .before .before .args .vcpu-id .0) (sym (r .ensures) ∙ c .if1 .left) .1) }
 
--- src/lib.rt:196:9
 reset-requires : tie.Need-reset-requires
 reset-requires c κs = search needs
 
--- src/lib.rt:196:9
 ok-requires : tie.Need-ok-requires
 ok-requires c κs = search needs
 
--- src/lib.rt:189:5
 returns-2 : tie.Need-returns-2
 unfolding setup
 returns-2 c = rw (← c .before .reset .ensures) (search cases)

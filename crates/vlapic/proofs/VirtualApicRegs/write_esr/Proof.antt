@@ -2,10 +2,7 @@ use mathlib.Core.Path.{refl}
 use Rattle.vlapic.specs.Registers.{stored}
 use Rattle.vlapic.proofs.VirtualApicRegs.write_esr.Statement.{statement}
 use Rattle.vlapic.proofs.VirtualApicRegs.write_esr.Tie as tie
-use Rattle.vlapic.proofs.VirtualApicRegs.write_esr.Reads as reads
-use Rattle.vlapic.proofs.VirtualApicRegs.write_esr.Lts as lts
 
--- src/lib.rt:430:5
 returns : tie.Need-returns
 unfolding stored
 returns c = refl

@@ -1,59 +1,47 @@
+use mathlib.Core.Path.{ap, _∙_}
+use Rattle.utils.specs.Cases.{cond-yes, cond-no}
+use Rattle.vlapic.specs.Icr.{command}
+use Rattle.vlapic.specs.declared.VirtualApicRegs.{VirtualApicRegs}
+use borrow.Author.Tests.{eq-eqb, ne-eqb}
 use borrow.Author.Needs.{needs}
 use Rattle.vlapic.proofs.VirtualApicRegs.write_icr_low.Statement.{statement}
 use Rattle.vlapic.proofs.VirtualApicRegs.write_icr_low.Tie as tie
-use Rattle.vlapic.proofs.VirtualApicRegs.write_icr_low.Reads as reads
-use Rattle.vlapic.proofs.VirtualApicRegs.write_icr_low.Lts as lts
-use Rattle.vlapic.proofs.VirtualApicRegs.put_icr.Reads as put-icr-reads
-use Rattle.vlapic.proofs.VirtualApicRegs.refuse.Reads as refuse-reads
-use Rattle.vlapic.proofs.VirtualApicRegs.write_icr.Reads as write-icr-reads
 
--- src/lib.rt:659:18
 cast-lo : tie.Need-cast-lo
 cast-lo c = search needs
 
--- src/lib.rt:662:26
 cast-hi : tie.Need-cast-hi
 cast-hi c = search needs
 
--- src/lib.rt:663:24
 put-icr-requires : tie.Need-put-icr-requires
 put-icr-requires c κs = search needs
 
--- src/lib.rt:663:17
 write-icr-requires : tie.Need-write-icr-requires
-write-icr-requires c κs = ?
+write-icr-requires c κs = rw (c .put-icr .ensures) (c .before .before .before .pre)
 
--- src/lib.rt:663:17
 returns : tie.Need-returns
-returns c = ?
+returns c = cond-yes _ _ _ _ _ (c .before .before .before .if1 .taken) (cond-yes _ _ _ _ _ (eq-eqb _ _ (c .before .before .if2 .taken)) (c .write-icr .ensures ∙ ap (λ (r : VirtualApicRegs). command r (c .before .before .before .before .args .vcpu-num) (c .before .before .before .before .args .active-vcpus)) (c .before .put-icr .ensures)))
 
--- src/lib.rt:665:13
 refuse-requires : tie.Need-refuse-requires
 refuse-requires c κs = search needs
 
--- src/lib.rt:665:13
 returns-2 : tie.Need-returns-2
-returns-2 c = ?
+returns-2 c = cond-yes _ _ _ _ _ (c .before .before .if1 .taken) (cond-no _ _ _ _ _ (ne-eqb _ _ (c .before .if2 .left)) (c .refuse .ensures))
 
--- src/lib.rt:668:13
 refuse-requires-2 : tie.Need-refuse-requires-2
 refuse-requires-2 c κs = search needs
 
--- src/lib.rt:668:13
 returns-3 : tie.Need-returns-3
-returns-3 c = ?
+returns-3 c = cond-no _ _ _ _ _ (c .before .before .if1 .left) (cond-yes _ _ _ _ _ (eq-eqb _ _ (c .before .if3 .taken)) (c .refuse2 .ensures))
 
--- src/lib.rt:670:9
 put-icr-requires-2 : tie.Need-put-icr-requires-2
 put-icr-requires-2 c κs = search needs
 
--- src/lib.rt:670:9
 write-icr-requires-2 : tie.Need-write-icr-requires-2
-write-icr-requires-2 c κs = ?
+write-icr-requires-2 c κs = rw (c .put-icr2 .ensures) (c .before .before .before .pre)
 
--- src/lib.rt:655:5
 returns-4 : tie.Need-returns-4
-returns-4 c = ?
+returns-4 c = cond-no _ _ _ _ _ (c .before .before .before .if1 .left) (cond-no _ _ _ _ _ (ne-eqb _ _ (c .before .before .if3 .left)) (c .write-icr2 .ensures ∙ ap (λ (r : VirtualApicRegs). command r (c .before .before .before .before .args .vcpu-num) (c .before .before .before .before .args .active-vcpus)) (c .before .put-icr2 .ensures)))
 
 pub write-icr-low-spec : {M : Type 1} → statement M
 write-icr-low-spec =

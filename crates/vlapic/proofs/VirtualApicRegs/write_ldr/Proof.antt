@@ -3,14 +3,10 @@ use Rattle.vlapic.specs.Registers.{stored}
 use borrow.Author.Needs.{needs}
 use Rattle.vlapic.proofs.VirtualApicRegs.write_ldr.Statement.{statement}
 use Rattle.vlapic.proofs.VirtualApicRegs.write_ldr.Tie as tie
-use Rattle.vlapic.proofs.VirtualApicRegs.write_ldr.Reads as reads
-use Rattle.vlapic.proofs.VirtualApicRegs.write_ldr.Lts as lts
 
--- src/lib.rt:411:20
 mul-self : tie.Need-mul-self
 mul-self c = search needs
 
--- src/lib.rt:408:5
 returns : tie.Need-returns
 unfolding stored
 returns c = refl

@@ -1,115 +1,84 @@
+use borrow.Author.Tests.{ne-eqb}
 use Rattle.vlapic.specs.Registers.{stored, writeStored}
-use Rattle.utils.specs.Cases.{cases}
 use borrow.Author.Needs.{needs}
 use Rattle.vlapic.proofs.VirtualApicRegs.write_register.Statement.{statement}
 use Rattle.vlapic.proofs.VirtualApicRegs.write_register.Tie as tie
-use Rattle.vlapic.proofs.VirtualApicRegs.write_register.Reads as reads
-use Rattle.vlapic.proofs.VirtualApicRegs.write_register.Lts as lts
-use Rattle.vlapic.proofs.VirtualApicRegs.in_xapic.Reads as in-xapic-reads
-use Rattle.vlapic.proofs.VirtualApicRegs.ok.Reads as ok-reads
-use Rattle.vlapic.proofs.VirtualApicRegs.write_dfr.Reads as write-dfr-reads
-use Rattle.vlapic.proofs.VirtualApicRegs.write_esr.Reads as write-esr-reads
-use Rattle.vlapic.proofs.VirtualApicRegs.write_icr_hi.Reads as write-icr-hi-reads
-use Rattle.vlapic.proofs.VirtualApicRegs.write_ldr.Reads as write-ldr-reads
-use Rattle.vlapic.proofs.VirtualApicRegs.write_lvt.Reads as write-lvt-reads
-use Rattle.vlapic.proofs.VirtualApicRegs.write_svr.Reads as write-svr-reads
-use Rattle.vlapic.proofs.VirtualApicRegs.write_tpr.Reads as write-tpr-reads
 
--- src/lib.rt:498:27
 ok-requires : tie.Need-ok-requires
 ok-requires c κs = search needs
 
--- src/lib.rt:499:28
 write-tpr-requires : tie.Need-write-tpr-requires
 write-tpr-requires c κs = search needs
 
--- src/lib.rt:499:28
 ok-requires-2 : tie.Need-ok-requires-2
 ok-requires-2 c κs = search needs
 
--- src/lib.rt:500:42
 write-ldr-requires : tie.Need-write-ldr-requires
 write-ldr-requires c κs = search needs
 
--- src/lib.rt:500:28
 in-xapic-requires : tie.Need-in-xapic-requires
 in-xapic-requires c κs = search needs
 
--- src/lib.rt:501:42
 write-dfr-requires : tie.Need-write-dfr-requires
 write-dfr-requires c κs = search needs
 
--- src/lib.rt:501:28
 in-xapic-requires-2 : tie.Need-in-xapic-requires-2
 in-xapic-requires-2 c κs = search needs
 
--- src/lib.rt:502:29
 write-svr-requires : tie.Need-write-svr-requires
 write-svr-requires c κs = search needs
 
--- src/lib.rt:502:29
 ok-requires-3 : tie.Need-ok-requires-3
 ok-requires-3 c κs = search needs
 
--- src/lib.rt:503:28
 write-esr-requires : tie.Need-write-esr-requires
 write-esr-requires c κs = search needs
 
--- src/lib.rt:503:28
 ok-requires-4 : tie.Need-ok-requires-4
 ok-requires-4 c κs = search needs
 
--- src/lib.rt:504:45
 write-icr-hi-requires : tie.Need-write-icr-hi-requires
 write-icr-hi-requires c κs = search needs
 
--- src/lib.rt:504:31
 in-xapic-requires-3 : tie.Need-in-xapic-requires-3
 in-xapic-requires-3 c κs = search needs
 
--- src/lib.rt:505:18
 write-lvt-requires : tie.Need-write-lvt-requires
 write-lvt-requires c κs = search needs
 
--- src/lib.rt:493:5
 returns : tie.Need-returns
 unfolding writeStored stored
 returns c = rw (c .before .match .keys1) (c .ok .ensures)
 
--- src/lib.rt:493:5
 returns-2 : tie.Need-returns-2
 unfolding writeStored
 returns-2 c = rw (c .before .before .match .keys2, ← c .before .write-tpr .ensures) (c .ok2 .ensures)
 
--- src/lib.rt:493:5
 returns-3 : tie.Need-returns-3
 unfolding writeStored
 returns-3 c = rw (c .before .before .match .keys3, ← c .before .write-ldr .ensures) (c .in-xapic .ensures)
 
--- src/lib.rt:493:5
 returns-4 : tie.Need-returns-4
 unfolding writeStored
 returns-4 c = rw (c .before .before .match .keys4, ← c .before .write-dfr .ensures) (c .in-xapic2 .ensures)
 
--- src/lib.rt:493:5
 returns-5 : tie.Need-returns-5
 unfolding writeStored
 returns-5 c = rw (c .before .before .match .keys5, ← c .before .write-svr .ensures) (c .ok3 .ensures)
 
--- src/lib.rt:493:5
 returns-6 : tie.Need-returns-6
 unfolding writeStored
 returns-6 c = rw (c .before .before .match .keys6, ← c .before .write-esr .ensures) (c .ok4 .ensures)
 
--- src/lib.rt:493:5
 returns-7 : tie.Need-returns-7
 unfolding writeStored
 returns-7 c = rw (c .before .before .match .keys7, ← c .before .write-icr-hi .ensures) (c .in-xapic3 .ensures)
 
--- src/lib.rt:493:5
 returns-8 : tie.Need-returns-8
 unfolding writeStored
-returns-8 c = ?
+returns-8 c =
+    let r = c .before .match .rest in
+    rw (ne-eqb _ _ (r .1), ne-eqb _ _ (r .0 .1), ne-eqb _ _ (r .0 .0 .1), ne-eqb _ _ (r .0 .0 .0 .1), ne-eqb _ _ (r .0 .0 .0 .0 .1), ne-eqb _ _ (r .0 .0 .0 .0 .0 .1), ne-eqb _ _ (r .0 .0 .0 .0 .0 .0 .1)) (c .write-lvt .ensures)
 
 pub write-register-spec : {M : Type 1} → statement M
 write-register-spec =

@@ -2,38 +2,28 @@ use Rattle.utils.specs.Cases.{cases}
 use borrow.Author.Needs.{needs}
 use Rattle.vlapic.proofs.WriteAnswer.reply.Statement.{statement}
 use Rattle.vlapic.proofs.WriteAnswer.reply.Tie as tie
-use Rattle.vlapic.proofs.WriteAnswer.reply.Reads as reads
-use Rattle.vlapic.proofs.WriteAnswer.reply.Lts as lts
 
--- src/lib.rt:127:34
 enum-told : tie.Need-enum-told
 enum-told c = search needs
 
--- src/lib.rt:128:32
 enum-known-self : tie.Need-enum-known-self
 enum-known-self c = search needs
 
--- src/lib.rt:128:69
 cast-t7 : tie.Need-cast-t7
 cast-t7 c = search needs
 
--- src/lib.rt:128:82
 cast-t8 : tie.Need-cast-t8
 cast-t8 c = search needs
 
--- src/lib.rt:129:34
 enum-known-self-2 : tie.Need-enum-known-self-2
 enum-known-self-2 c = search needs
 
--- src/lib.rt:123:5
 returns : tie.Need-returns
 returns c = search needs
 
--- src/lib.rt:123:5
 returns-2 : tie.Need-returns-2
 returns-2 c = rw (c .before .before .self .given .1)
 
--- src/lib.rt:123:5
 returns-3 : tie.Need-returns-3
 returns-3 c = rw (c .before .self2 .given .1)
 

@@ -1,14 +1,10 @@
 use Rattle.utils.specs.Cases.{cases}
 use Rattle.vlapic.proofs.icr.is_reserved_mode.Statement.{statement}
 use Rattle.vlapic.proofs.icr.is_reserved_mode.Tie as tie
-use Rattle.vlapic.proofs.icr.is_reserved_mode.Reads as reads
-use Rattle.vlapic.proofs.icr.is_reserved_mode.Lts as lts
 
--- src/icr.rt:51:9
 returns : tie.Need-returns
 returns c = search cases
 
--- src/icr.rt:46:1
 returns-2 : tie.Need-returns-2
 returns-2 c = search cases
 

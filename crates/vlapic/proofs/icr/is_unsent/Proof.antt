@@ -1,14 +1,10 @@
 use Rattle.utils.specs.Cases.{cases}
 use Rattle.vlapic.proofs.icr.is_unsent.Statement.{statement}
 use Rattle.vlapic.proofs.icr.is_unsent.Tie as tie
-use Rattle.vlapic.proofs.icr.is_unsent.Reads as reads
-use Rattle.vlapic.proofs.icr.is_unsent.Lts as lts
 
--- src/icr.rt:96:9
 returns : tie.Need-returns
 returns c = search cases
 
--- src/icr.rt:91:1
 returns-2 : tie.Need-returns-2
 returns-2 c = search cases
 

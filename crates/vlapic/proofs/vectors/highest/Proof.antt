@@ -5,8 +5,6 @@ use borrow.Author.Tests.{eq-eqb, ne-eqb}
 use Rattle.vlapic.proofs.Highest.{Left, start, moved, passed, found, empty, ended}
 use Rattle.vlapic.proofs.vectors.highest.Statement.{statement}
 use Rattle.vlapic.proofs.vectors.highest.Tie as tie
-use Rattle.vlapic.proofs.vectors.highest.Reads as reads
-use Rattle.vlapic.proofs.vectors.highest.Lts as lts
 
 abbrev Inv-loop : tie.InvT-loop
 Inv-loop words word held bit₀ bit = (bit ≤ 32) × Left words (word * 32 + bit)
@@ -20,83 +18,64 @@ Inv-search words word₀ word = (1 ≤ word) × (word ≤ 8) × Left words (word
 abbrev μ-search : tie.MeasureT-search
 μ-search words word₀ word = word
 
--- src/vectors.rt:18:5
 search-holds : tie.Need-search-holds Inv-loop μ-loop Inv-search μ-search
 search-holds c = (search needs, search needs, start _)
 
--- src/vectors.rt:22:9
 sub-word : tie.Need-sub-word Inv-loop μ-loop Inv-search μ-search
 sub-word c = search needs
 
--- src/vectors.rt:23:20
 mul-held : tie.Need-mul-held Inv-loop μ-loop Inv-search μ-search
 mul-held c = search needs
 
--- src/vectors.rt:23:20
 array-read-held : tie.Need-array-read-held Inv-loop μ-loop Inv-search μ-search
 array-read-held c = search needs
 
--- src/vectors.rt:18:5
 search-less : tie.Need-search-less Inv-loop μ-loop Inv-search μ-search
 search-less c = search needs
 
--- src/vectors.rt:18:5
 search-again : tie.Need-search-again Inv-loop μ-loop Inv-search μ-search
 search-again c =
     let s = c .before .before .search in
     (omega arith, omega arith, empty _ (s .word - 1) (s .inv .2) (omega arith) (omega arith) (c .if2 .taken))
 
--- src/vectors.rt:28:9
 loop-holds : tie.Need-loop-holds Inv-loop μ-loop Inv-search μ-search
 loop-holds c = (omega arith, moved (c .before .before .search .inv .2) (omega arith))
 
--- src/vectors.rt:18:5
 search-less-2 : tie.Need-search-less-2 Inv-loop μ-loop Inv-search μ-search
 search-less-2 c = search needs
 
--- src/vectors.rt:18:5
 search-again-2 : tie.Need-search-again-2 Inv-loop μ-loop Inv-search μ-search
 search-again-2 c = (omega arith, omega arith, moved (c .before .loop .inv .1) (omega arith))
 
--- src/vectors.rt:29:13
 sub-bit : tie.Need-sub-bit Inv-loop μ-loop Inv-search μ-search
 sub-bit c = search needs
 
--- src/vectors.rt:30:17
 shr-if3 : tie.Need-shr-if3 Inv-loop μ-loop Inv-search μ-search
 shr-if3 c = search needs
 
--- src/vectors.rt:31:32
 cast-result : tie.Need-cast-result Inv-loop μ-loop Inv-search μ-search
 cast-result c = search needs
 
--- src/vectors.rt:31:31
 mul-result : tie.Need-mul-result Inv-loop μ-loop Inv-search μ-search
 mul-result c = search needs
 
--- src/vectors.rt:31:51
 cast-result-2 : tie.Need-cast-result-2 Inv-loop μ-loop Inv-search μ-search
 cast-result-2 c = search needs
 
--- src/vectors.rt:31:31
 add-result : tie.Need-add-result Inv-loop μ-loop Inv-search μ-search
 add-result c = search needs
 
--- src/vectors.rt:28:9
 loop-less : tie.Need-loop-less Inv-loop μ-loop Inv-search μ-search
 loop-less c = search needs
 
--- src/vectors.rt:28:9
 loop-again : tie.Need-loop-again Inv-loop μ-loop Inv-search μ-search
 loop-again c =
     let l = c .before .before .loop in
     (omega arith, passed _ _ (l .bit - 1) (l .inv .1) (omega arith) (omega arith) (omega arith) (ne-eqb _ _ (c .if3 .left)))
 
--- src/vectors.rt:14:1
 returns : tie.Need-returns Inv-loop μ-loop Inv-search μ-search
 returns c = ended _ (c .before .search .inv .2) (omega arith)
 
--- src/vectors.rt:14:1
 returns-2 : tie.Need-returns-2 Inv-loop μ-loop Inv-search μ-search
 returns-2 c =
     let l = c .before .before .loop in

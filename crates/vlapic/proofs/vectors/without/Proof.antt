@@ -1,40 +1,28 @@
 use borrow.Author.Needs.{needs}
 use Rattle.vlapic.proofs.vectors.without.Statement.{statement}
 use Rattle.vlapic.proofs.vectors.without.Tie as tie
-use Rattle.vlapic.proofs.vectors.without.Reads as reads
-use Rattle.vlapic.proofs.vectors.without.Lts as lts
-use Rattle.utils.proofs.extract_index_and_bitpos_u32.Reads as extract-index-and-bitpos-u32-reads
-use Rattle.utils.proofs.set32.without.Reads as without-reads
 
--- src/vectors.rt:58:50
 cast-extract-index-and-bitpos-u32 : tie.Need-cast-extract-index-and-bitpos-u32
 cast-extract-index-and-bitpos-u32 c = search needs
 
--- src/vectors.rt:58:9
 extract-index-and-bitpos-u32-requires : tie.Need-extract-index-and-bitpos-u32-requires
 extract-index-and-bitpos-u32-requires c κs = search needs
 
--- src/vectors.rt:60:38
 mul-without : tie.Need-mul-without
 mul-without c = search needs
 
--- src/vectors.rt:60:38
 array-read-without : tie.Need-array-read-without
 array-read-without c = search needs
 
--- src/vectors.rt:60:9
 without-requires : tie.Need-without-requires
 without-requires c κs = search needs
 
--- src/vectors.rt:61:5
 mul-words : tie.Need-mul-words
 mul-words c = search needs
 
--- src/vectors.rt:61:5
 array-write-words : tie.Need-array-write-words
 array-write-words c = search needs
 
--- src/vectors.rt:55:1
 returns : tie.Need-returns
 returns c = simp (c .without .ensures, c .before .extract-index-and-bitpos-u32 .ensures .0, c .before .extract-index-and-bitpos-u32 .ensures .1)
 
