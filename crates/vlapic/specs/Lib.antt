@@ -1,7 +1,5 @@
-pub mod Vectors
 pub mod Regs
 pub mod Answers
 pub mod Priority
 pub mod Registers
-pub mod Icr
 pub mod Calls

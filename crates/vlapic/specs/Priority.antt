@@ -10,7 +10,7 @@ use Rattle.types.specs.declared.Vector.{Vector}
 use Rattle.types.specs.declared.Reply.the-variants.{Nothing, One}
 use Rattle.types.specs.Reply.{Outcome}
 use Rattle.vlapic.specs.declared.VirtualApicRegs.{VirtualApicRegs}
-use Rattle.vlapic.specs.Vectors.{inWords, withVector, withoutVector, highestFrom}
+use Rattle.vlapic_regs.specs.Vectors.{inWords, withVector, withoutVector, highestFrom}
 use Rattle.vlapic.specs.Regs.{servicing}
 use Rattle.vlapic.specs.Answers.{done}
 

@@ -10,6 +10,7 @@ use Rattle.types.specs.declared.Reply.{Reply}
 use Rattle.types.specs.declared.Reply.the-variants.{Refused, One}
 use Rattle.types.specs.Reply.{Outcome}
 use Rattle.vlapic.specs.declared.VirtualApicRegs.{VirtualApicRegs}
+use Rattle.vlapic_regs.specs.Lvt.{lvtTimer, lvtError, lvtPin, lvtMonitor}
 use Rattle.vlapic.specs.Answers.{done, refused}
 
 -- ---- reading
@@ -58,19 +59,6 @@ handleRead s offset =
 
 -- ---- writing
 
--- an LVT entry keeps the bits that it has: vector 0-7, delivery mode 8-10, delivery status 12, polarity 13, remote IRR 14, trigger mode 15, mask 16, timer mode 17-18
-abbrev pub lvtTimer : ℕ → ℕ
-lvtTimer v = v % 0x100 + v / 0x1000 % 2 * 0x1000 + v / 0x10000 % 8 * 0x10000
-
-abbrev pub lvtError : ℕ → ℕ
-lvtError v = v % 0x100 + v / 0x1000 % 2 * 0x1000 + v / 0x10000 % 2 * 0x10000
-
-abbrev pub lvtPin : ℕ → ℕ
-lvtPin v = v % 0x800 + v / 0x1000 % 32 * 0x1000
-
-abbrev pub lvtMonitor : ℕ → ℕ
-lvtMonitor v = v % 0x800 + v / 0x1000 % 2 * 0x1000 + v / 0x10000 % 2 * 0x10000
-
 -- in LDR and in the ICR's high word the top byte, in DFR the top four bits
 abbrev pub topByte : ℕ → ℕ
 topByte v = v / 0x1000000 * 0x1000000
@@ -113,7 +101,7 @@ stored s offset v = record {
   «icr_lo» = s .«icr_lo»;
   «icr_hi» = on offset 0x310 (topByte v) (s .«icr_hi»);
   «lvt_cmci» = on offset 0x2f0 (lvtMonitor v) (s .«lvt_cmci»);
-  «lvt_timer» = on offset 0x320 (lvtTimer v) (s .«lvt_timer»);  -- D-71: read-only bits (12, 14) are stored
+  «lvt_timer» = on offset 0x320 (lvtTimer v) (s .«lvt_timer»);
   «lvt_thermal» = on offset 0x330 (lvtMonitor v) (s .«lvt_thermal»);
   «lvt_pmi» = on offset 0x340 (lvtMonitor v) (s .«lvt_pmi»);
   «lvt_lint0» = on offset 0x350 (lvtPin v) (s .«lvt_lint0»);

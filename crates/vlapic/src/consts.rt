@@ -51,9 +51,5 @@ pub const RESET_LVT_REG: u32 = 0x10000;
 
 pub const RESET_SPURIOUS_INTERRUPT_VECTOR: u32 = 0xff;
 
-pub const XAPIC_BROADCAST_DEST_ID: u32 = 0xff;
-
-pub const X2APIC_BROADCAST_DEST_ID: u32 = 0xffffffff;
-
 // The error status register's bit "send illegal vector".
 pub const SEND_ILLEGAL_VECTOR: u32 = 5;

@@ -9,24 +9,25 @@
 
 ghost use mathlib.Core.Path.{_≡_};
 ghost use mathlib.Core.Bool.{false, not, cond};
-ghost use Prim.Native.Nat.{_<_, _≤_, _%_};
+ghost use Prim.Native.Nat.{_<_, _≤_};
 ghost use Rattle.types.specs.declared.Refusal.the-variants.{InvalidRegister};
 ghost use Rattle.types.specs.declared.Reply.the-variants.{One};
-ghost use Rattle.vlapic.specs.Regs.{start, servicing, withError, withCommand};
+ghost use Rattle.vlapic.specs.Regs.{start, servicing, withError};
 ghost use Rattle.vlapic.specs.Answers.{eoiReply, readReply, writeReply, acceptOutcome, eoiOutcome, writeOutcome, done, refused};
 ghost use Rattle.vlapic.specs.Priority.{findIsrv, priority, updatePpr, acceptInterrupt, broadcasts, handleEoi};
-ghost use Rattle.vlapic.specs.Registers.{idWord, readable, wordAt, eightFrom, eightAt, handleRead, lvtTimer, lvtError, lvtPin, lvtMonitor, lvtEntries, listed, stored, writeStored};
-ghost use Rattle.vlapic.specs.Icr.{idle, share, matching, inCluster, destField, isBroadcast, destFieldMatched, logicalDest, physicalDest, destNoShorthand, calculateDest, send, deliver, command, selfIpi};
-ghost use Rattle.vlapic.specs.Calls.{outOfRange, setup, writeIcr, handleWrite};
+ghost use Rattle.vlapic.specs.Registers.{idWord, readable, wordAt, eightFrom, eightAt, handleRead, lvtEntries, listed, stored, writeStored};
+ghost use Rattle.vlapic.specs.Calls.{outOfRange, setup, answered, writeIcr, writeIcrLow, writeSelfIpi, handleWrite};
 
 mod consts;
-mod icr;
-mod vectors;
 
 use types::Refusal;
 use types::Reply;
 use types::VcpuId;
 use types::Vector;
+use vlapic_icr::IcrAnswer;
+use vlapic_icr::InterruptCommand;
+use vlapic_regs::lvt;
+use vlapic_regs::vectors;
 
 // The registers of one vCPU's local APIC.
 pub struct VirtualApicRegs {
@@ -83,19 +84,6 @@ pub enum WriteAnswer {
 pub struct Written {
     pub regs: VirtualApicRegs,
     pub answer: WriteAnswer,
-}
-
-// Whether a logical destination is this APIC's.
-pub enum DestMatch {
-    Matched,
-    Unmatched,
-    ReservedModel,
-}
-
-// The vCPUs that an interrupt command names.
-pub enum Dest {
-    Mask(u64),
-    Refused(Refusal),
 }
 
 impl EoiAnswer {
@@ -376,31 +364,6 @@ impl VirtualApicRegs {
     }
 }
 
-// What a local vector table entry keeps of a value: vector, delivery status, mask, and what the entry has besides.
-fn lvt_timer(val: u32) -> u32
-    ensures { λ r. ⌜ r ≡ lvtTimer val ⌝ }
-{
-    val % 0x100 + val / 0x1000 % 2 * 0x1000 + val / 0x10000 % 8 * 0x10000
-}
-
-fn lvt_error(val: u32) -> u32
-    ensures { λ r. ⌜ r ≡ lvtError val ⌝ }
-{
-    val % 0x100 + val / 0x1000 % 2 * 0x1000 + val / 0x10000 % 2 * 0x10000
-}
-
-fn lvt_pin(val: u32) -> u32
-    ensures { λ r. ⌜ r ≡ lvtPin val ⌝ }
-{
-    val % 0x800 + val / 0x1000 % 32 * 0x1000
-}
-
-fn lvt_monitor(val: u32) -> u32
-    ensures { λ r. ⌜ r ≡ lvtMonitor val ⌝ }
-{
-    val % 0x800 + val / 0x1000 % 2 * 0x1000 + val / 0x10000 % 2 * 0x10000
-}
-
 impl VirtualApicRegs {
     fn write_tpr(mut self, val: u32) -> VirtualApicRegs
         ensures { λ r. ⌜ r ≡ stored self 0x80 val ⌝ }
@@ -452,31 +415,31 @@ impl VirtualApicRegs {
     {
         match offset {
             consts::LVT_CMCI => {
-                self.lvt_cmci = lvt_monitor(val);
+                self.lvt_cmci = lvt::monitor(val);
                 self.ok()
             }
             consts::LVT_TIMER => {
-                self.lvt_timer = lvt_timer(val);
+                self.lvt_timer = lvt::timer(val);
                 self.ok()
             }
             consts::LVT_THERMAL => {
-                self.lvt_thermal = lvt_monitor(val);
+                self.lvt_thermal = lvt::monitor(val);
                 self.ok()
             }
             consts::LVT_PMC => {
-                self.lvt_pmi = lvt_monitor(val);
+                self.lvt_pmi = lvt::monitor(val);
                 self.ok()
             }
             consts::LVT_LINT0 => {
-                self.lvt_lint0 = lvt_pin(val);
+                self.lvt_lint0 = lvt::pin(val);
                 self.ok()
             }
             consts::LVT_LINT1 => {
-                self.lvt_lint1 = lvt_pin(val);
+                self.lvt_lint1 = lvt::pin(val);
                 self.ok()
             }
             consts::LVT_ERR => {
-                self.lvt_error = lvt_error(val);
+                self.lvt_error = lvt::error(val);
                 self.ok()
             }
             _ => self.refuse(Refusal::InvalidRegister),
@@ -519,186 +482,65 @@ impl VirtualApicRegs {
         self
     }
 
-    fn vcpu_id(self) -> VcpuId
-        ensures { λ r. ⌜ r .0 ≡ self .«vapic_id» ⌝ }
+    // What becomes of an interrupt command.
+    fn answer(self, answer: IcrAnswer) -> Written
+        ensures { λ r. ⌜ writeOutcome r ≡ answered self answer ⌝ }
     {
-        VcpuId(self.vapic_id as usize)
-    }
-
-    // The logical destination against this APIC's own LDR and DFR.
-    fn is_dest_field_matched(self, dest: u32) -> DestMatch
-        ensures { λ r. ⌜ r ≡ destFieldMatched self dest ⌝ }
-    {
-        if self.x2apic {
-            return DestMatch::Matched;
-        }
-        let model = self.dfr / 0x10000000;
-        if model == 15 {
-            return matching(share8(self.ldr / 0x1000000, dest % 256));
-        }
-        if model == 0 {
-            return matching(self.is_in_cluster(dest));
-        }
-        DestMatch::ReservedModel
-    }
-
-    fn is_in_cluster(self, dest: u32) -> bool
-        ensures { λ r. ⌜ r ≡ inCluster (self .ldr) dest ⌝ }
-    {
-        let cluster = dest / 16 % 16;
-        if self.ldr / 0x10000000 == cluster {
-            return share4(self.ldr / 0x1000000 % 16, dest % 16);
-        }
-        false
-    }
-
-    // The destination that stands in the command.
-    fn dest_field(self) -> u32
-        ensures { λ r. ⌜ r ≡ destField self ⌝ }
-    {
-        if self.x2apic {
-            return self.icr_hi;
-        }
-        self.icr_hi / 0x1000000
-    }
-
-    fn is_broadcast(self) -> bool
-        ensures { λ r. ⌜ r ≡ isBroadcast self ⌝ }
-    {
-        if self.x2apic {
-            return self.icr_hi == consts::X2APIC_BROADCAST_DEST_ID;
-        }
-        self.icr_hi / 0x1000000 == consts::XAPIC_BROADCAST_DEST_ID
-    }
-
-    fn calculate_dest_no_shorthand(self, vcpu_num: usize, active_vcpus: u64) -> Dest
-        requires { ⌜ «vcpu_num» ≤ 64 ⌝ }
-        ensures { λ r. ⌜ r ≡ destNoShorthand self «vcpu_num» «active_vcpus» ⌝ }
-    {
-        if self.is_broadcast() {
-            return Dest::Mask(active_vcpus);
-        }
-        let dest = self.dest_field();
-        if icr::is_logical(self.icr_lo) {
-            return logical_dest(self.is_dest_field_matched(dest), vcpu_num, active_vcpus);
-        }
-        physical_dest(dest)
-    }
-
-    fn calculate_dest(self, vcpu_num: usize, active_vcpus: u64) -> Dest
-        requires { ⌜ («vcpu_num» ≤ 64) × (self .«vapic_id» ≤ 63) ⌝ }
-        ensures { λ r. ⌜ r ≡ calculateDest self «vcpu_num» «active_vcpus» ⌝ }
-    {
-        let shorthand = icr::shorthand(self.icr_lo);
-        match shorthand {
-            1 => physical_dest(self.vapic_id),
-            2 => Dest::Mask(active_vcpus),
-            3 => Dest::Mask(utils::set64::without(active_vcpus, self.vapic_id as u64)),
-            _ => self.calculate_dest_no_shorthand(vcpu_num, active_vcpus),
-        }
-    }
-
-    // Sends the command to the vCPUs of its destination.
-    fn deliver(self, dest: Dest, vcpu_num: usize) -> Written
-        requires { ⌜ «vcpu_num» ≤ 64 ⌝ }
-        ensures { λ r. ⌜ writeOutcome r ≡ deliver self «vcpu_num» dest ⌝ }
-    {
-        match dest {
-            Dest::Mask(mask) => self.send(utils::set64::below(mask, vcpu_num as u64)),
-            Dest::Refused(why) => self.refuse(why),
-        }
-    }
-
-    fn send(self, mask: u64) -> Written
-        ensures { λ r. ⌜ writeOutcome r ≡ send self mask ⌝ }
-    {
-        if mask == 0 {
-            return self.ok();
-        }
-        if icr::is_unsent(self.icr_lo) {
-            return self.ok();
-        }
-        Written {
-            regs: self,
-            answer: WriteAnswer::Ipi {
-                kind: icr::delivery_mode(self.icr_lo),
-                vector: Vector(icr::vector(self.icr_lo)),
-                mask,
+        match answer {
+            IcrAnswer::Idle => self.ok(),
+            IcrAnswer::SendIllegalVector => self.set_err(consts::SEND_ILLEGAL_VECTOR).ok(),
+            IcrAnswer::Ipi { kind, vector, mask } => Written {
+                regs: self,
+                answer: WriteAnswer::Ipi { kind, vector, mask },
             },
+            IcrAnswer::Refused(why) => self.refuse(why),
         }
     }
 
-    // Carries out the command that stands in the ICR.
-    fn write_icr(self, vcpu_num: usize, active_vcpus: u64) -> Written
+    // Puts the command's words, the delivery status cleared, and carries the command out.
+    fn write_icr(mut self, lo: u32, hi: u32, vcpu_num: usize, active_vcpus: u64) -> Written
         requires { ⌜ («vcpu_num» ≤ 64) × (self .«vapic_id» ≤ 63) ⌝ }
-        ensures { λ r. ⌜ writeOutcome r ≡ command self «vcpu_num» «active_vcpus» ⌝ }
+        ensures { λ r. ⌜ writeOutcome r ≡ writeIcr self lo hi «vcpu_num» «active_vcpus» ⌝ }
     {
-        let lo = self.icr_lo;
-        if icr::is_reserved_mode(lo) {
-            return self.refuse(Refusal::InvalidDelivery);
-        }
-        if icr::is_illegal_vector(lo) {
-            return self.set_err(consts::SEND_ILLEGAL_VECTOR).ok();
-        }
-        if icr::is_invalid_shorthand(lo) {
-            return self.ok();
-        }
-        self.deliver(self.calculate_dest(vcpu_num, active_vcpus), vcpu_num)
-    }
-
-    // Puts the command words, bit 12 cleared.
-    fn put_icr(mut self, lo: u32, hi: u32) -> VirtualApicRegs
-        ensures { λ r. ⌜ r ≡ withCommand self (idle lo) hi ⌝ }
-    {
-        self.icr_lo = icr::idle(lo);
+        self.icr_lo = vlapic_icr::fields::idle(lo);
         self.icr_hi = hi;
-        self
+        let command = InterruptCommand {
+            x2apic: self.x2apic,
+            vapic_id: self.vapic_id,
+            ldr: self.ldr,
+            dfr: self.dfr,
+            icr_lo: self.icr_lo,
+            icr_hi: hi,
+        };
+        self.answer(command.write_icr(vcpu_num, active_vcpus))
     }
 
-    // A write of the ICR's low word, in x2APIC mode of both words.
+    // A write of the ICR's low word; in x2APIC mode of both words.
     fn write_icr_low(self, val: u64, width: u8, vcpu_num: usize, active_vcpus: u64) -> Written
         requires { ⌜ («vcpu_num» ≤ 64) × (self .«vapic_id» ≤ 63) ⌝ }
-        ensures { λ r. ⌜ writeOutcome r ≡ writeIcr self val width «vcpu_num» «active_vcpus» ⌝ }
+        ensures { λ r. ⌜ writeOutcome r ≡ writeIcrLow self val width «vcpu_num» «active_vcpus» ⌝ }
     {
         let lo = (val % 0x100000000) as u32;
         if self.x2apic {
             if width == 8 {
-                let hi = (val / 0x100000000) as u32;
-                return self.put_icr(lo, hi).write_icr(vcpu_num, active_vcpus);
+                return self.write_icr(lo, (val / 0x100000000) as u32, vcpu_num, active_vcpus);
             }
             return self.refuse(Refusal::InvalidRegister);
         }
         if width == 8 {
             return self.refuse(Refusal::InvalidRegister);
         }
-        self.put_icr(lo, self.icr_hi)
-            .write_icr(vcpu_num, active_vcpus)
+        self.write_icr(lo, self.icr_hi, vcpu_num, active_vcpus)
     }
 
-    fn handle_self_ipi(self, vector: Vector) -> Written
-        requires { ⌜ self .«vapic_id» ≤ 63 ⌝ }
-        ensures { λ r. ⌜ writeOutcome r ≡ selfIpi self (vector .0) ⌝ }
-    {
-        if vector.0 < 16 {
-            return self.set_err(consts::SEND_ILLEGAL_VECTOR).ok();
-        }
-        Written {
-            regs: self,
-            answer: WriteAnswer::Ipi {
-                kind: 0,
-                vector,
-                mask: self.vcpu_id().mask(),
-            },
-        }
-    }
-
-    // In x2APIC mode alone.
+    // A write of the self-IPI register, which x2APIC mode alone has.
     fn write_self_ipi(self, val: u64) -> Written
         requires { ⌜ self .«vapic_id» ≤ 63 ⌝ }
-        ensures { λ r. ⌜ writeOutcome r ≡ cond (self .x2apic) (selfIpi self (val % 256)) (refused self InvalidRegister) ⌝ }
+        ensures { λ r. ⌜ writeOutcome r ≡ writeSelfIpi self val ⌝ }
     {
         if self.x2apic {
-            return self.handle_self_ipi(Vector((val % 256) as u8));
+            let vector = Vector((val % 256) as u8);
+            return self.answer(vlapic_icr::handle_self_ipi(VcpuId(self.vapic_id as usize), vector));
         }
         self.refuse(Refusal::InvalidRegister)
     }
@@ -731,55 +573,6 @@ impl VirtualApicRegs {
             consts::ICR_LOW => self.write_icr_low(val, width, vcpu_num, active_vcpus),
             consts::SELF_IPI => self.write_self_ipi(val),
             _ => self.write_register(offset, (val % 0x100000000) as u32),
-        }
-    }
-}
-
-fn share8(a: u32, b: u32) -> bool
-    requires { ⌜ (a < 256) × (b < 256) ⌝ }
-    ensures { λ r. ⌜ r ≡ share 8 a b ⌝ }
-{
-    a & b != 0
-}
-
-fn share4(a: u32, b: u32) -> bool
-    requires { ⌜ (a < 16) × (b < 16) ⌝ }
-    ensures { λ r. ⌜ r ≡ share 4 a b ⌝ }
-{
-    a & b != 0
-}
-
-fn matching(same: bool) -> DestMatch
-    ensures { λ r. ⌜ r ≡ matching same ⌝ }
-{
-    if same {
-        return DestMatch::Matched;
-    }
-    DestMatch::Unmatched
-}
-
-// The one vCPU, by its APIC's id.
-fn physical_dest(dest: u32) -> Dest
-    ensures { λ r. ⌜ r ≡ physicalDest dest ⌝ }
-{
-    if dest < 64 {
-        return Dest::Mask(VcpuId(dest as usize).mask());
-    }
-    Dest::Refused(Refusal::OutOfRange)
-}
-
-fn logical_dest(matched: DestMatch, vcpu_num: usize, active_vcpus: u64) -> Dest
-    requires { ⌜ «vcpu_num» ≤ 64 ⌝ }
-    ensures { λ r. ⌜ r ≡ logicalDest matched «vcpu_num» «active_vcpus» ⌝ }
-{
-    match matched {
-        DestMatch::Matched => Dest::Mask(active_vcpus),
-        DestMatch::Unmatched => Dest::Mask(0),
-        DestMatch::ReservedModel => {
-            if utils::set64::below(active_vcpus, vcpu_num as u64) == 0 {
-                return Dest::Mask(0);
-            }
-            Dest::Refused(Refusal::InvalidDelivery)
         }
     }
 }

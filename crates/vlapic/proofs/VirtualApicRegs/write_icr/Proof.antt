@@ -1,65 +1,20 @@
-use Rattle.vlapic.specs.Icr.{command}
+use Rattle.vlapic.specs.Calls.{writeIcr}
 use borrow.Author.Needs.{needs}
 use Rattle.vlapic.proofs.VirtualApicRegs.write_icr.Statement.{statement}
 use Rattle.vlapic.proofs.VirtualApicRegs.write_icr.Tie as tie
 
-is-reserved-mode-requires : tie.Need-is-reserved-mode-requires
-is-reserved-mode-requires c κs = search needs
+idle-requires : tie.Need-idle-requires
+idle-requires c κs = search needs
 
-refuse-requires : tie.Need-refuse-requires
-refuse-requires c κs = search needs
+write-icr-requires : tie.Need-write-icr-requires
+write-icr-requires c κs = search needs
+
+answer-requires : tie.Need-answer-requires
+answer-requires c κs = search needs
 
 returns : tie.Need-returns
-unfolding command
-returns c = rw (← c .before .before .is-reserved-mode .ensures, c .before .if1 .taken) (c .refuse .ensures)
-
-is-illegal-vector-requires : tie.Need-is-illegal-vector-requires
-is-illegal-vector-requires c κs = search needs
-
-set-err-requires : tie.Need-set-err-requires
-set-err-requires c κs = search needs
-
-ok-requires : tie.Need-ok-requires
-ok-requires c κs = search needs
-
-returns-2 : tie.Need-returns-2
-unfolding command
-returns-2 c = rw (← c .before .before .before .before .before .is-reserved-mode .ensures, c .before .before .before .before .if1 .left, ← c .before .before .before .is-illegal-vector .ensures, c .before .before .if2 .taken, ← c .before .set-err .ensures) (c .ok .ensures)
-
-is-invalid-shorthand-requires : tie.Need-is-invalid-shorthand-requires
-is-invalid-shorthand-requires c κs = search needs
-
-ok-requires-2 : tie.Need-ok-requires-2
-ok-requires-2 c κs = search needs
-
-returns-3 : tie.Need-returns-3
-unfolding command
-returns-3 c = rw (← c .before .before .before .before .before .before .is-reserved-mode .ensures, c .before .before .before .before .before .if1 .left, ← c .before .before .before .before .is-illegal-vector .ensures, c .before .before .before .if2 .left, ← c .before .before .is-invalid-shorthand .ensures, c .before .if3 .taken) (c .ok2 .ensures)
-
-calculate-dest-requires : tie.Need-calculate-dest-requires
-calculate-dest-requires c κs = search needs
-
-deliver-requires : tie.Need-deliver-requires
-deliver-requires c κs = search needs
-
-returns-4 : tie.Need-returns-4
-unfolding command
-returns-4 c = rw (← c .before .before .before .before .before .before .before .is-reserved-mode .ensures, c .before .before .before .before .before .before .if1 .left, ← c .before .before .before .before .before .is-illegal-vector .ensures, c .before .before .before .before .if2 .left, ← c .before .before .before .is-invalid-shorthand .ensures, c .before .before .if3 .left, ← c .before .calculate-dest .ensures) (c .deliver .ensures)
+unfolding writeIcr
+returns c = rw (← c .before .before .idle .ensures, ← c .before .write-icr .ensures) (c .answer .ensures)
 
 pub write-icr-spec : {M : Type 1} → statement M
-write-icr-spec =
-    tie.close
-    (tie.spec
-    is-reserved-mode-requires
-    refuse-requires
-    returns
-    is-illegal-vector-requires
-    set-err-requires
-    ok-requires
-    returns-2
-    is-invalid-shorthand-requires
-    ok-requires-2
-    returns-3
-    calculate-dest-requires
-    deliver-requires
-    returns-4)
+write-icr-spec = tie.close (tie.spec idle-requires write-icr-requires answer-requires returns)
