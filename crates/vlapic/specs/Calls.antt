@@ -66,7 +66,7 @@ writeSelfIpi s val = cond (s .x2apic) (answered s (selfIpi (record { 0 = s .«va
 unfoldable pub handleWrite : VirtualApicRegs → ℕ → ℕ → ℕ → ℕ → ℕ → Outcome VirtualApicRegs
 handleWrite s offset val width num active =
     cond (outOfRange num (s .«vapic_id»)) (refused s OutOfRange)
-    (cond (eqb offset 0xb0) (done (handleEoi s .state))
+    (cond (eqb offset 0xb0) (done (handleEoi s .state))  -- D-79: what the EOI broadcasts is dropped
     (cond (eqb offset 0x300) (writeIcrLow s val width num active)
     (cond (eqb offset 0x3f0) (writeSelfIpi s val)
     (writeStored s offset (val % 0x100000000)))))

@@ -20,7 +20,7 @@ findIsrv s = highestFrom 32 (s .isr)  -- D-61: vectors 16 to 31 are in service t
 
 -- PPR is TPR if TPR's class is at least that of the highest vector in service; else that class, with subclass 0
 unfoldable pub priority : ℕ → ℕ → ℕ
-priority tpr isrv = cond (leb (classOf isrv) (classOf tpr)) tpr (classOf isrv * 16)
+priority tpr isrv = cond (leb (classOf isrv) (classOf tpr)) tpr (classOf isrv * 16)  -- D-83: TPR isn't cut to 8 bits
 
 unfoldable pub updatePpr : VirtualApicRegs → VirtualApicRegs
 updatePpr s = servicing s (priority (s .tpr) (findIsrv s)) (s .isr) (s .tmr)
@@ -31,7 +31,7 @@ acceptInterrupt s vector level =
     done
     (updatePpr
     (servicing s (s .ppr)
-    (withVector (s .isr) (vector .0))  -- D-63: IRR plays no part; D-64: any vector is taken, whatever its class and PPR
+    (withVector (s .isr) (vector .0))  -- D-63: IRR plays no part; D-64: nor do PPR and the vector's class; D-80: nor does a software disable
     (cond level (withVector (s .tmr) (vector .0)) (withoutVector (s .tmr) (vector .0)))))
 
 -- an EOI message goes to the I/O APICs if the vector is level-triggered, unless SVR suppresses it

@@ -19,7 +19,7 @@ use Rattle.vlapic.specs.Answers.{done, refused}
 abbrev pub idWord : VirtualApicRegs → ℕ
 idWord s = cond (s .x2apic) (s .«vapic_id») (s .«vapic_id» % 256 * 0x1000000)
 
--- the registers of one word that can be read, by offset
+-- the registers of one word that can be read, by offset (D-68: the same ones in x2APIC mode; D-81: not version, IRR and timer)
 abbrev pub readable : VirtualApicRegs → List (ℕ × ℕ)
 readable s =
     (0x20, idWord s)
@@ -41,7 +41,7 @@ readable s =
     ∷ []
 
 abbrev pub wordAt : List (ℕ × ℕ) → ℕ → Reply
-wordAt [] offset = Refused InvalidRegister
+wordAt [] offset = Refused InvalidRegister  -- D-76: no error is noted
 wordAt (r ∷ rs) offset = cond (eqb offset (r .0)) (One (r .1)) (wordAt rs offset)
 
 -- word i of eight, 0x10 apart
@@ -91,11 +91,11 @@ unfoldable pub stored : VirtualApicRegs → ℕ → ℕ → VirtualApicRegs
 stored s offset v = record {
   x2apic = s .x2apic;
   «vapic_id» = s .«vapic_id»;
-  tpr = on offset 0x80 (v % 0x100) (s .tpr);
+  tpr = on offset 0x80 (v % 0x100) (s .tpr);  -- D-82: reserved bits are dropped in x2APIC mode too, here and below
   ppr = s .ppr;  -- D-62: PPR doesn't follow TPR
   ldr = on offset 0xd0 (topByte v) (s .ldr);
   dfr = on offset 0xe0 (modelBits v) (s .dfr);
-  svr = on offset 0xf0 v (s .svr);  -- D-69: reserved bits are kept, and a software disable masks no LVT entry
+  svr = on offset 0xf0 v (s .svr);  -- D-69: a software disable masks no LVT entry; D-74: reserved bits are kept
   esr = on offset 0x280 (s .«esr_pending») (s .esr);
   «esr_pending» = on offset 0x280 0 (s .«esr_pending»);
   «icr_lo» = s .«icr_lo»;
@@ -114,4 +114,4 @@ stored s offset v = record {
 
 -- refused where no such register can be written
 unfoldable pub writeStored : VirtualApicRegs → ℕ → ℕ → Outcome VirtualApicRegs
-writeStored s offset v = cond (isStored s offset) (done (stored s offset v)) (refused s InvalidRegister)
+writeStored s offset v = cond (isStored s offset) (done (stored s offset v)) (refused s InvalidRegister)  -- D-76

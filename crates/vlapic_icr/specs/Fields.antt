@@ -28,7 +28,7 @@ abbrev pub isReservedMode : ℕ → Bool
 isReservedMode lo = cond (eqb (deliveryMode lo) 3) true (eqb (deliveryMode lo) 7)
 
 abbrev pub isIllegalVector : ℕ → Bool
-isIllegalVector lo = cond (eqb (deliveryMode lo) 0) (ltb (vectorField lo) 16) false
+isIllegalVector lo = cond (eqb (deliveryMode lo) 0) (ltb (vectorField lo) 16) false  -- D-75: of lowest priority no error is noted
 
 -- NMI, INIT or startup, to self or to all including self
 abbrev pub isInvalidShorthand : ℕ → Bool

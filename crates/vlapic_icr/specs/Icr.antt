@@ -52,7 +52,7 @@ logicalDest Unmatched num active = Mask 0
 logicalDest ReservedModel num active = cond (eqb (below active num) 0) (Mask 0) (NoMask InvalidDelivery)
 
 abbrev pub physicalDest : ℕ → Dest
-physicalDest d = cond (ltb d 64) (Mask (2 ^ d)) (NoMask OutOfRange)
+physicalDest d = cond (ltb d 64) (Mask (2 ^ d)) (NoMask OutOfRange)  -- D-78: not "sent to nobody"
 
 unfoldable pub destNoShorthand : InterruptCommand → ℕ → ℕ → Dest
 destNoShorthand s num active =
@@ -90,4 +90,4 @@ command s num active =
 
 -- the self-IPI register: a fixed interrupt to this vCPU alone
 unfoldable pub selfIpi : VcpuId → Vector → IcrAnswer
-selfIpi id vector = cond (ltb (vector .0) 16) SendIllegalVector (Ipi 0 vector (2 ^ (id .0)))
+selfIpi id vector = cond (ltb (vector .0) 16) SendIllegalVector (Ipi 0 vector (2 ^ (id .0)))  -- D-77: not also "receive illegal vector"
