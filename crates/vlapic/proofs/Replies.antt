@@ -14,7 +14,7 @@ use Rattle.vlapic.specs.declared.ReadAnswer.the-variants as read
 use Rattle.vlapic.specs.declared.WriteAnswer.{WriteAnswer}
 use Rattle.vlapic.specs.declared.WriteAnswer.the-variants as write
 use Rattle.vlapic.specs.declared.Written.{Written}
-use Rattle.vlapic.specs.Answers.{eoiReply, readReply, writeReply, acceptOutcome, eoiOutcome, writeOutcome}
+use Rattle.vlapic.specs.Answers.{eoiReply, readReply, writeReply, regsOutcome, eoiOutcome, writeOutcome}
 
 abbrev eoiOf : Reply → EoiAnswer
 eoiOf (reply.Refused why) = eoi.Nothing
@@ -66,8 +66,8 @@ stateOf o = o .state
 abbrev replyOf : Outcome VirtualApicRegs → Reply
 replyOf o = o .reply
 
-pub accept-outcome-same : (a b : VirtualApicRegs) → acceptOutcome a ≡ acceptOutcome b → a ≡ b
-accept-outcome-same a b e = ap stateOf e
+pub regs-outcome-same : (a b : VirtualApicRegs) → regsOutcome a ≡ regsOutcome b → a ≡ b
+regs-outcome-same a b e = ap stateOf e
 
 pub eoi-outcome-same : (a b : EoiStep) → eoiOutcome a ≡ eoiOutcome b → a ≡ b
 eoi-outcome-same a b e =

@@ -30,8 +30,9 @@ writeReply write.Done = reply.Nothing
 writeReply (write.Ipi kind vector mask) = reply.Three kind (vector .0) mask
 writeReply (write.Refused why) = reply.Refused why
 
-abbrev pub acceptOutcome : VirtualApicRegs → Outcome VirtualApicRegs
-acceptOutcome r = record { state = r; reply = reply.Nothing }
+-- of a call that answers nothing
+abbrev pub regsOutcome : VirtualApicRegs → Outcome VirtualApicRegs
+regsOutcome r = record { state = r; reply = reply.Nothing }
 
 abbrev pub eoiOutcome : EoiStep → Outcome VirtualApicRegs
 eoiOutcome r = record { state = r .regs; reply = eoiReply (r .answer) }

@@ -8,7 +8,7 @@ use Rattle.types.specs.declared.Refusal.the-variants.{InvalidRegister, OutOfRan
 use Rattle.types.specs.Reply.{Outcome}
 use Rattle.vlapic_icr.specs.declared.InterruptCommand.{InterruptCommand}
 use Rattle.vlapic_icr.specs.declared.IcrAnswer.{IcrAnswer}
-use Rattle.vlapic_icr.specs.declared.IcrAnswer.the-variants.{Idle, SendIllegalVector, Ipi, Refused}
+use Rattle.vlapic_icr.specs.declared.IcrAnswer.the-variants.{Nothing, SendIllegalVector, Ipi, Refused}
 use Rattle.vlapic_icr.specs.Fields.{idle}
 use Rattle.vlapic_icr.specs.Icr.{command, selfIpi}
 use Rattle.vlapic.specs.declared.VirtualApicRegs.{VirtualApicRegs}
@@ -40,7 +40,7 @@ commandOf s = record {
 
 -- an illegal vector sets error bit 5, send illegal vector
 abbrev pub answered : VirtualApicRegs → IcrAnswer → Outcome VirtualApicRegs
-answered s Idle = done s
+answered s Nothing = done s
 answered s SendIllegalVector = done (withError s 5)
 answered s (Ipi kind vector mask) = sent s kind (vector .0) mask
 answered s (Refused why) = refused s why
@@ -62,7 +62,7 @@ writeSelfIpi s val = cond (s .x2apic) (answered s (selfIpi (record { 0 = s .«va
 
 -- ---- a register's write
 
--- a write of `val` at `offset`, where the VM has `num` vCPUs, of which those in `active` are active
+-- a write of `val` at `offset` (the width matters to the ICR alone), where the VM has `num` vCPUs, of which those in `active` are active
 unfoldable pub handleWrite : VirtualApicRegs → ℕ → ℕ → ℕ → ℕ → ℕ → Outcome VirtualApicRegs
 handleWrite s offset val width num active =
     cond (outOfRange num (s .«vapic_id»)) (refused s OutOfRange)

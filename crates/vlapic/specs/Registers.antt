@@ -44,7 +44,7 @@ abbrev pub wordAt : List (ℕ × ℕ) → ℕ → Reply
 wordAt [] offset = Refused InvalidRegister  -- D-76: no error is noted
 wordAt (r ∷ rs) offset = cond (eqb offset (r .0)) (One (r .1)) (wordAt rs offset)
 
--- word i of eight, 0x10 apart
+-- eight words from `base` on, 0x10 apart: whether `offset` is one of them, and the word there
 abbrev pub eightFrom : ℕ → ℕ → Bool
 eightFrom base offset = cond (eqb (offset % 16) 0) (cond (leb base offset) (ltb offset (base + 0x80)) false) false
 

@@ -18,12 +18,11 @@ pub const LDR: u64 = 0xd0;
 pub const DFR: u64 = 0xe0;
 
 pub const SIVR: u64 = 0xf0;
-// The first of eight words, 0x10 apart, and the first offset after them.
+
+// Each the first of eight words, 0x10 apart.
 pub const ISR: u64 = 0x100;
 
 pub const TMR: u64 = 0x180;
-
-pub const IRR: u64 = 0x200;
 
 pub const ESR: u64 = 0x280;
 

@@ -13,7 +13,7 @@ ghost use Prim.Native.Nat.{_<_, _≤_};
 ghost use Rattle.types.specs.declared.Refusal.the-variants.{InvalidRegister};
 ghost use Rattle.types.specs.declared.Reply.the-variants.{One};
 ghost use Rattle.vlapic.specs.Regs.{start, servicing, withError};
-ghost use Rattle.vlapic.specs.Answers.{eoiReply, readReply, writeReply, acceptOutcome, eoiOutcome, writeOutcome, done, refused};
+ghost use Rattle.vlapic.specs.Answers.{eoiReply, readReply, writeReply, regsOutcome, eoiOutcome, writeOutcome, done, refused};
 ghost use Rattle.vlapic.specs.Priority.{findIsrv, priority, updatePpr, acceptInterrupt, broadcasts, handleEoi};
 ghost use Rattle.vlapic.specs.Registers.{idWord, readable, wordAt, eightFrom, eightAt, handleRead, lvtEntries, listed, stored, writeStored};
 ghost use Rattle.vlapic.specs.Calls.{outOfRange, setup, answered, writeIcr, writeIcrLow, writeSelfIpi, handleWrite};
@@ -166,7 +166,7 @@ fn reset(x2apic: bool, vapic_id: u32) -> VirtualApicRegs
 impl VirtualApicRegs {
     // The local APIC of vCPU 0 in xAPIC mode.
     pub fn new() -> VirtualApicRegs
-        ensures { λ r. ⌜ acceptOutcome r ≡ done (start false 0) ⌝ }
+        ensures { λ r. ⌜ regsOutcome r ≡ done (start false 0) ⌝ }
     {
         reset(false, 0)
     }
@@ -205,7 +205,7 @@ impl VirtualApicRegs {
         ensures { λ r. ⌜ r .0 ≡ findIsrv self ⌝ }
     {
         let isr = self.isr;
-        Vector(vectors::highest(isr))
+        Vector(vectors::find_isrv(isr))
     }
 
     fn update_ppr(mut self) -> VirtualApicRegs
@@ -227,7 +227,7 @@ impl VirtualApicRegs {
 
     // Records that the processor accepted an interrupt.
     pub fn accept_interrupt(self, vector: Vector, level_triggered: bool) -> VirtualApicRegs
-        ensures { λ r. ⌜ acceptOutcome r ≡ acceptInterrupt self vector «level_triggered» ⌝ }
+        ensures { λ r. ⌜ regsOutcome r ≡ acceptInterrupt self vector «level_triggered» ⌝ }
     {
         let isr = self.isr;
         let tmr = self.tmr;
@@ -487,7 +487,7 @@ impl VirtualApicRegs {
         ensures { λ r. ⌜ writeOutcome r ≡ answered self answer ⌝ }
     {
         match answer {
-            IcrAnswer::Idle => self.ok(),
+            IcrAnswer::Nothing => self.ok(),
             IcrAnswer::SendIllegalVector => self.set_err(consts::SEND_ILLEGAL_VECTOR).ok(),
             IcrAnswer::Ipi { kind, vector, mask } => Written {
                 regs: self,

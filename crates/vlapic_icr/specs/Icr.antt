@@ -14,7 +14,7 @@ use Rattle.vlapic_icr.specs.declared.DestMatch.the-variants.{Matched, Un
 use Rattle.vlapic_icr.specs.declared.Dest.{Dest}
 use Rattle.vlapic_icr.specs.declared.Dest.the-variants.{Mask, NoMask}
 use Rattle.vlapic_icr.specs.declared.IcrAnswer.{IcrAnswer}
-use Rattle.vlapic_icr.specs.declared.IcrAnswer.the-variants.{Idle, SendIllegalVector, Ipi, Refused}
+use Rattle.vlapic_icr.specs.declared.IcrAnswer.the-variants.{Nothing, SendIllegalVector, Ipi, Refused}
 use Rattle.vlapic_icr.specs.Fields.{vectorField, deliveryMode, isLogical, shorthand, isReservedMode, isIllegalVector, isInvalidShorthand, isUnsent}
 
 -- ---- the destination
@@ -61,7 +61,7 @@ destNoShorthand s num active =
 
 unfoldable pub calculateDest : InterruptCommand → ℕ → ℕ → Dest
 calculateDest s num active =
-    cond (eqb (shorthand (s .«icr_lo»)) 1) (physicalDest (s .«vapic_id»))
+    cond (eqb (shorthand (s .«icr_lo»)) 1) (Mask (2 ^ (s .«vapic_id»)))
     (cond (eqb (shorthand (s .«icr_lo»)) 2) (Mask active)
     (cond (eqb (shorthand (s .«icr_lo»)) 3) (Mask (without active (s .«vapic_id»)))
     (destNoShorthand s num active)))
@@ -71,8 +71,8 @@ calculateDest s num active =
 -- an empty mask, lowest priority and SMI send nothing
 abbrev pub send : ℕ → ℕ → IcrAnswer
 send lo mask =
-    cond (eqb mask 0) Idle
-    (cond (isUnsent lo) Idle  -- D-73: lowest priority and SMI are not sent
+    cond (eqb mask 0) Nothing
+    (cond (isUnsent lo) Nothing  -- D-73: lowest priority and SMI are not sent
     (Ipi (deliveryMode lo) (record { 0 = vectorField lo }) mask))  -- D-72: level and trigger mode are ignored
 
 -- the mask is cut to the vCPU count
@@ -85,7 +85,7 @@ unfoldable pub command : InterruptCommand → ℕ → ℕ → IcrAnswer
 command s num active =
     cond (isReservedMode (s .«icr_lo»)) (Refused InvalidDelivery)
     (cond (isIllegalVector (s .«icr_lo»)) SendIllegalVector
-    (cond (isInvalidShorthand (s .«icr_lo»)) Idle
+    (cond (isInvalidShorthand (s .«icr_lo»)) Nothing
     (deliver (s .«icr_lo») num (calculateDest s num active))))
 
 -- the self-IPI register: a fixed interrupt to this vCPU alone

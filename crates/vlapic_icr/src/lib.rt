@@ -45,7 +45,7 @@ pub enum Dest {
 
 // What becomes of an interrupt command.
 pub enum IcrAnswer {
-    Idle,
+    Nothing,
     SendIllegalVector,
     // An interrupt for the vCPUs in `mask`; its kind is the delivery mode: 0 fixed, 4 NMI, 5 INIT, 6 startup.
     Ipi { kind: u8, vector: Vector, mask: u64 },
@@ -139,7 +139,7 @@ impl InterruptCommand {
             return IcrAnswer::SendIllegalVector;
         }
         if fields::is_invalid_shorthand(lo) {
-            return IcrAnswer::Idle;
+            return IcrAnswer::Nothing;
         }
         deliver(lo, self.calculate_dest(vcpu_num, active_vcpus), vcpu_num)
     }
@@ -160,10 +160,10 @@ fn send(lo: u32, mask: u64) -> IcrAnswer
     ensures { λ r. ⌜ r ≡ send lo mask ⌝ }
 {
     if mask == 0 {
-        return IcrAnswer::Idle;
+        return IcrAnswer::Nothing;
     }
     if fields::is_unsent(lo) {
-        return IcrAnswer::Idle;
+        return IcrAnswer::Nothing;
     }
     IcrAnswer::Ipi {
         kind: fields::delivery_mode(lo),

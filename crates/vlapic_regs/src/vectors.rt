@@ -9,9 +9,9 @@ ghost use mathlib.Core.Path.{_≡_};
 ghost use Rattle.vlapic_regs.specs.Vectors.{inWords, withVector, withoutVector, highestFrom};
 use types::Vector;
 
-// The highest vector from 32 to 255, or 0: words 7 down to 1, and in each its bits from 31 down; the first set bit ends both loops.
-pub fn highest(words: [u32; 8]) -> u8
-    ensures { λ r. ⌜ r ≡ highestFrom 32 words ⌝ }
+// The highest vector in service from 32 to 255, or 0: words 7 down to 1, and in each its bits from 31 down; the first set bit ends both loops.
+pub fn find_isrv(isr: [u32; 8]) -> u8
+    ensures { λ r. ⌜ r ≡ highestFrom 32 isr ⌝ }
 {
     let mut word: usize = 8;
     'search: loop {
@@ -19,7 +19,7 @@ pub fn highest(words: [u32; 8]) -> u8
             break 'search 0;
         }
         word -= 1;
-        let held = words[word];
+        let held = isr[word];
         if held == 0 {
             continue 'search;
         }

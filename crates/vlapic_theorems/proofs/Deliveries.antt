@@ -16,7 +16,7 @@ use Rattle.types.specs.declared.Vector.{Vector}
 use Rattle.types.specs.Reply.{Outcome}
 use Rattle.vlapic_icr.specs.declared.InterruptCommand.{InterruptCommand}
 use Rattle.vlapic_icr.specs.declared.IcrAnswer.{IcrAnswer}
-use Rattle.vlapic_icr.specs.declared.IcrAnswer.the-variants.{Idle, SendIllegalVector, Ipi, Refused}
+use Rattle.vlapic_icr.specs.declared.IcrAnswer.the-variants.{Nothing, SendIllegalVector, Ipi, Refused}
 use Rattle.vlapic_icr.specs.declared.Dest.{Dest}
 use Rattle.vlapic_icr.specs.declared.Dest.the-variants.{Mask, NoMask}
 use Rattle.vlapic_icr.specs.declared.DestMatch.{DestMatch}
@@ -75,7 +75,7 @@ pub record Goes (num active lo : ℕ) (a : IcrAnswer) : Type 0 where
   pub reaches : (kind : ℕ) (vector : Vector) (mask : ℕ) → a ≡ Ipi kind vector mask → Reaches num active lo mask
 
 module _ (num active lo : ℕ) where
-  silent-idle : Goes num active lo Idle
+  silent-idle : Goes num active lo Nothing
   silent-idle = record { reaches = λ k v m e. let z : _≡_ {A = ℕ} 0 1 = cc in absurd (omega arith) }
 
   silent-error : Goes num active lo SendIllegalVector
@@ -121,7 +121,7 @@ module _ (num active : ℕ) where
   refusing s why = record { sound = λ k v m e. let z : _≡_ {A = ℕ} 0 1 = cc in absurd (omega arith) }
 
   answers : (s : VirtualApicRegs) (a : IcrAnswer) → Goes num active (s .«icr_lo») a → Sound num active (answered s a)
-  answers s Idle g = quiet s
+  answers s Nothing g = quiet s
   answers s SendIllegalVector g = quiet (withError s 5)
   answers s (Ipi kind vector mask) g = record {
     sound = λ k v m e. let q : mask ≡ m = cc in subst (λ (n : ℕ). Reaches num active (s .«icr_lo») n) q (g .reaches kind vector mask refl);

@@ -14,7 +14,7 @@ use Rattle.types.specs.declared.Vector.{Vector}
 use Rattle.types.specs.Reply.{Outcome, replyNumber, refusalNumber}
 use Rattle.vlapic_icr.specs.declared.InterruptCommand.{InterruptCommand}
 use Rattle.vlapic_icr.specs.declared.IcrAnswer.{IcrAnswer}
-use Rattle.vlapic_icr.specs.declared.IcrAnswer.the-variants.{Idle, SendIllegalVector, Ipi, Refused}
+use Rattle.vlapic_icr.specs.declared.IcrAnswer.the-variants.{Nothing, SendIllegalVector, Ipi, Refused}
 use Rattle.vlapic_icr.specs.declared.Dest.{Dest}
 use Rattle.vlapic_icr.specs.declared.Dest.the-variants.{Mask, NoMask}
 use Rattle.vlapic_icr.specs.declared.DestMatch.{DestMatch}
@@ -40,7 +40,7 @@ data Fit : Dest → Type 0 where
   unmasked : {why : Refusal} → ThreeOrFive why → Fit (NoMask why)
 
 data Answers : IcrAnswer → Type 0 where
-  idles : Answers Idle
+  idles : Answers Nothing
   errs : Answers SendIllegalVector
   sends : {kind mask : ℕ} {vector : Vector} → Answers (Ipi kind vector mask)
   refuses : {why : Refusal} → ThreeOrFive why → Answers (Refused why)
@@ -57,7 +57,7 @@ dest-fit : (c : InterruptCommand) (num active : ℕ) → Fit (calculateDest c nu
 unfolding calculateDest destNoShorthand
 dest-fit c num active =
     let lo = c .«icr_lo» in
-    either Fit (eqb (shorthand lo) 1) _ _ (λ e. physical-fit (c .«vapic_id»))
+    either Fit (eqb (shorthand lo) 1) _ _ (λ e. masked)
     (λ e. either Fit (eqb (shorthand lo) 2) _ _ (λ e. masked)
     (λ e. either Fit (eqb (shorthand lo) 3) _ _ (λ e. masked)
     (λ e. either Fit (isBroadcast c) _ _ (λ e. masked)
@@ -109,7 +109,7 @@ module _ (s : VirtualApicRegs) (offset num : ℕ) where
 
   module _ (at : offset ≡ 0x300) (inside : outOfRange num (s .«vapic_id») ≡ false) where
     stays : (lo hi : ℕ) (a : IcrAnswer) → Answers a → Holds s offset num (answered (withCommand s lo hi) a)
-    stays lo hi Idle idles = record { kept = λ n. absurd (n refl) }
+    stays lo hi Nothing idles = record { kept = λ n. absurd (n refl) }
     stays lo hi SendIllegalVector errs = record { kept = λ n. absurd (n refl) }
     stays lo hi (Ipi kind vector mask) sends = record { kept = λ n. absurd (n refl) }
     stays lo hi (Refused why) (refuses f) = record {

@@ -1,5 +1,7 @@
+use mathlib.Core.Path.{_∙_}
+use native.Mathlib.Omega.{arith}
 use Rattle.vlapic_icr.specs.Icr.{calculateDest}
-use borrow.Author.Tests.{ne-eqb}
+use borrow.Author.Tests.{lt-ltb, ne-eqb}
 use borrow.Author.Needs.{needs}
 use Rattle.vlapic_icr.proofs.InterruptCommand.calculate_dest.Statement.{statement}
 use Rattle.vlapic_icr.proofs.InterruptCommand.calculate_dest.Tie as tie
@@ -21,7 +23,7 @@ calculate-dest-no-shorthand-requires c κs = search needs
 
 returns : tie.Need-returns
 unfolding calculateDest
-returns c = rw (← c .before .before .shorthand .ensures, c .before .match .keys1) (c .physical-dest .ensures)
+returns c = rw (← c .before .before .shorthand .ensures, c .before .match .keys1) (c .physical-dest .ensures ∙ rw (lt-ltb (c .before .before .before .args .self .«vapic_id») 64 (omega arith)))
 
 returns-2 : tie.Need-returns-2
 unfolding calculateDest

@@ -3,8 +3,8 @@ use native.Mathlib.Omega.{arith}
 use borrow.Author.Needs.{needs}
 use borrow.Author.Tests.{eq-eqb, ne-eqb}
 use Rattle.vlapic_regs.proofs.Highest.{Left, start, moved, passed, found, empty, ended}
-use Rattle.vlapic_regs.proofs.vectors.highest.Statement.{statement}
-use Rattle.vlapic_regs.proofs.vectors.highest.Tie as tie
+use Rattle.vlapic_regs.proofs.vectors.find_isrv.Statement.{statement}
+use Rattle.vlapic_regs.proofs.vectors.find_isrv.Tie as tie
 
 abbrev Inv-loop : tie.InvT-loop
 Inv-loop words word held bit₀ bit = (bit ≤ 32) × Left words (word * 32 + bit)
@@ -81,8 +81,8 @@ returns-2 c =
     let l = c .before .before .loop in
     found _ _ (l .bit - 1) (l .inv .1) (omega arith) (omega arith) (omega arith) (eq-eqb _ _ (c .if3 .taken))
 
-pub highest-spec : {M : Type 1} → statement M
-highest-spec =
+pub find-isrv-spec : {M : Type 1} → statement M
+find-isrv-spec =
     tie.close
     (tie.spec
     Inv-loop
