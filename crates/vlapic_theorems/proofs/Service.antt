@@ -16,16 +16,20 @@ use Rattle.vlapic_regs.specs.Vectors.{inWords, withoutVector, highestFrom}
 use Rattle.vlapic.specs.Answers.{done}
 use Rattle.vlapic.specs.Regs.{servicing}
 use Rattle.vlapic.specs.Priority.{findIsrv, updatePpr, handleEoi, endOf}
-use Rattle.vlapic_theorems.specs.Service.{inService, Highest, Idle, SearchFinds, EoiEnds, Searches, Eois}
+use Rattle.vlapic_theorems.specs.Service.{Highest, Idle, SearchFinds, Searches, EoiEnds, Eois}
 
 -- ---- the search
 
-abbrev searched : VirtualApicRegs → ℕ → Bool
-searched s v = leb 32 v && inService s v
+abbrev searched : ℕ → List ℕ → ℕ → Bool
+searched lowest words v = leb lowest v && inWords words v
 
 and-true : (a b : Bool) → (a && b) ≡ true → (a ≡ true) × (b ≡ true)
 and-true true b e = (refl, e)
 and-true false b e = absurd (true≢false (sym e))
+
+and-none : (b : Bool) → (b && false) ≡ false
+and-none true = refl
+and-none false = refl
 
 last-nonzero : (w : ℕ) (p : ℕ → Bool) → (last w p ≡ 0 → ⊥) → p (last w p) ≡ true
 last-nonzero zero p h = absurd (h refl)
@@ -35,40 +39,35 @@ last-nonzero (suc w) p h = go (λ q. last-nonzero w p q) (p w) refl h
     go rest true e q = e
     go rest false e q = rest q
 
-is-last : (s : VirtualApicRegs) → findIsrv s ≡ last 256 (searched s)
-unfolding highestFrom
-is-last s = refl
+module _ (lowest : ℕ) (words : List ℕ) where
+  is-last : highestFrom lowest words ≡ last 256 (searched lowest words)
+  unfolding highestFrom
+  is-last = refl
 
--- what is not found above v is not in service there
-unseen : (s : VirtualApicRegs) (u : ℕ) → last 256 (searched s) < u → 32 ≤ u → u < 256 → inService s u ≡ false
-unseen s u l h b = rw (le-leb 32 u h) at (last-after 256 (searched s) u l b)
+  -- what is not found above the last is not in the words there
+  unseen : (u : ℕ) → last 256 (searched lowest words) < u → lowest ≤ u → u < 256 → inWords words u ≡ false
+  unseen u l h b = rw (le-leb lowest u h) at (last-after 256 (searched lowest words) u l b)
+
+  low-or : Idle lowest words → (j : ℕ) → j < 256 → (b : Bool) → leb lowest j ≡ b → (b && inWords words j) ≡ false
+  low-or i j l true e = i j (leb-true lowest j e) l
+  low-or i j l false e = refl
+
+  at-last : (last 256 (searched lowest words) ≡ 0 → ⊥) → Highest lowest words (last 256 (searched lowest words))
+  at-last n =
+      let v = last 256 (searched lowest words) in
+      let t = and-true (leb lowest v) (inWords words v) (last-nonzero 256 (searched lowest words) n) in
+      let f : lowest ≤ v = leb-true lowest v (t .0) in
+      record { from = f; vector = last-lt 256 (searched lowest words) (omega arith); served = t .1; above = λ u l b. unseen u l (omega arith) b }
 
 pub searches : Searches
-searches s = record {
-  sound = λ n. at (last 256 (searched s)) (is-last s) (λ e. n (is-last s ∙ e));
-  none = λ e u h b. unseen s u (omega (arith, sym (is-last s) ∙ e)) h b;
-  complete = λ v h. is-last s ∙ last-is 256 (searched s) v (h .vector) (rw (le-leb 32 v (h .lowest)) (h .served)) (λ j l b. rw (h .above j l b) (none-in (leb 32 j)));
-  complete-none = λ i. is-last s ∙ last-none 256 (searched s) (λ j b. low-or s i j b (leb 32 j) refl);
+searches lowest h words = record {
+  sound = λ n. rw (is-last lowest words) (at-last lowest words (λ e. n (is-last lowest words ∙ e)));
+  none = λ e u l b. unseen lowest words u (omega (arith, sym (is-last lowest words) ∙ e)) l b;
+  complete = λ v q.
+      is-last lowest words
+      ∙ last-is 256 (searched lowest words) v (q .vector) (rw (le-leb lowest v (q .from)) (q .served)) (λ j l b. rw (q .above j l b) (and-none (leb lowest j)));
+  complete-none = λ i. is-last lowest words ∙ last-none 256 (searched lowest words) (λ j b. low-or lowest words i j b (leb lowest j) refl);
 }
-  where
-    none-in : (b : Bool) → (b && false) ≡ false
-    none-in true = refl
-    none-in false = refl
-
-    low-or : (s : VirtualApicRegs) → Idle s → (j : ℕ) → j < 256 → (b : Bool) → leb 32 j ≡ b → (b && inService s j) ≡ false
-    low-or s i j l true e = i j (leb-true 32 j e) l
-    low-or s i j l false e = refl
-
-    at : (v : ℕ) → findIsrv s ≡ v → (last 256 (searched s) ≡ 0 → ⊥) → Highest s (findIsrv s)
-    at v e n =
-        let t = and-true (leb 32 (last 256 (searched s))) (inService s (last 256 (searched s))) (last-nonzero 256 (searched s) n) in
-        rw (is-last s)
-        (record {
-          lowest = leb-true 32 (last 256 (searched s)) (t .0);
-          vector = last-lt 256 (searched s) (omega arith);
-          served = t .1;
-          above = λ u l b. unseen s u l (omega (arith, leb-true 32 (last 256 (searched s)) (t .0))) b;
-        })
 
 -- ---- the EOI
 
@@ -109,9 +108,8 @@ and-one : (b : Bool) → b ≡ (b && true)
 and-one true = refl
 and-one false = refl
 
-and-none : (b : Bool) → false ≡ (b && false)
-and-none true = refl
-and-none false = refl
+in-service : (s : VirtualApicRegs) → SearchFinds 32 (s .isr)
+in-service s = searches 32 (omega arith) (s .isr)
 
 pub eois : Eois
 unfolding handleEoi updatePpr
@@ -119,18 +117,19 @@ eois s = record {
   ended = λ v h u b. one v h u (eqb u v) refl;
   rest = rest (eqb (findIsrv s) 0);
   triggers = triggers (eqb (findIsrv s) 0);
-  nothing = λ i. rw (searches s .complete-none i);
+  nothing = λ i. rw (in-service s .complete-none i);
 }
   where
-    one : (v : ℕ) → Highest s v → (u : ℕ) → (b : Bool) → eqb u v ≡ b → inService (handleEoi s .state) u ≡ (inService s u && not b)
+    isr : (v : ℕ) → Highest 32 (s .isr) v → handleEoi s .state .isr ≡ withoutVector (s .isr) v
+    isr v h = ended-isr s v (in-service s .complete v h) (λ z. omega (arith, h .from))
+
+    one : (v : ℕ) → Highest 32 (s .isr) v → (u : ℕ) → (b : Bool) → eqb u v ≡ b → inWords (handleEoi s .state .isr) u ≡ (inWords (s .isr) u && not b)
     one v h u true e =
-        let q = ended-isr s v (searches s .complete v h) (λ z. omega (arith, h .lowest)) in
-        ap (λ (words : List ℕ). inWords words u) q
+        ap (λ (words : List ℕ). inWords words u) (isr v h)
         ∙ subst (λ (x : ℕ). inWords (withoutVector (s .isr) v) x ≡ false) (sym (eqb-true u v e)) (gone (s .isr) v (h .served))
-        ∙ and-none (inService s u)
+        ∙ sym (and-none (inWords (s .isr) u))
     one v h u false e =
-        let q = ended-isr s v (searches s .complete v h) (λ z. omega (arith, h .lowest)) in
-        ap (λ (words : List ℕ). inWords words u) q ∙ others (s .isr) v u (h .served) (eqb-false u v e) ∙ and-one (inService s u)
+        ap (λ (words : List ℕ). inWords words u) (isr v h) ∙ others (s .isr) v u (h .served) (eqb-false u v e) ∙ and-one (inWords (s .isr) u)
 
     rest : (b : Bool) → servicing (cond b (done s) (endOf s (findIsrv s)) .state) (s .ppr) (s .isr) (s .tmr) ≡ s
     rest true = refl

@@ -7,19 +7,19 @@ use Rattle.vlapic_regs.proofs.vectors.find_isrv.Statement.{statement}
 use Rattle.vlapic_regs.proofs.vectors.find_isrv.Tie as tie
 
 abbrev Inv-loop : tie.InvT-loop
-Inv-loop words word held bit₀ bit = (bit ≤ 32) × Left words (word * 32 + bit)
+Inv-loop words word held bit₀ bit = (bit ≤ 32) × Left 32 words (word * 32 + bit)
 
 abbrev μ-loop : tie.MeasureT-loop
 μ-loop words word held bit₀ bit = bit
 
 abbrev Inv-search : tie.InvT-search
-Inv-search words word₀ word = (1 ≤ word) × (word ≤ 8) × Left words (word * 32)
+Inv-search words word₀ word = (1 ≤ word) × (word ≤ 8) × Left 32 words (word * 32)
 
 abbrev μ-search : tie.MeasureT-search
 μ-search words word₀ word = word
 
 search-holds : tie.Need-search-holds Inv-loop μ-loop Inv-search μ-search
-search-holds c = (search needs, search needs, start _)
+search-holds c = (search needs, search needs, start _ _)
 
 sub-word : tie.Need-sub-word Inv-loop μ-loop Inv-search μ-search
 sub-word c = search needs
