@@ -4,7 +4,7 @@ use mathlib.Core.Bool.{Bool, true, false, cond, true≢false}
 use mathlib.Core.List.{List, [], _∷_, map}
 use Prim.Native.Nat.{ℕ}
 use lib.Dec.{eqb}
-use borrow.Author.Tests.{ne-eqb, eqb-false}
+use borrow.Author.Tests.{ne-eqb}
 use Rattle.types.specs.declared.Refusal.the-variants.{InvalidRegister}
 use Rattle.types.specs.declared.Reply.the-variants.{Refused}
 use Rattle.vlapic.specs.Registers.{listed, wordAt}

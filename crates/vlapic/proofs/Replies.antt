@@ -1,6 +1,5 @@
 -- Equal outcomes come from equal results: what can be read back from a reply wasn't lost. Assumes nothing.
 use mathlib.Core.Path.{_≡_, refl, sym, ap, ap₂, _∙_}
-use Prim.Native.Nat.{ℕ}
 use Rattle.types.specs.declared.Refusal.the-variants.{InvalidRegister}
 use Rattle.types.specs.declared.Reply.{Reply}
 use Rattle.types.specs.declared.Reply.the-variants as reply

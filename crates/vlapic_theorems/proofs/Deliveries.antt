@@ -1,6 +1,6 @@
 -- An interrupt command reaches no vCPU at or above the count, and logically none that is inactive. Assumes nothing.
-use mathlib.Core.Path.{_≡_, refl, sym, ap, _∙_, subst}
-use mathlib.Core.Bool.{Bool, true, false, cond, true≢false}
+use mathlib.Core.Path.{_≡_, refl, sym, _∙_, subst}
+use mathlib.Core.Bool.{Bool, true, false, true≢false}
 use Prim.Native.Nat.{ℕ, _+_, _-_, _/_, _%_, _^_, _≤_, _<_}
 use native.Mathlib.Nat.{mod-lt}
 use native.Mathlib.Omega.{arith}
@@ -22,7 +22,7 @@ use Rattle.vlapic_icr.specs.declared.Dest.the-variants.{Mask, NoMask}
 use Rattle.vlapic_icr.specs.declared.DestMatch.{DestMatch}
 use Rattle.vlapic_icr.specs.declared.DestMatch.the-variants.{Matched, Unmatched, ReservedModel}
 use Rattle.vlapic_icr.specs.Fields.{idle, shorthand, isLogical, isReservedMode, isIllegalVector, isInvalidShorthand, isUnsent}
-use Rattle.vlapic_icr.specs.Icr.{destField, isBroadcast, destFieldMatched, logicalDest, physicalDest, destNoShorthand, calculateDest, deliver, command}
+use Rattle.vlapic_icr.specs.Icr.{destField, isBroadcast, destFieldMatched, logicalDest, destNoShorthand, calculateDest, deliver, command}
 use Rattle.vlapic.specs.declared.VirtualApicRegs.{VirtualApicRegs}
 use Rattle.vlapic.specs.Answers.{done, refused}
 use Rattle.vlapic.specs.Regs.{withError, withCommand}

@@ -1,5 +1,5 @@
 -- A refused call hands the state back, but for a refused interrupt command's words. Assumes nothing.
-use mathlib.Core.Path.{_≡_, refl, sym, ap, _∙_}
+use mathlib.Core.Path.{_≡_, refl, sym, _∙_}
 use mathlib.Core.Bool.{Bool, true, false, cond, true≢false}
 use mathlib.Core.Logic.{_⊎_, inl, inr}
 use Prim.Native.Nat.{ℕ, _/_, _%_, _^_}
@@ -8,8 +8,7 @@ use lib.Dec.{eqb, ltb}
 use borrow.Author.Tests.{eqb-true}
 use Rattle.utils.specs.Set.{below}
 use Rattle.types.specs.declared.Refusal.{Refusal}
-use Rattle.types.specs.declared.Refusal.the-variants.{InvalidRegister, InvalidDelivery, OutOfRange}
-use Rattle.types.specs.declared.VcpuId.{VcpuId}
+use Rattle.types.specs.declared.Refusal.the-variants.{InvalidRegister, OutOfRange}
 use Rattle.types.specs.declared.Vector.{Vector}
 use Rattle.types.specs.Reply.{Outcome, replyNumber, refusalNumber}
 use Rattle.vlapic_icr.specs.declared.InterruptCommand.{InterruptCommand}
@@ -20,9 +19,9 @@ use Rattle.vlapic_icr.specs.declared.Dest.the-variants.{Mask, NoMask}
 use Rattle.vlapic_icr.specs.declared.DestMatch.{DestMatch}
 use Rattle.vlapic_icr.specs.declared.DestMatch.the-variants.{Matched, Unmatched, ReservedModel}
 use Rattle.vlapic_icr.specs.Fields.{idle, shorthand, isLogical, isReservedMode, isIllegalVector, isInvalidShorthand, isUnsent}
-use Rattle.vlapic_icr.specs.Icr.{destField, isBroadcast, destFieldMatched, logicalDest, physicalDest, destNoShorthand, calculateDest, send, deliver, command, selfIpi}
+use Rattle.vlapic_icr.specs.Icr.{destField, isBroadcast, destFieldMatched, logicalDest, physicalDest, destNoShorthand, calculateDest, deliver, command, selfIpi}
 use Rattle.vlapic.specs.declared.VirtualApicRegs.{VirtualApicRegs}
-use Rattle.vlapic.specs.Answers.{done, sent, refused}
+use Rattle.vlapic.specs.Answers.{done, refused}
 use Rattle.vlapic.specs.Regs.{start, withError, withCommand}
 use Rattle.vlapic.specs.Priority.{handleEoi}
 use Rattle.vlapic.specs.Registers.{isStored, stored, writeStored}

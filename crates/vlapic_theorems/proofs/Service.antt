@@ -1,13 +1,13 @@
 -- The search finds the highest vector in service, and an EOI ends it. Assumes nothing.
-use mathlib.Core.Path.{_≡_, refl, sym, ap, ap₂, _∙_, subst}
+use mathlib.Core.Path.{_≡_, refl, sym, ap, _∙_, subst}
 use mathlib.Core.Bool.{Bool, true, false, not, cond, _&&_, true≢false}
 use mathlib.Core.List.{List}
-use Prim.Native.Nat.{ℕ, zero, suc, _+_, _*_, _/_, _%_, _≤_, _<_}
+use Prim.Native.Nat.{ℕ, zero, suc, _/_, _%_, _≤_, _<_}
 use native.Mathlib.Omega.{arith}
 use lib.Dec.{eqb, leb, ltb}
-use lib.ListN.{getD, set, length, List·getD-eq-default}
+use lib.ListN.{getD, length, List·getD-eq-default}
 use lib.Seq.{getD-set-same, getD-set-other}
-use borrow.Author.Tests.{le-leb, lt-leb, leb-true, eqb-true, eqb-false, eq-eqb, ne-eqb, ltb-true, ltb-false}
+use borrow.Author.Tests.{le-leb, leb-true, eqb-true, eqb-false, ne-eqb, ltb-true, ltb-false}
 use Rattle.utils.specs.Set.{bit, last, without}
 use Rattle.utils.proofs.Search.{last-after, last-is, last-none, last-lt}
 use Rattle.utils.proofs.Laws.{bit-above, bit-without-same, bit-without-other}
@@ -16,7 +16,7 @@ use Rattle.vlapic_regs.specs.Vectors.{inWords, withoutVector, highestFrom}
 use Rattle.vlapic.specs.Answers.{done}
 use Rattle.vlapic.specs.Regs.{servicing}
 use Rattle.vlapic.specs.Priority.{findIsrv, updatePpr, handleEoi, endOf}
-use Rattle.vlapic_theorems.specs.Service.{Highest, Idle, SearchFinds, Searches, EoiEnds, Eois}
+use Rattle.vlapic_theorems.specs.Service.{Highest, Idle, SearchFinds, Searches, Eois}
 
 -- ---- the search
 

@@ -1,6 +1,6 @@
 -- Where interrupt commands go.
 use Prim.Native.Nat.{ℕ, _≤_}
-use mathlib.Core.Bool.{Bool, true, false}
+use mathlib.Core.Bool.{true, false}
 use mathlib.Core.Path.{_≡_}
 use Rattle.utils.specs.Set.{bit}
 use Rattle.types.specs.declared.Reply.the-variants.{Three}

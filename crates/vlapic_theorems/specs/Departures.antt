@@ -1,8 +1,8 @@
 -- Where the local APIC departs from the SDM: for each departure the smallest state and call, what the definitions give there, and what the text asks for instead.
 -- Intel SDM volume 3, the APIC chapter; docs/DIFFERENCES.md says each in words. A refusal stands as its number, an answer as 0 and its values.
 use Prim.Native.Nat.{ℕ}
-use mathlib.Core.Bool.{Bool, true, false}
-use mathlib.Core.Path.{_≡_, refl}
+use mathlib.Core.Bool.{true, false}
+use mathlib.Core.Path.{refl}
 use mathlib.Core.List.{List, [], _∷_}
 use lib.ListN.{getD}
 use Rattle.utils.specs.Set.{with, without}

@@ -1,5 +1,4 @@
 use borrow.Author.Tests.{eq-eqb, ne-eqb}
-use Rattle.utils.specs.Cases.{cases}
 use Rattle.vlapic.specs.Priority.{handleEoi}
 use borrow.Author.Needs.{needs}
 use Rattle.vlapic.proofs.VirtualApicRegs.process_eoi.Statement.{statement}

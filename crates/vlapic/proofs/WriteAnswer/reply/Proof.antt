@@ -1,4 +1,3 @@
-use Rattle.utils.specs.Cases.{cases}
 use borrow.Author.Needs.{needs}
 use Rattle.vlapic.proofs.WriteAnswer.reply.Statement.{statement}
 use Rattle.vlapic.proofs.WriteAnswer.reply.Tie as tie
