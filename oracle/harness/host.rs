@@ -122,4 +122,3 @@ fn understand(text: &str) {
     let vector = IPI_VECTOR.get().unwrap_or_else(|| fatal("an IPI without a vector"));
     send(kind, vector, vcpu);
 }
-

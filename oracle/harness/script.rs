@@ -98,7 +98,7 @@ impl Runner {
     pub fn run(&mut self, script: &[u8]) -> Vec<u8> {
         let mut lines = Vec::new();
         if script.len() > LONGEST {
-            lines.extend(b"7\n");
+            self.line(&mut lines, format_args!("7"), Judge::Harness);
             return lines;
         }
         let mut machine = Machine::new(self.alone);

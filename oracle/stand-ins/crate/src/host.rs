@@ -35,11 +35,7 @@ pub fn active_vcpus<H: X86VlapicHostOps>(_vm_id: X86VmId) -> Option<usize> {
     Some(H::active_vcpus())
 }
 
-pub fn inject_interrupt<H: X86VlapicHostOps>(
-    _vm_id: X86VmId,
-    vcpu_id: X86VcpuId,
-    vector: X86InterruptVector,
-) -> X86VlapicResult {
+pub fn inject_interrupt<H: X86VlapicHostOps>(_vm_id: X86VmId, vcpu_id: X86VcpuId, vector: X86InterruptVector) -> X86VlapicResult {
     H::inject_interrupt(vcpu_id, vector)
 }
 
