@@ -1,7 +1,7 @@
 //! The 8259 pair's calls. A claim's fields are private: they are read from its `Debug` text, and a claim to restore is won
 //! from a scratch pair that is brought into the state in which claiming gives exactly that claim.
 
-use crate::reply::{Judge, Reply, ask, fatal};
+use crate::reply::{Reply, ask, fatal};
 use x86_vlapic::{EmulatedPic, PicInterruptClaim, X86AccessWidth, X86Port};
 
 const MASTER: u16 = 0x20;
@@ -41,11 +41,10 @@ impl Pic {
         // HARNESS: the Rust's claims below line 8 never have the slave's flag, and a claim's vector ends in its line's three
         // low bits, since a base is a multiple of 8. A script's claim that has it otherwise can't be won: the nearest one is
         // restored, without that flag and with those bits.
-        let flags = if line < 8 { flags & 1 } else { flags & 3 };
-        let won_vector = (vector & 0xf8) | (line & 7);
-        self.pair.restore_interrupt(win(won_vector, line, flags));
-        let exact = won_vector == vector;
-        Reply { judge: if exact { Judge::Rust } else { Judge::Harness }, ..Reply::done(Vec::new()) }
+        let nearest = ((vector & 0xf8) | (line & 7), if line < 8 { flags & 1 } else { flags & 3 });
+        self.pair.restore_interrupt(win(nearest.0, line, nearest.1));
+        let restored = Reply::done(Vec::new());
+        if nearest == (vector, flags & 3) { restored } else { restored.by_harness() }
     }
 }
 
