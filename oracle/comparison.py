@@ -2,10 +2,13 @@
 import itertools
 import subprocess
 import sys
+import time
 
 from scripts import describe, pack, split, unpack
 
 TIME_LIMIT = 120  # seconds for one run: a program that hangs is a difference
+SHRINKING = 60  # seconds for making a difference small; what is reached then is shown
+SHOWN = 1000  # bytes of a script that are printed
 
 
 def run(command, given):
@@ -51,28 +54,26 @@ class Comparison:
 
     def both(self, pieces):
         script = b"".join(pieces)
-        return run([self.oracle], script)[0].splitlines(), run(self.command, script)[0].splitlines()
+        return run([self.oracle], script)[0].splitlines(keepends=True), run(self.command, script)[0].splitlines(keepends=True)
 
     def cut(self, pieces):
-        """The pieces up to the first line that differs; nothing if none does."""
+        """The pieces up to the first line that differs, if that is enough to show it; nothing if no line differs."""
         expected, answer = self.both(pieces)
-        for n, (one, other) in enumerate(itertools.zip_longest(expected, answer)):
-            if one != other:
-                shorter = pieces[: n + 1]
-                return shorter if len(shorter) == len(pieces) or self.cut_is_enough(shorter) else pieces
-        return None
-
-    def cut_is_enough(self, pieces):
-        expected, answer = self.both(pieces)
-        return expected != answer
+        if expected == answer:
+            return None
+        first = next(n for n, (one, other) in enumerate(itertools.zip_longest(expected, answer)) if one != other)
+        shorter = pieces[: first + 1]
+        expected, answer = self.both(shorter)
+        return shorter if expected != answer else pieces
 
     def smallest(self, script):
         """Drops fields, many at once and then one at a time, while the difference stays."""
         pieces = self.cut(split(script)) or split(script)
         size = len(pieces) // 2
+        end = time.monotonic() + SHRINKING
         while size:
             at = 0
-            while at < len(pieces):
+            while at < len(pieces) and time.monotonic() < end:
                 shorter = self.cut(pieces[:at] + pieces[at + size :])
                 if shorter:
                     pieces = shorter
@@ -86,7 +87,9 @@ class Comparison:
         pieces = self.smallest(script)
         expected, answer = self.both(pieces)
         marked = run([self.oracle, "--mark"], b"".join(pieces))[0].splitlines()
-        lines = ["a difference; the smallest script that shows it:", f"    {b''.join(pieces).hex(' ')[:3000]}"]
+        script = b"".join(pieces)
+        more = f" .. {len(script)} bytes" if len(script) > SHOWN else ""
+        lines = ["a difference; the smallest script that shows it:", f"    {script[:SHOWN].hex(' ')}{more}"]
         for piece, want, got, mark in itertools.zip_longest(pieces, expected, answer, marked):
             judge = {b"R": "the Rust", b"H": "the harness"}.get((mark or b"")[-1:], "nobody")
             field = describe(piece) if piece else "(after the script)"
@@ -96,4 +99,6 @@ class Comparison:
 
 
 def text(line):
-    return "" if line is None else line.decode(errors="replace")
+    if line is None:
+        return "(no line)"
+    return line.decode(errors="replace").removesuffix("\n") + ("" if line.endswith(b"\n") else " (no newline)")

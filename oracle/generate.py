@@ -276,7 +276,7 @@ def damages(thin):
             yield fields[0] + bytes([tag, 2, 0, 0x80, 0]) + fields[1]
     for f in fields:
         length = len(f) - 3
-        for wrong in {max(length - 1, 0), length + 1, length + 256, 0, 255, 65535}:
+        for wrong in sorted({max(length - 1, 0), length + 1, length + 256, 0, 255, 65535} - {length}):
             yield fields[3] + f[:1] + wrong.to_bytes(2, "little") + f[3:] + bytes(1 + wrong % 3) + fields[4]
         for left in (1, 2):
             yield f + f[:left]
@@ -464,21 +464,16 @@ def seeded(dice):
             yield damaged(dice, script) if dice.chance(10) else script
 
 
-def count(script):
-    """How many lines a script can print."""
-    return len(split(script)) if len(script) <= LONGEST else 1
-
-
 def scripts(seed, least_fields, thin):
     """The whole domains, then seeded scripts: some at least, and until there are as many fields as asked."""
     fields = 0
     for script in whole_domains(thin):
-        fields += count(script)
+        fields += count_lines(script)
         yield script
     for n, script in enumerate(seeded(Dice(seed))):
         if fields >= least_fields and n >= LEAST_SEEDED:
             return
-        fields += count(script)
+        fields += count_lines(script)
         yield script
 
 

@@ -125,9 +125,23 @@ def split(script):
     return fields
 
 
+def is_bad(piece):
+    """Whether a piece of `split` is a bad field."""
+    right = LENGTH.get(piece[0]) == int.from_bytes(piece[1:3], "little") and len(piece) == 3 + LENGTH[piece[0]]
+    return not right or (piece[0] in WITH_WIDTH and piece[3] not in (1, 2, 4, 8))
+
+
+def count_lines(script):
+    """How many lines a script prints: one a field, the first bad one included, or one alone if it is too long."""
+    if len(script) > LONGEST:
+        return 1
+    pieces = split(script)
+    return next((n + 1 for n, piece in enumerate(pieces) if is_bad(piece)), len(pieces))
+
+
 def describe(piece):
-    """A field as text, `01 I/O read width=4 address=0xfec00000`; other bytes as a bad field."""
-    if piece[0] not in TAGS or len(piece) != 3 + LENGTH[piece[0]] or piece[1] + 256 * piece[2] != LENGTH[piece[0]]:
+    """A field as text, `01 I/O read width=0x4 address=0xfec00000`; other bytes as a bad field."""
+    if is_bad(piece):
         return f"bad field of {len(piece)} bytes"
     name, parts = TAGS[piece[0]]
     words, at = [f"{piece[0]:02x} {name}"], 3
