@@ -1,0 +1,200 @@
+-- The chip's rules are kept by every public call, refused calls hand the chip back, and a selector names an entry of the table. Assumes nothing.
+use Prim.Native.Nat.{ℕ, zero, suc, _%_, _^_, _-_, _≤_, _<_}
+use native.Mathlib.Omega.{arith}
+use native.Mathlib.Decide.{ℕ-discrete}
+use mathlib.Core.Bool.{Bool, true, false, cond, _&&_}
+use mathlib.Core.List.{List, [], _∷_}
+use mathlib.Core.Path.{_≡_, refl, sym, _∙_, ap}
+use lib.Dec.{eqb, leb}
+use lib.ListN.{length, getD, set, length-set, replicate}
+use Rattle.types.specs.Reply.{replyNumber}
+use Rattle.types.specs.declared.Gsi.{Gsi}
+use Rattle.types.specs.declared.Vector.{Vector}
+use Rattle.vioapic.specs.Answers.{routedReply, eoiReply, writtenReply}
+use Rattle.vioapic.specs.Redirection.{isFit, isLevel, remoteIrr, withWord, withPending, withInput, withoutRemoteIrr, sendEntry, moveLine, endEntry}
+use Rattle.vioapic.specs.Table.{newEntry, noEntry, newState, entryAt, put, interruptForEntry, setLevel, firstAwaiting, endOfEntry}
+use Rattle.vioapic.specs.Registers.{writeAt}
+use Rattle.vioapic.specs.IoApic.{chipAt, goodWidth, withState, setGsiLevel, assertGsi, endOfInterrupt, handleWrite}
+use Rattle.vioapic.specs.Calls.{Call, SetGsiLevel, AssertGsi, EndOfInterrupt, VectorForGsi, AddressRange, HandleRead, HandleWrite, outcome, next, run}
+use Rattle.vioapic.specs.declared.redirection.Entry.{Entry}
+use Rattle.vioapic.specs.declared.redirection.EntryStep.{EntryStep}
+use Rattle.vioapic.specs.declared.redirection.Routed.{Routed}
+use Rattle.vioapic.specs.declared.redirection.Routed.the-variants.{NotRouted, Interrupt}
+use Rattle.vioapic.specs.declared.Eoi.{Eoi}
+use Rattle.vioapic.specs.declared.Eoi.the-variants.{NotEnded, Ended}
+use Rattle.vioapic.specs.declared.IoApicEoi.{IoApicEoi}
+use Rattle.vioapic.specs.declared.IoApicState.{IoApicState}
+use Rattle.vioapic.specs.declared.EmulatedIoApic.{EmulatedIoApic}
+use Rattle.vioapic.specs.declared.Routing.{Routing}
+use Rattle.vioapic.specs.declared.Ending.{Ending}
+use Rattle.vioapic.specs.declared.Writing.{Writing}
+use Rattle.heard.specs.Rules.{implies, entryRules, ChipRules, NewKeepsRules, CallsKeepRules, RunsKeepRules, RefusedKeeps, TableIndex}
+use Rattle.heard.proofs.Words.{same-fit, same-level, alike-with, alike-without, alike-high, irr-with, irr-without, irr-low, irr-high}
+use Rattle.heard.proofs.Steps.{never, and-true}
+use Rattle.heard.proofs.Tables.{put-same, put-other}
+use Rattle.heard.proofs.Views.{Sent, sent-view, Raised, Moved, moved-view, Over, over-view, Wrote, Routes, assert-view, level-view, Ends, ends-view, Writes, writes-view}
+
+-- ---- the rules of one entry
+
+pub record Rules (e : Entry) : Type 0 where
+  pub deferred : e .«pending_level» ≡ true → remoteIrr (e .word) ≡ true
+  pub level : remoteIrr (e .word) ≡ true → isLevel (e .word) ≡ true
+  pub fit : remoteIrr (e .word) ≡ true → isFit (e .word) ≡ true
+
+implied : (a b : Bool) → implies a b ≡ true → a ≡ true → b ≡ true
+implied true b e h = e
+implied false b e h = never h refl
+
+imply : (a b : Bool) → (a ≡ true → b ≡ true) → implies a b ≡ true
+imply true b f = f refl
+imply false b f = refl
+
+pub rules-of : (e : Entry) → entryRules e ≡ true → Rules e
+rules-of e h =
+    let p = and-true (implies (e .«pending_level») (remoteIrr (e .word))) (implies (remoteIrr (e .word)) (isLevel (e .word) && isFit (e .word))) h in
+    record {
+      deferred = implied (e .«pending_level») (remoteIrr (e .word)) (p .0);
+      level = λ i. and-true (isLevel (e .word)) (isFit (e .word)) (implied (remoteIrr (e .word)) (isLevel (e .word) && isFit (e .word)) (p .1) i) .0;
+      fit = λ i. and-true (isLevel (e .word)) (isFit (e .word)) (implied (remoteIrr (e .word)) (isLevel (e .word) && isFit (e .word)) (p .1) i) .1;
+    }
+
+of-rules : (e : Entry) → Rules e → entryRules e ≡ true
+of-rules e r =
+    rw (imply (e .«pending_level») (remoteIrr (e .word)) (r .deferred)) (imply (remoteIrr (e .word)) (isLevel (e .word) && isFit (e .word)) (λ i. rw (r .level i, r .fit i)))
+
+send-rules : (e : Entry) (r : EntryStep) → Sent e r → Rules e → Rules (r .entry)
+send-rules e r (Sent.unfit p) k = k
+send-rules e r (Sent.edge p q) k = k
+send-rules e r (Sent.later p q i) k = record { deferred = λ h. i; level = k .level; fit = k .fit }
+send-rules e r (Sent.fresh p q i) k =
+    let a = alike-with (e .word) in
+    record { deferred = λ h. irr-with (e .word); level = λ h. same-level a ∙ q; fit = λ h. same-fit a ∙ p }
+
+move-rules : (e : Entry) (b : Bool) (r : EntryStep) → Moved e b r → Rules e → Rules (r .entry)
+move-rules e b r (Moved.up (Raised.again p q)) k = record { deferred = λ h. q; level = k .level; fit = k .fit }
+move-rules e b r (Moved.up (Raised.raised s)) k = send-rules (withInput e true) r s (record { deferred = k .deferred; level = k .level; fit = k .fit })
+move-rules e b r Moved.down k = record { deferred = λ h. never h refl; level = k .level; fit = k .fit }
+
+-- an entry that isn't in flight and has nothing put off
+resting : (e : Entry) → (e .«pending_level» ≡ true → ⊥) → remoteIrr (e .word) ≡ false → Rules e
+resting e n i = record { deferred = λ h. absurd (n h); level = λ h. never h i; fit = λ h. never h i }
+
+end-rules : (e : Entry) (r : EntryStep) → Over e r → Rules e → Rules (r .entry)
+end-rules e r (Over.resent b a c (Sent.unfit p)) k =
+    resting (r .entry) (λ h. never (same-fit (alike-without (e .word)) ∙ k .fit (k .deferred (c h))) p) (irr-without (e .word))
+end-rules e r (Over.resent b a c (Sent.edge p q)) k =
+    resting (r .entry) (λ h. never (same-level (alike-without (e .word)) ∙ k .level (k .deferred (c h))) q) (irr-without (e .word))
+end-rules e r (Over.resent b a c (Sent.later p q i)) k = never i (irr-without (e .word))
+end-rules e r (Over.resent b a c (Sent.fresh p q i)) k =
+    let m = alike-with (withoutRemoteIrr (e .word)) in
+    record { deferred = λ h. irr-with (withoutRemoteIrr (e .word)); level = λ h. same-level m ∙ q; fit = λ h. same-fit m ∙ p }
+end-rules e r (Over.rested a) k = resting (r .entry) (λ h. never h refl) (irr-without (e .word))
+
+wrote-rules : (e : Entry) (x : ℕ) (f : Entry) → Wrote e x f → Rules e → Rules f
+wrote-rules e x f (Wrote.kept b c) k = record { deferred = λ h. k .deferred (c h); level = k .level; fit = k .fit }
+wrote-rules e x f (Wrote.changed n) k = resting f (λ h. never h refl) (irr-low (e .word) x)
+wrote-rules e x f Wrote.high k =
+    let i = irr-high (e .word) x in
+    let a = alike-high (e .word) x in
+    record { deferred = λ h. i ∙ k .deferred h; level = λ h. same-level a ∙ k .level (sym i ∙ h); fit = λ h. same-fit a ∙ k .fit (sym i ∙ h) }
+
+-- ---- the rules of the chip
+
+at-rules : (s : IoApicState) → ChipRules s → (h : ℕ) → h < 24 → Rules (entryAt s h)
+at-rules s k h l = rules-of (entryAt s h) (k .each h l)
+
+put-rules : (s : IoApicState) (h : ℕ) (f : Entry) → ChipRules s → h < 24 → Rules f → ChipRules (put s h f)
+put-rules s h f k l r = record { table = length-set (s .entries) h f ∙ k .table; each = at }
+  where
+    at : (j : ℕ) → j < 24 → entryRules (entryAt (put s h f) j) ≡ true
+    at j i = go (ℕ-discrete j h)
+      where
+        go : Dec (j ≡ h) → entryRules (entryAt (put s h f) j) ≡ true
+        go (yes e) = rw e (ap (λ (x : Entry). entryRules x) (put-same s h f (k .table) l) ∙ of-rules f r)
+        go (no e) = ap (λ (x : Entry). entryRules x) (put-other s h f j e) ∙ k .each j i
+
+routes-rules : (s : IoApicState) (gsi : Gsi) (step : Entry → EntryStep) (x : Routing) → Routes s gsi step x
+    → ((e : Entry) → Rules e → Rules (step e .entry)) → ChipRules s → ChipRules (x .state)
+routes-rules s gsi step x (Routes.hit l) f k = put-rules s (gsi .0) (step (entryAt s (gsi .0)) .entry) k l (f (entryAt s (gsi .0)) (at-rules s k (gsi .0) l))
+routes-rules s gsi step x (Routes.miss l) f k = k
+
+ends-rules : (s : IoApicState) (v : Vector) (x : Ending) → Ends s v x → ChipRules s → ChipRules (x .state)
+ends-rules s v x (Ends.found l) k =
+    let h : ℕ = firstAwaiting s v in
+    put-rules s (firstAwaiting s v) (endEntry (entryAt s (firstAwaiting s v)) .entry) k l
+    (end-rules (entryAt s (firstAwaiting s v)) (endEntry (entryAt s (firstAwaiting s v))) (over-view (entryAt s (firstAwaiting s v))) (at-rules s k (firstAwaiting s v) l))
+ends-rules s v x (Ends.unfound l) k = k
+
+writes-rules : (s : IoApicState) (x : ℕ) (w : Writing) → Writes s x w → ChipRules s → ChipRules (w .state)
+writes-rules s x w (Writes.selected y) k = record { table = k .table; each = k .each }
+writes-rules s x w (Writes.word h f l v) k = put-rules s h f k l (wrote-rules (entryAt s h) x f v (at-rules s k h l))
+
+pub calls-keep-rules : CallsKeepRules
+unfolding outcome setGsiLevel assertGsi endOfInterrupt handleWrite
+calls-keep-rules m (SetGsiLevel gsi b) k =
+    routes-rules (m .state) gsi (λ e. moveLine e b) (setLevel (m .state) gsi b) (level-view (m .state) gsi b) (λ e r. move-rules e b (moveLine e b) (moved-view e b) r) k
+calls-keep-rules m (AssertGsi gsi) k =
+    routes-rules (m .state) gsi sendEntry (interruptForEntry (m .state) gsi) (assert-view (m .state) gsi) (λ e r. send-rules e (sendEntry e) (sent-view e) r) k
+calls-keep-rules m (EndOfInterrupt v) k = ends-rules (m .state) v (endOfEntry (m .state) v) (ends-view (m .state) v) k
+calls-keep-rules m (VectorForGsi gsi) k = k
+calls-keep-rules m AddressRange k = k
+calls-keep-rules m (HandleRead addr width) k = k
+calls-keep-rules m (HandleWrite addr width x) k = go (goodWidth width) (leb (m .base) addr) refl refl
+  where
+    go : (a b : Bool) → goodWidth width ≡ a → leb (m .base) addr ≡ b → ChipRules (handleWrite m addr width x .state .state)
+    go false b p q = rw p k
+    go true false p q = rw (p, q) k
+    go true true p q =
+        rw (p, q) (writes-rules (m .state) (x % 4294967296) (writeAt (m .state) (addr - m .base) (x % 4294967296)) (writes-view (m .state) (addr - m .base) (x % 4294967296)) k)
+
+pub runs-keep-rules : RunsKeepRules
+unfolding run
+runs-keep-rules m [] k = k
+runs-keep-rules m (c ∷ cs) k = runs-keep-rules (next m c) cs (calls-keep-rules m c k)
+
+new-rules : (n j : ℕ) → entryRules (getD (replicate n newEntry) j noEntry) ≡ true
+new-rules zero j = refl
+new-rules (suc n) zero = refl
+new-rules (suc n) (suc j) = new-rules n j
+
+pub new-keeps-rules : NewKeepsRules
+new-keeps-rules base size = record { table = refl; each = λ j l. new-rules 24 j }
+
+-- ---- refusals
+
+routed-done : (r : Routed) → replyNumber (routedReply r) ≡ 0
+routed-done NotRouted = refl
+routed-done (Interrupt i) = refl
+
+eoi-done : (r : Eoi) → replyNumber (eoiReply r) ≡ 0
+eoi-done NotEnded = refl
+eoi-done (Ended e) = go (e .gsi .0) (e .pending)
+  where
+    go : (g : ℕ) (r : Routed) → replyNumber (eoiReply (Ended (record { gsi = record { 0 = g }; pending = r }))) ≡ 0
+    go g NotRouted = refl
+    go g (Interrupt i) = refl
+
+writes-done : (s : IoApicState) (x : ℕ) (w : Writing) → Writes s x w → replyNumber (writtenReply (w .answer)) ≡ 0
+writes-done s x w (Writes.selected y) = refl
+writes-done s x w (Writes.word h f l v) = refl
+
+pub refused-keeps : RefusedKeeps
+unfolding outcome setGsiLevel assertGsi endOfInterrupt handleWrite
+refused-keeps m (SetGsiLevel gsi b) n = absurd (n (routed-done (setLevel (m .state) gsi b .answer)))
+refused-keeps m (AssertGsi gsi) n = absurd (n (routed-done (interruptForEntry (m .state) gsi .answer)))
+refused-keeps m (EndOfInterrupt v) n = absurd (n (eoi-done (endOfEntry (m .state) v .answer)))
+refused-keeps m (VectorForGsi gsi) n = refl
+refused-keeps m AddressRange n = refl
+refused-keeps m (HandleRead addr width) n = refl
+refused-keeps m (HandleWrite addr width x) n = go (goodWidth width) (leb (m .base) addr) refl refl
+  where
+    go : (a b : Bool) → goodWidth width ≡ a → leb (m .base) addr ≡ b → handleWrite m addr width x .state ≡ m
+    go false b p q = rw p
+    go true false p q = rw (p, q)
+    go true true p q =
+        absurd (n (rw (p, q) (writes-done (m .state) (x % 4294967296) (writeAt (m .state) (addr - m .base) (x % 4294967296)) (writes-view (m .state) (addr - m .base) (x % 4294967296)))))
+
+-- ---- the selector
+
+pub table-index : TableIndex
+table-index sel l h = omega arith

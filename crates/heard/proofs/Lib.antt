@@ -1,0 +1,7 @@
+pub mod Demand
+pub mod Keeps
+pub mod OnTime
+pub mod Steps
+pub mod Tables
+pub mod Views
+pub mod Words

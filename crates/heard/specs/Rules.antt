@@ -1,0 +1,48 @@
+-- The rules that a chip keeps, and what holds of every public call.
+-- 82093AA: IOREDTBL, Remote IRR (defined for level entries).
+use Prim.Native.Nat.{ℕ, _≤_, _<_}
+use mathlib.Core.Bool.{Bool, true, cond, _&&_}
+use mathlib.Core.List.{List}
+use mathlib.Core.Path.{_≡_}
+use lib.ListN.{length}
+use Rattle.types.specs.Reply.{replyNumber}
+use Rattle.vioapic.specs.Redirection.{remoteIrr, isLevel, isFit}
+use Rattle.vioapic.specs.Table.{entryAt}
+use Rattle.vioapic.specs.Registers.{entryOf}
+use Rattle.vioapic.specs.IoApic.{chipAt}
+use Rattle.vioapic.specs.Calls.{Call, outcome, next, run}
+use Rattle.vioapic.specs.declared.redirection.Entry.{Entry}
+use Rattle.vioapic.specs.declared.IoApicState.{IoApicState}
+use Rattle.vioapic.specs.declared.EmulatedIoApic.{EmulatedIoApic}
+
+abbrev pub implies : Bool → Bool → Bool
+implies a b = cond a b true
+
+-- an entry's rules: put off only in flight; in flight only level, and fit to be sent
+abbrev pub entryRules : Entry → Bool
+entryRules e = implies (e .«pending_level») (remoteIrr (e .word)) && implies (remoteIrr (e .word)) (isLevel (e .word) && isFit (e .word))
+
+-- a chip's rules: 24 entries, and each keeps its own
+pub record ChipRules (s : IoApicState) : Type 0 where
+  pub table : length (s .entries) ≡ 24
+  pub each : (j : ℕ) → j < 24 → entryRules (entryAt s j) ≡ true
+
+-- a new chip keeps the rules
+abbrev pub NewKeepsRules : Type 0
+NewKeepsRules = (base size : ℕ) → ChipRules (chipAt base size .state)
+
+-- every public call keeps them
+abbrev pub CallsKeepRules : Type 0
+CallsKeepRules = (m : EmulatedIoApic) (c : Call) → ChipRules (m .state) → ChipRules (next m c .state)
+
+-- and so does a run of calls
+abbrev pub RunsKeepRules : Type 0
+RunsKeepRules = (m : EmulatedIoApic) (cs : List Call) → ChipRules (m .state) → ChipRules (run m cs .state)
+
+-- a refused call hands the chip back as it came
+abbrev pub RefusedKeeps : Type 0
+RefusedKeeps = (m : EmulatedIoApic) (c : Call) → (replyNumber (outcome m c .reply) ≡ 0 → ⊥) → next m c ≡ m
+
+-- the selectors of entry words name entries of the table: the Rust's `InvalidInput` for table entries can't occur
+abbrev pub TableIndex : Type 0
+TableIndex = (sel : ℕ) → 0x10 ≤ sel → sel ≤ 0x3f → entryOf sel < 24

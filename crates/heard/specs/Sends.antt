@@ -1,0 +1,69 @@
+-- What is counted over a run of public calls: the times that an entry is sent, and the EOIs of a vector.
+-- "Sent" is read off the replies: a line's or an assertion's reply is (vector, level), and an EOI's that sends again is (GSI, vector, level).
+use Prim.Native.Nat.{ℕ, zero, suc, _+_}
+use mathlib.Core.Bool.{Bool, true, false, cond}
+use mathlib.Core.List.{List, [], _∷_}
+use lib.Dec.{eqb}
+use Rattle.types.specs.declared.Vector.{Vector}
+use Rattle.types.specs.declared.Reply.{Reply}
+use Rattle.types.specs.declared.Reply.the-variants.{Refused, Nothing, One, Two, Three}
+use Rattle.vioapic.specs.Redirection.{awaits}
+use Rattle.vioapic.specs.Table.{entryAt}
+use Rattle.vioapic.specs.Calls.{Call, SetGsiLevel, AssertGsi, EndOfInterrupt, VectorForGsi, AddressRange, HandleRead, HandleWrite, outcome, next}
+use Rattle.vioapic.specs.declared.IoApicState.{IoApicState}
+use Rattle.vioapic.specs.declared.EmulatedIoApic.{EmulatedIoApic}
+
+-- a reply that carries a line's interrupt
+abbrev pub routes : Reply → ℕ
+routes (Two v l) = 1
+routes (Refused why) = 0
+routes Nothing = 0
+routes (One a) = 0
+routes (Three a b c) = 0
+
+-- a reply that carries GSI g's interrupt, sent again by an EOI
+abbrev pub resends : ℕ → Reply → ℕ
+resends g (Three h v l) = cond (eqb h g) 1 0
+resends g (Refused why) = 0
+resends g Nothing = 0
+resends g (One a) = 0
+resends g (Two a b) = 0
+
+-- how often a call with this reply sends entry g: once or not at all
+unfoldable pub sent : ℕ → Call → Reply → ℕ
+sent g (SetGsiLevel h up) r = cond (eqb (h .0) g) (routes r) 0
+sent g (AssertGsi h) r = cond (eqb (h .0) g) (routes r) 0
+sent g (EndOfInterrupt v) r = resends g r
+sent g (VectorForGsi h) r = 0
+sent g AddressRange r = 0
+sent g (HandleRead a w) r = 0
+sent g (HandleWrite a w x) r = 0
+
+-- how often a run sends entry g
+unfoldable pub sends : ℕ → EmulatedIoApic → List Call → ℕ
+sends g m [] = 0
+sends g m (c ∷ cs) = sent g c (outcome m c .reply) + sends g (next m c) cs
+
+-- the call is an EOI of the vector
+abbrev pub isEoi : Vector → Call → Bool
+isEoi v (EndOfInterrupt u) = eqb (u .0) (v .0)
+isEoi v (SetGsiLevel h up) = false
+isEoi v (AssertGsi h) = false
+isEoi v (VectorForGsi h) = false
+isEoi v AddressRange = false
+isEoi v (HandleRead a w) = false
+isEoi v (HandleWrite a w x) = false
+
+-- how many of the calls are
+unfoldable pub eois : Vector → List Call → ℕ
+eois v [] = 0
+eois v (c ∷ cs) = cond (isEoi v c) 1 0 + eois v cs
+
+-- how many numbers below n pass a test
+unfoldable pub count : ℕ → (ℕ → Bool) → ℕ
+count zero p = 0
+count (suc n) p = cond (p n) 1 0 + count n p
+
+-- how many entries below g are in flight with the vector
+abbrev pub lowerInFlight : Vector → ℕ → IoApicState → ℕ
+lowerInFlight v g s = count g (λ j. awaits v (entryAt s j))

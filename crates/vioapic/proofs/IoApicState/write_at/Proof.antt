@@ -1,0 +1,23 @@
+use Rattle.utils.specs.Cases.{cases}
+use Rattle.vioapic.specs.Registers.{writeAt}
+use borrow.Author.Needs.{needs}
+use Rattle.vioapic.proofs.IoApicState.write_at.Statement.{statement}
+use Rattle.vioapic.proofs.IoApicState.write_at.Tie as tie
+
+returns : tie.Need-returns
+unfolding writeAt
+returns c = search cases
+
+write-selected-register-requires : tie.Need-write-selected-register-requires
+write-selected-register-requires c κs = search needs
+
+returns-2 : tie.Need-returns-2
+unfolding writeAt
+returns-2 c = search cases
+
+returns-3 : tie.Need-returns-3
+unfolding writeAt
+returns-3 c = search cases
+
+pub write-at-spec : {M : Type 1} → statement M
+write-at-spec = tie.close (tie.spec returns write-selected-register-requires returns-2 returns-3)

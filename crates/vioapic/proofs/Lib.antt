@@ -1,0 +1,3 @@
+pub mod ChipLaws
+pub mod EntryLaws
+pub mod Same

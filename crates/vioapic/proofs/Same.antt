@@ -1,0 +1,151 @@
+-- Nothing is lost in an outcome: each answer can be read back from its reply, so equal outcomes come from equal results. Assumes nothing.
+use mathlib.Core.Path.{_≡_, refl, sym, ap, _∙_}
+use mathlib.Core.Bool.{Bool, true, false}
+use Prim.Native.Nat.{ℕ}
+use lib.Dec.{eqb}
+use Rattle.types.specs.Reply.{flag, Outcome}
+use Rattle.types.specs.declared.Reply.{Reply}
+use Rattle.types.specs.declared.Reply.the-variants.{Refused, Nothing, One, Two, Three}
+use Rattle.vioapic.specs.Answers.{routedReply, eoiReply, gsiVectorReply, readReply, writtenReply, rangeReply, routingOutcome, endingOutcome, writingOutcome}
+use Rattle.vioapic.specs.declared.redirection.IoApicInterrupt.{IoApicInterrupt}
+use Rattle.vioapic.specs.declared.redirection.Routed.{Routed}
+use Rattle.vioapic.specs.declared.redirection.Routed.the-variants.{NotRouted, Interrupt}
+use Rattle.vioapic.specs.declared.IoApicEoi.{IoApicEoi}
+use Rattle.vioapic.specs.declared.Eoi.{Eoi}
+use Rattle.vioapic.specs.declared.Eoi.the-variants.{NotEnded, Ended}
+use Rattle.vioapic.specs.declared.GsiVector.{GsiVector}
+use Rattle.vioapic.specs.declared.GsiVector.the-variants.{NoVector, Programmed}
+use Rattle.vioapic.specs.declared.Read.{Read}
+use Rattle.vioapic.specs.declared.Read.the-variants.{Value, NotRead}
+use Rattle.vioapic.specs.declared.Written.{Written}
+use Rattle.vioapic.specs.declared.Written.the-variants.{Done, NotWritten}
+use Rattle.vioapic.specs.declared.AddressRange.{AddressRange}
+use Rattle.vioapic.specs.declared.AddressRange.the-variants.{Between, NoRange}
+use Rattle.vioapic.specs.declared.EmulatedIoApic.{EmulatedIoApic}
+use Rattle.vioapic.specs.declared.IoApicRouting.{IoApicRouting}
+use Rattle.vioapic.specs.declared.IoApicEnding.{IoApicEnding}
+use Rattle.vioapic.specs.declared.IoApicWriting.{IoApicWriting}
+
+-- what has a way back is one to one
+same : {A B : Type 0} (f : A → B) (g : B → A) → ((a : A) → g (f a) ≡ a) → (a b : A) → f a ≡ f b → a ≡ b
+same f g back a b e = sym (back a) ∙ ap g e ∙ back b
+
+flag-back : (b : Bool) → eqb (flag b) 1 ≡ b
+flag-back true = refl
+flag-back false = refl
+
+-- ---- answers
+
+abbrev interruptOf : ℕ → ℕ → IoApicInterrupt
+interruptOf v l = record { vector = record { 0 = v }; «level_triggered» = eqb l 1 }
+
+interrupt-back : (i : IoApicInterrupt) → interruptOf (i .vector .0) (flag (i .«level_triggered»)) ≡ i
+interrupt-back i = ap (λ (b : Bool). record { vector = i .vector; «level_triggered» = b }) (flag-back (i .«level_triggered»))
+
+abbrev routedOf : Reply → Routed
+routedOf (Refused why) = NotRouted
+routedOf Nothing = NotRouted
+routedOf (One a) = NotRouted
+routedOf (Two v l) = Interrupt (interruptOf v l)
+routedOf (Three a v l) = Interrupt (interruptOf v l)
+
+routed-back : (r : Routed) → routedOf (routedReply r) ≡ r
+routed-back NotRouted = refl
+routed-back (Interrupt i) = ap Interrupt (interrupt-back i)
+
+pub routed-reply-same : (a b : Routed) → routedReply a ≡ routedReply b → a ≡ b
+routed-reply-same = same routedReply routedOf routed-back
+
+abbrev endedOf : ℕ → Routed → Eoi
+endedOf g r = Ended (record { gsi = record { 0 = g }; pending = r })
+
+abbrev eoiOf : Reply → Eoi
+eoiOf (Refused why) = NotEnded
+eoiOf Nothing = NotEnded
+eoiOf (One g) = endedOf g NotRouted
+eoiOf (Two v l) = NotEnded
+eoiOf (Three g v l) = endedOf g (Interrupt (interruptOf v l))
+
+eoi-back : (r : Eoi) → eoiOf (eoiReply r) ≡ r
+eoi-back NotEnded = refl
+eoi-back (Ended e) = go (e .gsi .0) (e .pending)
+  where
+    go : (g : ℕ) (r : Routed) → eoiOf (eoiReply (endedOf g r)) ≡ endedOf g r
+    go g NotRouted = refl
+    go g (Interrupt i) = ap (λ (x : IoApicInterrupt). endedOf g (Interrupt x)) (interrupt-back i)
+
+pub eoi-reply-same : (a b : Eoi) → eoiReply a ≡ eoiReply b → a ≡ b
+eoi-reply-same = same eoiReply eoiOf eoi-back
+
+abbrev gsiVectorOf : Reply → GsiVector
+gsiVectorOf (Refused why) = NoVector
+gsiVectorOf Nothing = NoVector
+gsiVectorOf (One v) = Programmed (record { 0 = v })
+gsiVectorOf (Two a b) = NoVector
+gsiVectorOf (Three a b c) = NoVector
+
+gsi-vector-back : (r : GsiVector) → gsiVectorOf (gsiVectorReply r) ≡ r
+gsi-vector-back NoVector = refl
+gsi-vector-back (Programmed v) = refl
+
+pub gsi-vector-reply-same : (a b : GsiVector) → gsiVectorReply a ≡ gsiVectorReply b → a ≡ b
+gsi-vector-reply-same = same gsiVectorReply gsiVectorOf gsi-vector-back
+
+abbrev readOf : Reply → Read
+readOf (Refused why) = NotRead why
+readOf Nothing = Value 0
+readOf (One x) = Value x
+readOf (Two a b) = Value a
+readOf (Three a b c) = Value a
+
+read-back : (r : Read) → readOf (readReply r) ≡ r
+read-back (Value x) = refl
+read-back (NotRead why) = refl
+
+pub read-reply-same : (a b : Read) → readReply a ≡ readReply b → a ≡ b
+read-reply-same = same readReply readOf read-back
+
+abbrev writtenOf : Reply → Written
+writtenOf (Refused why) = NotWritten why
+writtenOf Nothing = Done
+writtenOf (One a) = Done
+writtenOf (Two a b) = Done
+writtenOf (Three a b c) = Done
+
+written-back : (r : Written) → writtenOf (writtenReply r) ≡ r
+written-back Done = refl
+written-back (NotWritten why) = refl
+
+pub written-reply-same : (a b : Written) → writtenReply a ≡ writtenReply b → a ≡ b
+written-reply-same = same writtenReply writtenOf written-back
+
+abbrev rangeOf : Reply → AddressRange
+rangeOf (Refused why) = NoRange why
+rangeOf Nothing = Between 0 0
+rangeOf (One a) = Between a a
+rangeOf (Two a b) = Between a b
+rangeOf (Three a b c) = Between a b
+
+range-back : (r : AddressRange) → rangeOf (rangeReply r) ≡ r
+range-back (Between a b) = refl
+range-back (NoRange why) = refl
+
+pub range-reply-same : (a b : AddressRange) → rangeReply a ≡ rangeReply b → a ≡ b
+range-reply-same = same rangeReply rangeOf range-back
+
+-- ---- results
+
+pub routing-same : (a b : IoApicRouting) → routingOutcome a ≡ routingOutcome b → a ≡ b
+routing-same =
+    same routingOutcome (λ (o : Outcome EmulatedIoApic). record { chip = o .state; answer = routedOf (o .reply) })
+    (λ a. ap (λ (x : Routed). record { chip = a .chip; answer = x }) (routed-back (a .answer)))
+
+pub ending-same : (a b : IoApicEnding) → endingOutcome a ≡ endingOutcome b → a ≡ b
+ending-same =
+    same endingOutcome (λ (o : Outcome EmulatedIoApic). record { chip = o .state; answer = eoiOf (o .reply) })
+    (λ a. ap (λ (x : Eoi). record { chip = a .chip; answer = x }) (eoi-back (a .answer)))
+
+pub writing-same : (a b : IoApicWriting) → writingOutcome a ≡ writingOutcome b → a ≡ b
+writing-same =
+    same writingOutcome (λ (o : Outcome EmulatedIoApic). record { chip = o .state; answer = writtenOf (o .reply) })
+    (λ a. ap (λ (x : Written). record { chip = a .chip; answer = x }) (written-back (a .answer)))

@@ -1,0 +1,71 @@
+-- What each kind of answer says in document 01's numbers and values, and what a call that hands the chip back leaves.
+use Prim.Native.Nat.{ℕ}
+use Rattle.types.specs.Reply.{flag, Outcome}
+use Rattle.types.specs.declared.Reply.{Reply}
+use Rattle.types.specs.declared.Reply.the-variants.{Refused, Nothing, One, Two, Three}
+use Rattle.vioapic.specs.declared.redirection.IoApicInterrupt.{IoApicInterrupt}
+use Rattle.vioapic.specs.declared.redirection.Routed.{Routed}
+use Rattle.vioapic.specs.declared.redirection.Routed.the-variants.{NotRouted, Interrupt}
+use Rattle.vioapic.specs.declared.IoApicEoi.{IoApicEoi}
+use Rattle.vioapic.specs.declared.Eoi.{Eoi}
+use Rattle.vioapic.specs.declared.Eoi.the-variants.{NotEnded, Ended}
+use Rattle.vioapic.specs.declared.GsiVector.{GsiVector}
+use Rattle.vioapic.specs.declared.GsiVector.the-variants.{NoVector, Programmed}
+use Rattle.vioapic.specs.declared.Read.{Read}
+use Rattle.vioapic.specs.declared.Read.the-variants.{Value, NotRead}
+use Rattle.vioapic.specs.declared.Written.{Written}
+use Rattle.vioapic.specs.declared.Written.the-variants.{Done, NotWritten}
+use Rattle.vioapic.specs.declared.AddressRange.{AddressRange}
+use Rattle.vioapic.specs.declared.AddressRange.the-variants.{Between, NoRange}
+use Rattle.vioapic.specs.declared.EmulatedIoApic.{EmulatedIoApic}
+use Rattle.vioapic.specs.declared.IoApicRouting.{IoApicRouting}
+use Rattle.vioapic.specs.declared.IoApicEnding.{IoApicEnding}
+use Rattle.vioapic.specs.declared.IoApicWriting.{IoApicWriting}
+
+-- the vector and the trigger mode
+abbrev pub interruptReply : IoApicInterrupt → Reply
+interruptReply i = Two (i .vector .0) (flag (i .«level_triggered»))
+
+-- nothing, or the interrupt
+abbrev pub routedReply : Routed → Reply
+routedReply NotRouted = Nothing
+routedReply (Interrupt i) = interruptReply i
+
+-- the GSI alone, or with the interrupt that is sent again
+abbrev pub pendingReply : ℕ → Routed → Reply
+pendingReply gsi NotRouted = One gsi
+pendingReply gsi (Interrupt i) = Three gsi (i .vector .0) (flag (i .«level_triggered»))
+
+abbrev pub endedReply : IoApicEoi → Reply
+endedReply e = pendingReply (e .gsi .0) (e .pending)
+
+abbrev pub eoiReply : Eoi → Reply
+eoiReply NotEnded = Nothing
+eoiReply (Ended e) = endedReply e
+
+abbrev pub gsiVectorReply : GsiVector → Reply
+gsiVectorReply NoVector = Nothing
+gsiVectorReply (Programmed v) = One (v .0)
+
+abbrev pub readReply : Read → Reply
+readReply (Value x) = One x
+readReply (NotRead why) = Refused why
+
+abbrev pub writtenReply : Written → Reply
+writtenReply Done = Nothing
+writtenReply (NotWritten why) = Refused why
+
+abbrev pub rangeReply : AddressRange → Reply
+rangeReply (Between a b) = Two a b
+rangeReply (NoRange why) = Refused why
+
+-- ---- what a call leaves
+
+abbrev pub routingOutcome : IoApicRouting → Outcome EmulatedIoApic
+routingOutcome r = record { state = r .chip; reply = routedReply (r .answer) }
+
+abbrev pub endingOutcome : IoApicEnding → Outcome EmulatedIoApic
+endingOutcome r = record { state = r .chip; reply = eoiReply (r .answer) }
+
+abbrev pub writingOutcome : IoApicWriting → Outcome EmulatedIoApic
+writingOutcome r = record { state = r .chip; reply = writtenReply (r .answer) }

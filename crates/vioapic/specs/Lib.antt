@@ -1,0 +1,7 @@
+pub mod Answers
+pub mod Calls
+pub mod Departures
+pub mod IoApic
+pub mod Redirection
+pub mod Registers
+pub mod Table

@@ -1,0 +1,67 @@
+-- The registers behind the selector and the window.
+-- 82093AA: IOREGSEL (offset 0x00), IOWIN (offset 0x10), IOAPICID (0x00), IOAPICVER (0x01), IOAPICARB (0x02), IOREDTBL (0x10 to 0x3F, the low word of each entry before its high word).
+use Prim.Native.Nat.{ℕ, _-_, _/_, _%_, _^_}
+use mathlib.Core.Bool.{Bool, true, false, cond}
+use lib.Dec.{eqb, leb}
+use Rattle.vioapic.specs.Redirection.{writeLow, writeHigh}
+use Rattle.vioapic.specs.Table.{entryAt, put}
+use Rattle.vioapic.specs.declared.redirection.Entry.{Entry}
+use Rattle.vioapic.specs.declared.IoApicState.{IoApicState}
+use Rattle.vioapic.specs.declared.Writing.{Writing}
+use Rattle.vioapic.specs.declared.Written.the-variants.{Done}
+
+-- the selector names a word of the redirection table
+abbrev pub isEntryWord : ℕ → Bool
+isEntryWord sel = cond (leb 0x10 sel) (leb sel 0x3f) false
+
+-- of this entry
+abbrev pub entryOf : ℕ → ℕ
+entryOf sel = (sel - 0x10) / 2
+
+-- and the low word of it
+abbrev pub isLow : ℕ → Bool
+isLow sel = eqb (sel % 2) 0
+
+-- IOAPICVER: 24 entries, version 0x11
+abbrev pub versionWord : IoApicState → ℕ
+versionWord s = 0x00170011
+
+-- IOAPICID and IOAPICARB (D-36, D-37: fixed), IOAPICVER; any other register reads 0
+unfoldable pub readFixed : IoApicState → ℕ
+readFixed s =
+    cond (eqb (s .selector) 0) 0x01000000
+    (cond (eqb (s .selector) 1) (versionWord s)
+    (cond (eqb (s .selector) 2) 0x01000000
+    0))
+
+unfoldable pub readWord : ℕ → Entry → ℕ
+readWord sel e = cond (isLow sel) (e .word % 2 ^ 32) (e .word / 2 ^ 32)
+
+-- IOWIN is read
+unfoldable pub readSelected : IoApicState → ℕ
+readSelected s =
+    cond (isEntryWord (s .selector)) (readWord (s .selector) (entryAt s (entryOf (s .selector)))) (readFixed s)
+
+unfoldable pub writeWord : ℕ → Entry → ℕ → Entry
+writeWord sel e x = cond (isLow sel) (writeLow e x) (writeHigh e x)
+
+abbrev pub done : IoApicState → Writing
+done s = record { state = s; answer = Done }
+
+-- IOWIN is written: only the redirection table can be (D-36)
+unfoldable pub writeSelected : IoApicState → ℕ → Writing
+writeSelected s x =
+    cond (isEntryWord (s .selector))
+    (done (put s (entryOf (s .selector)) (writeWord (s .selector) (entryAt s (entryOf (s .selector))) x)))
+    (done s)
+
+-- a register of the memory map is read; any other offset reads 0
+unfoldable pub readAt : IoApicState → ℕ → ℕ
+readAt s offset = cond (eqb offset 0) (s .selector) (cond (eqb offset 0x10) (readSelected s) 0)
+
+-- and written: IOREGSEL takes the value whole (D-34), and a write at any other offset is ignored
+unfoldable pub writeAt : IoApicState → ℕ → ℕ → Writing
+writeAt s offset x =
+    cond (eqb offset 0) (done (record { selector = x; entries = s .entries }))
+    (cond (eqb offset 0x10) (writeSelected s x)
+    (done s))
