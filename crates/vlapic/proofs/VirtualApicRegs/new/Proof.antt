@@ -1,0 +1,12 @@
+use borrow.Author.Needs.{needs}
+use Rattle.vlapic.proofs.VirtualApicRegs.new.Statement.{statement}
+use Rattle.vlapic.proofs.VirtualApicRegs.new.Tie as tie
+
+reset-requires : tie.Need-reset-requires
+reset-requires c κs = search needs
+
+returns : tie.Need-returns
+returns c = simp (c .reset .ensures)
+
+pub new-spec : {M : Type 1} → statement M
+new-spec = tie.close (tie.spec reset-requires returns)

@@ -1,0 +1,72 @@
+-- The calls that can be refused: setup and the write of a register. (Acceptance and EOI stand in Priority, the read in Registers.)
+-- Intel SDM volume 3, the APIC chapter: local APIC register address map; ICR in xAPIC and in x2APIC mode; SELF IPI register.
+use Prim.Native.Nat.{ℕ, _/_, _%_}
+use mathlib.Core.Bool.{Bool, true, cond}
+use lib.Dec.{eqb, ltb}
+use Rattle.types.specs.declared.VcpuId.{VcpuId}
+use Rattle.types.specs.declared.Refusal.the-variants.{InvalidRegister, OutOfRange}
+use Rattle.types.specs.Reply.{Outcome}
+use Rattle.vlapic_icr.specs.declared.InterruptCommand.{InterruptCommand}
+use Rattle.vlapic_icr.specs.declared.IcrAnswer.{IcrAnswer}
+use Rattle.vlapic_icr.specs.declared.IcrAnswer.the-variants.{Idle, SendIllegalVector, Ipi, Refused}
+use Rattle.vlapic_icr.specs.Fields.{idle}
+use Rattle.vlapic_icr.specs.Icr.{command, selfIpi}
+use Rattle.vlapic.specs.declared.VirtualApicRegs.{VirtualApicRegs}
+use Rattle.vlapic.specs.Regs.{start, withError, withCommand}
+use Rattle.vlapic.specs.Answers.{done, sent, refused}
+use Rattle.vlapic.specs.Priority.{handleEoi}
+use Rattle.vlapic.specs.Registers.{writeStored}
+
+-- more vCPUs than a mask has bits, or an own id that no mask can hold
+abbrev pub outOfRange : ℕ → ℕ → Bool
+outOfRange num id = cond (ltb 64 num) true (ltb 63 id)
+
+-- a new local APIC in the place of s
+unfoldable pub setup : VirtualApicRegs → Bool → VcpuId → ℕ → Outcome VirtualApicRegs
+setup s x2apic id num = cond (outOfRange num (id .0)) (refused s OutOfRange) (done (start x2apic (id .0)))
+
+-- ---- the interrupt command
+
+-- what the command goes by
+abbrev pub commandOf : VirtualApicRegs → InterruptCommand
+commandOf s = record {
+  x2apic = s .x2apic;
+  «vapic_id» = s .«vapic_id»;
+  ldr = s .ldr;
+  dfr = s .dfr;
+  «icr_lo» = s .«icr_lo»;
+  «icr_hi» = s .«icr_hi»;
+}
+
+-- an illegal vector sets error bit 5, send illegal vector
+abbrev pub answered : VirtualApicRegs → IcrAnswer → Outcome VirtualApicRegs
+answered s Idle = done s
+answered s SendIllegalVector = done (withError s 5)
+answered s (Ipi kind vector mask) = sent s kind (vector .0) mask
+answered s (Refused why) = refused s why
+
+-- the words are stored, the delivery status cleared, and then carried out: a command that is refused stays in the ICR
+unfoldable pub writeIcr : VirtualApicRegs → ℕ → ℕ → ℕ → ℕ → Outcome VirtualApicRegs
+writeIcr s lo hi num active = answered (withCommand s (idle lo) hi) (command (commandOf (withCommand s (idle lo) hi)) num active)
+
+-- the ICR is written whole, by 8 bytes, in x2APIC mode, and never by 8 bytes in xAPIC mode, where its high word has its own offset
+unfoldable pub writeIcrLow : VirtualApicRegs → ℕ → ℕ → ℕ → ℕ → Outcome VirtualApicRegs
+writeIcrLow s val width num active =
+    cond (s .x2apic)
+    (cond (eqb width 8) (writeIcr s (val % 0x100000000) (val / 0x100000000) num active) (refused s InvalidRegister))
+    (cond (eqb width 8) (refused s InvalidRegister) (writeIcr s (val % 0x100000000) (s .«icr_hi») num active))
+
+-- the self-IPI register is there in x2APIC mode alone; the low byte is the vector
+unfoldable pub writeSelfIpi : VirtualApicRegs → ℕ → Outcome VirtualApicRegs
+writeSelfIpi s val = cond (s .x2apic) (answered s (selfIpi (record { 0 = s .«vapic_id» }) (record { 0 = val % 256 }))) (refused s InvalidRegister)
+
+-- ---- a register's write
+
+-- a write of `val` at `offset`, where the VM has `num` vCPUs, of which those in `active` are active
+unfoldable pub handleWrite : VirtualApicRegs → ℕ → ℕ → ℕ → ℕ → ℕ → Outcome VirtualApicRegs
+handleWrite s offset val width num active =
+    cond (outOfRange num (s .«vapic_id»)) (refused s OutOfRange)
+    (cond (eqb offset 0xb0) (done (handleEoi s .state))  -- D-79: what the EOI broadcasts is dropped
+    (cond (eqb offset 0x300) (writeIcrLow s val width num active)
+    (cond (eqb offset 0x3f0) (writeSelfIpi s val)
+    (writeStored s offset (val % 0x100000000)))))

@@ -1,0 +1,5 @@
+pub mod Regs
+pub mod Answers
+pub mod Priority
+pub mod Registers
+pub mod Calls

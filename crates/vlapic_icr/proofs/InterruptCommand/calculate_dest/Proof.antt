@@ -1,0 +1,52 @@
+use Rattle.vlapic_icr.specs.Icr.{calculateDest}
+use borrow.Author.Tests.{ne-eqb}
+use borrow.Author.Needs.{needs}
+use Rattle.vlapic_icr.proofs.InterruptCommand.calculate_dest.Statement.{statement}
+use Rattle.vlapic_icr.proofs.InterruptCommand.calculate_dest.Tie as tie
+
+shorthand-requires : tie.Need-shorthand-requires
+shorthand-requires c κs = search needs
+
+physical-dest-requires : tie.Need-physical-dest-requires
+physical-dest-requires c κs = search needs
+
+cast-without : tie.Need-cast-without
+cast-without c = search needs
+
+without-requires : tie.Need-without-requires
+without-requires c κs = search needs
+
+calculate-dest-no-shorthand-requires : tie.Need-calculate-dest-no-shorthand-requires
+calculate-dest-no-shorthand-requires c κs = search needs
+
+returns : tie.Need-returns
+unfolding calculateDest
+returns c = rw (← c .before .before .shorthand .ensures, c .before .match .keys1) (c .physical-dest .ensures)
+
+returns-2 : tie.Need-returns-2
+unfolding calculateDest
+returns-2 c = rw (← c .before .shorthand .ensures, c .match .keys2)
+
+returns-3 : tie.Need-returns-3
+unfolding calculateDest
+returns-3 c = rw (← c .before .before .before .shorthand .ensures, c .before .before .match .keys3, c .without .ensures)
+
+returns-4 : tie.Need-returns-4
+unfolding calculateDest
+returns-4 c =
+    let r = c .before .match .rest in
+    rw (← c .before .before .shorthand .ensures, ne-eqb _ _ (r .1), ne-eqb _ _ (r .0 .1), ne-eqb _ _ (r .0 .0 .1)) (c .calculate-dest-no-shorthand .ensures)
+
+pub calculate-dest-spec : {M : Type 1} → statement M
+calculate-dest-spec =
+    tie.close
+    (tie.spec
+    shorthand-requires
+    physical-dest-requires
+    cast-without
+    without-requires
+    calculate-dest-no-shorthand-requires
+    returns
+    returns-2
+    returns-3
+    returns-4)

@@ -1,0 +1,11 @@
+use Rattle.vlapic_icr.proofs.InterruptCommand.is_broadcast.Statement.{statement}
+use Rattle.vlapic_icr.proofs.InterruptCommand.is_broadcast.Tie as tie
+
+returns : tie.Need-returns
+returns c = rw (c .before .if1 .taken)
+
+returns-2 : tie.Need-returns-2
+returns-2 c = rw (c .before .if1 .left)
+
+pub is-broadcast-spec : {M : Type 1} → statement M
+is-broadcast-spec = tie.close (tie.spec returns returns-2)

@@ -1,0 +1,19 @@
+use Rattle.utils.specs.Cases.{cases}
+use borrow.Author.Needs.{needs}
+use Rattle.vlapic_icr.proofs.fields.is_invalid_shorthand.Statement.{statement}
+use Rattle.vlapic_icr.proofs.fields.is_invalid_shorthand.Tie as tie
+
+includes-self-requires : tie.Need-includes-self-requires
+includes-self-requires c κs = search needs
+
+returns : tie.Need-returns
+returns c = search cases
+
+returns-2 : tie.Need-returns-2
+returns-2 c = search cases
+
+returns-3 : tie.Need-returns-3
+returns-3 c = search cases
+
+pub is-invalid-shorthand-spec : {M : Type 1} → statement M
+is-invalid-shorthand-spec = tie.close (tie.spec includes-self-requires returns returns-2 returns-3)

@@ -1,0 +1,42 @@
+-- The fields of the interrupt command's low word.
+-- Intel SDM volume 3, the APIC chapter: interrupt command register (ICR), with its table of valid combinations of shorthand and delivery mode; error handling
+-- (send illegal vector).
+use Prim.Native.Nat.{ℕ, _/_, _%_, _*_, _+_}
+use mathlib.Core.Bool.{Bool, true, false, cond}
+use lib.Dec.{eqb, ltb, leb}
+use Rattle.utils.specs.Set.{bit}
+
+abbrev pub vectorField : ℕ → ℕ
+vectorField lo = lo % 256
+
+-- 0 fixed, 1 lowest priority, 2 SMI, 4 NMI, 5 INIT, 6 startup; 3 and 7 are reserved
+abbrev pub deliveryMode : ℕ → ℕ
+deliveryMode lo = lo / 256 % 8
+
+abbrev pub isLogical : ℕ → Bool
+isLogical lo = bit lo 11
+
+-- 0 none, 1 self, 2 all including self, 3 all excluding self
+abbrev pub shorthand : ℕ → ℕ
+shorthand lo = lo / 262144 % 4
+
+-- bit 12, the delivery status, reads 0: the command is sent at once
+abbrev pub idle : ℕ → ℕ
+idle lo = lo / 8192 * 8192 + lo % 4096
+
+abbrev pub isReservedMode : ℕ → Bool
+isReservedMode lo = cond (eqb (deliveryMode lo) 3) true (eqb (deliveryMode lo) 7)
+
+abbrev pub isIllegalVector : ℕ → Bool
+isIllegalVector lo = cond (eqb (deliveryMode lo) 0) (ltb (vectorField lo) 16) false  -- D-75: of lowest priority no error is noted
+
+-- NMI, INIT or startup, to self or to all including self
+abbrev pub isInvalidShorthand : ℕ → Bool
+isInvalidShorthand lo =
+    cond (cond (eqb (shorthand lo) 1) true (eqb (shorthand lo) 2))
+    (cond (leb 4 (deliveryMode lo)) (leb (deliveryMode lo) 6) false)
+    false
+
+-- lowest priority and SMI
+abbrev pub isUnsent : ℕ → Bool
+isUnsent lo = cond (eqb (deliveryMode lo) 1) true (eqb (deliveryMode lo) 2)

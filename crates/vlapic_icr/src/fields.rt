@@ -1,0 +1,99 @@
+// Copyright 2025 The Axvisor Team
+//
+// Licensed under the Apache License, Version 2.0 (the text stands in NOTICE).
+//
+// Changed: ported to Rattle from regs/icr.rs of the Rust crate x86_vlapic 0.5.4: the fields of the interrupt command's low word, which the Rust
+// declares for tock_registers, as functions of the word, and the tests that `write_icr` makes of them.
+
+ghost use mathlib.Core.Path.{_≡_};
+ghost use lib.Dec.{eqb};
+ghost use mathlib.Core.Bool.{true, cond};
+ghost use Rattle.vlapic_icr.specs.Fields.{vectorField, deliveryMode, isLogical, shorthand, idle, isReservedMode, isIllegalVector, isInvalidShorthand, isUnsent};
+
+pub fn vector(lo: u32) -> u8
+    ensures { λ r. ⌜ r ≡ vectorField lo ⌝ }
+{
+    (lo % 256) as u8
+}
+
+// 0 fixed, 1 lowest priority, 2 SMI, 4 NMI, 5 INIT, 6 startup; 3 and 7 are reserved.
+pub fn delivery_mode(lo: u32) -> u8
+    ensures { λ r. ⌜ r ≡ deliveryMode lo ⌝ }
+{
+    (lo / 256 % 8) as u8
+}
+
+pub fn is_logical(lo: u32) -> bool
+    ensures { λ r. ⌜ r ≡ isLogical lo ⌝ }
+{
+    lo / 2048 % 2 == 1
+}
+
+// 0 none, 1 self, 2 all including self, 3 all excluding self.
+pub fn shorthand(lo: u32) -> u32
+    ensures { λ r. ⌜ r ≡ shorthand lo ⌝ }
+{
+    lo / 262144 % 4
+}
+
+// The delivery status, bit 12, cleared.
+pub fn idle(lo: u32) -> u32
+    ensures { λ r. ⌜ r ≡ idle lo ⌝ }
+{
+    lo / 8192 * 8192 + lo % 4096
+}
+
+pub fn is_reserved_mode(lo: u32) -> bool
+    ensures { λ r. ⌜ r ≡ isReservedMode lo ⌝ }
+{
+    let mode = lo / 256 % 8;
+    if mode == 3 {
+        return true;
+    }
+    mode == 7
+}
+
+// A fixed interrupt with a vector below 16.
+pub fn is_illegal_vector(lo: u32) -> bool
+    ensures { λ r. ⌜ r ≡ isIllegalVector lo ⌝ }
+{
+    let mode = lo / 256 % 8;
+    if mode == 0 {
+        return lo % 256 < 16;
+    }
+    false
+}
+
+// NMI, INIT or startup to self or to all including self.
+pub fn is_invalid_shorthand(lo: u32) -> bool
+    ensures { λ r. ⌜ r ≡ isInvalidShorthand lo ⌝ }
+{
+    if includes_self(lo) {
+        let mode = lo / 256 % 8;
+        if 4 <= mode {
+            return mode <= 6;
+        }
+    }
+    false
+}
+
+fn includes_self(lo: u32) -> bool
+    ensures { λ r. ⌜ r ≡ cond (eqb (shorthand lo) 1) true (eqb (shorthand lo) 2) ⌝ }
+{
+    let which = lo / 262144 % 4;
+    if which == 1 {
+        return true;
+    }
+    which == 2
+}
+
+// Lowest priority and SMI.
+pub fn is_unsent(lo: u32) -> bool
+    ensures { λ r. ⌜ r ≡ isUnsent lo ⌝ }
+{
+    let mode = lo / 256 % 8;
+    if mode == 1 {
+        return true;
+    }
+    mode == 2
+}

@@ -1,0 +1,2 @@
+pub mod Lvt
+pub mod Vectors
