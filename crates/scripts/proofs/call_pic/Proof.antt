@@ -2,94 +2,64 @@ use Rattle.scripts.proofs.Outcomes.{replied}
 use borrow.Author.Needs.{needs}
 use Rattle.scripts.proofs.call_pic.Statement.{statement}
 use Rattle.scripts.proofs.call_pic.Tie as tie
-use Rattle.scripts.proofs.call_pic.Reads as reads
-use Rattle.scripts.proofs.call_pic.Lts as lts
-use Rattle.vpic.proofs.pair.EmulatedPic.claim_irq.Reads as claim-irq-reads
-use Rattle.vpic.proofs.pair.EmulatedPic.claim_pending_interrupt.Reads as claim-pending-interrupt-reads
-use Rattle.vpic.proofs.pair.EmulatedPic.handle_read.Reads as handle-read-reads
-use Rattle.vpic.proofs.pair.EmulatedPic.handle_write.Reads as handle-write-reads
-use Rattle.vpic.proofs.pair.EmulatedPic.restore_interrupt.Reads as restore-interrupt-reads
-use Rattle.vpic.proofs.pair.PicClaim.reply.Reads as pair-PicClaim-reply-reads
-use Rattle.vpic.proofs.pair.PicDone.reply.Reads as pair-PicDone-reply-reads
-use Rattle.vpic.proofs.pair.PicValue.reply.Reads as pair-PicValue-reply-reads
 
--- src/lib.rt:118:31
 enum-known-call : tie.Need-enum-known-call
 enum-known-call c = search needs
 
--- src/lib.rt:119:17
 handle-read-requires : tie.Need-handle-read-requires
 handle-read-requires c κs = search needs
 
--- src/lib.rt:122:17
 reply-requires : tie.Need-reply-requires
 reply-requires c κs = search needs
 
--- src/lib.rt:128:32
 enum-known-call-2 : tie.Need-enum-known-call-2
 enum-known-call-2 c = search needs
 
--- src/lib.rt:129:17
 handle-write-requires : tie.Need-handle-write-requires
 handle-write-requires c κs = search needs
 
--- src/lib.rt:132:17
 reply-requires-2 : tie.Need-reply-requires-2
 reply-requires-2 c κs = search needs
 
--- src/lib.rt:138:27
 enum-known-call-3 : tie.Need-enum-known-call-3
 enum-known-call-3 c = search needs
 
--- src/lib.rt:139:17
 claim-irq-requires : tie.Need-claim-irq-requires
 claim-irq-requires c κs = search needs
 
--- src/lib.rt:142:17
 reply-requires-3 : tie.Need-reply-requires-3
 reply-requires-3 c κs = search needs
 
--- src/lib.rt:149:17
 enum-told : tie.Need-enum-told
 enum-told c = search needs
 
--- src/lib.rt:149:17
 claim-pending-interrupt-requires : tie.Need-claim-pending-interrupt-requires
 claim-pending-interrupt-requires c κs = search needs
 
--- src/lib.rt:152:17
 reply-requires-4 : tie.Need-reply-requires-4
 reply-requires-4 c κs = search needs
 
--- src/lib.rt:158:35
 enum-known-call-4 : tie.Need-enum-known-call-4
 enum-known-call-4 c = search needs
 
--- src/lib.rt:159:17
 restore-interrupt-requires : tie.Need-restore-interrupt-requires
 restore-interrupt-requires c κs = search needs
 
--- src/lib.rt:162:17
 reply-requires-5 : tie.Need-reply-requires-5
 reply-requires-5 c κs = search needs
 
--- src/lib.rt:114:1
 returns : tie.Need-returns
 returns c = rw (c .before .before .before .before .call .given .1) (replied _ _ _ _ (c .reply .ensures) (c .before .before .handle-read .ensures))
 
--- src/lib.rt:114:1
 returns-2 : tie.Need-returns-2
 returns-2 c = rw (c .before .before .before .before .call2 .given .1) (replied _ _ _ _ (c .reply2 .ensures) (c .before .before .handle-write .ensures))
 
--- src/lib.rt:114:1
 returns-3 : tie.Need-returns-3
 returns-3 c = rw (c .before .before .before .before .call3 .given .1) (replied _ _ _ _ (c .reply3 .ensures) (c .before .before .claim-irq .ensures))
 
--- src/lib.rt:114:1
 returns-4 : tie.Need-returns-4
 returns-4 c = rw (c .before .before .before .enum-told .given .1) (replied _ _ _ _ (c .reply4 .ensures) (c .before .before .claim-pending-interrupt .ensures))
 
--- src/lib.rt:114:1
 returns-5 : tie.Need-returns-5
 returns-5 c = rw (c .before .before .before .before .call4 .given .1) (replied _ _ _ _ (c .reply5 .ensures) (c .before .before .restore-interrupt .ensures))
 

@@ -5,103 +5,70 @@ use Rattle.scripts.specs.Machine.{onApic, outcomeOf}
 use borrow.Author.Needs.{needs}
 use Rattle.scripts.proofs.Machine.call_apic.Statement.{statement}
 use Rattle.scripts.proofs.Machine.call_apic.Tie as tie
-use Rattle.scripts.proofs.Machine.call_apic.Reads as reads
-use Rattle.scripts.proofs.Machine.call_apic.Lts as lts
-use Rattle.scripts.proofs.Machine.set_up.Reads as set-up-reads
-use Rattle.scripts.proofs.Machine.with_apic.Reads as with-apic-reads
-use Rattle.vlapic.proofs.EoiAnswer.reply.Reads as EoiAnswer-reply-reads
-use Rattle.vlapic.proofs.ReadAnswer.reply.Reads as ReadAnswer-reply-reads
-use Rattle.vlapic.proofs.VirtualApicRegs.accept_interrupt.Reads as accept-interrupt-reads
-use Rattle.vlapic.proofs.VirtualApicRegs.handle_eoi.Reads as handle-eoi-reads
-use Rattle.vlapic.proofs.VirtualApicRegs.handle_read.Reads as handle-read-reads
-use Rattle.vlapic.proofs.VirtualApicRegs.handle_write.Reads as handle-write-reads
-use Rattle.vlapic.proofs.WriteAnswer.reply.Reads as WriteAnswer-reply-reads
 
--- src/lib.rt:241:39
 enum-known-call : tie.Need-enum-known-call
 enum-known-call c = search needs
 
--- src/lib.rt:242:21
 accept-interrupt-requires : tie.Need-accept-interrupt-requires
 accept-interrupt-requires c κs = search needs
 
--- src/lib.rt:243:17
 with-apic-requires : tie.Need-with-apic-requires
 with-apic-requires c κs = search needs
 
--- src/lib.rt:245:37
 enum-known-call-2 : tie.Need-enum-known-call-2
 enum-known-call-2 c = search needs
 
--- src/lib.rt:246:21
 handle-write-requires : tie.Need-handle-write-requires
 handle-write-requires c κs = search needs
 
--- src/lib.rt:249:39
 reply-requires : tie.Need-reply-requires
 reply-requires c κs = search needs
 
--- src/lib.rt:249:17
 with-apic-requires-2 : tie.Need-with-apic-requires-2
 with-apic-requires-2 c κs = search needs
 
--- src/lib.rt:252:21
 enum-told : tie.Need-enum-told
 enum-told c = search needs
 
--- src/lib.rt:252:21
 handle-eoi-requires : tie.Need-handle-eoi-requires
 handle-eoi-requires c κs = search needs
 
--- src/lib.rt:255:39
 reply-requires-2 : tie.Need-reply-requires-2
 reply-requires-2 c κs = search needs
 
--- src/lib.rt:255:17
 with-apic-requires-3 : tie.Need-with-apic-requires-3
 with-apic-requires-3 c κs = search needs
 
--- src/lib.rt:257:34
 enum-known-call-3 : tie.Need-enum-known-call-3
 enum-known-call-3 c = search needs
 
--- src/lib.rt:258:21
 handle-read-requires : tie.Need-handle-read-requires
 handle-read-requires c κs = search needs
 
--- src/lib.rt:259:38
 reply-requires-3 : tie.Need-reply-requires-3
 reply-requires-3 c κs = search needs
 
--- src/lib.rt:259:17
 with-apic-requires-4 : tie.Need-with-apic-requires-4
 with-apic-requires-4 c κs = search needs
 
--- src/lib.rt:261:31
 enum-known-call-4 : tie.Need-enum-known-call-4
 enum-known-call-4 c = search needs
 
--- src/lib.rt:262:17
 set-up-requires : tie.Need-set-up-requires
 set-up-requires c κs = search needs
 
--- src/lib.rt:236:5
 returns : tie.Need-returns
 returns c = rw (c .before .before .before .call .given .1) (c .with-apic .ensures ∙ ap (onApic (c .before .before .before .before .before .before .args .self)) (c .before .accept-interrupt .ensures))
 
--- src/lib.rt:236:5
 returns-2 : tie.Need-returns-2
 returns-2 c = rw (c .before .before .before .before .before .call2 .given .1) (c .with-apic2 .ensures ∙ ap (onApic (c .before .before .before .before .before .before .before .before .args .self)) (replied _ _ _ _ (c .before .reply .ensures) (c .before .before .before .handle-write .ensures)))
 
--- src/lib.rt:236:5
 returns-3 : tie.Need-returns-3
 returns-3 c = rw (c .before .before .before .before .enum-told .given .1) (c .with-apic3 .ensures ∙ ap (onApic (c .before .before .before .before .before .before .before .args .self)) (replied _ _ _ _ (c .before .reply2 .ensures) (c .before .before .before .handle-eoi .ensures)))
 
--- src/lib.rt:236:5
 returns-4 : tie.Need-returns-4
 returns-4 c = rw (c .before .before .before .before .call3 .given .1) (c .with-apic4 .ensures ∙ ap (λ (r : Reply). onApic (c .before .before .before .before .before .before .before .args .self) (outcomeOf (c .before .before .before .before .before .before .before .args .self .apic) r)) (c .before .reply3 .ensures ∙ c .before .before .handle-read .ensures))
 
--- src/lib.rt:236:5
 returns-5 : tie.Need-returns-5
 returns-5 c = rw (c .before .before .call4 .given .1) (c .set-up .ensures)
 

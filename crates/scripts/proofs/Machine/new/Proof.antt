@@ -5,25 +5,16 @@ use Rattle.vlapic.specs.declared.VirtualApicRegs.{VirtualApicRegs}
 use borrow.Author.Needs.{needs}
 use Rattle.scripts.proofs.Machine.new.Statement.{statement}
 use Rattle.scripts.proofs.Machine.new.Tie as tie
-use Rattle.scripts.proofs.Machine.new.Reads as reads
-use Rattle.scripts.proofs.Machine.new.Lts as lts
-use Rattle.vioapic.proofs.EmulatedIoApic.new_default.Reads as new-default-reads
-use Rattle.vlapic.proofs.VirtualApicRegs.new.Reads as VirtualApicRegs-new-reads
-use Rattle.vpic.proofs.pair.EmulatedPic.new.Reads as pair-EmulatedPic-new-reads
 
--- src/lib.rt:177:21
 new-default-requires : tie.Need-new-default-requires
 new-default-requires c κs = search needs
 
--- src/lib.rt:178:18
 new-requires : tie.Need-new-requires
 new-requires c κs = search needs
 
--- src/lib.rt:179:19
 new-requires-2 : tie.Need-new-requires-2
 new-requires-2 c κs = search needs
 
--- src/lib.rt:173:5
 returns : tie.Need-returns
 unfolding newMachine
 returns c = rw (c .before .before .new-default .ensures, c .before .new .ensures, ap (λ (o : Outcome VirtualApicRegs). o .state) (c .new2 .ensures))

@@ -3,57 +3,39 @@ use Rattle.scripts.specs.Machine.{onIoApic, onPic, performed}
 use borrow.Author.Needs.{needs}
 use Rattle.scripts.proofs.Machine.perform.Statement.{statement}
 use Rattle.scripts.proofs.Machine.perform.Tie as tie
-use Rattle.scripts.proofs.Machine.perform.Reads as reads
-use Rattle.scripts.proofs.Machine.perform.Lts as lts
-use Rattle.scripts.proofs.Machine.call_apic.Reads as call-apic-reads
-use Rattle.scripts.proofs.Machine.with_ioapic.Reads as with-ioapic-reads
-use Rattle.scripts.proofs.Machine.with_pic.Reads as with-pic-reads
-use Rattle.scripts.proofs.call_ioapic.Reads as call-ioapic-reads
-use Rattle.scripts.proofs.call_pic.Reads as call-pic-reads
 
--- src/lib.rt:274:22
 enum-known-call : tie.Need-enum-known-call
 enum-known-call c = search needs
 
--- src/lib.rt:274:45
 call-ioapic-requires : tie.Need-call-ioapic-requires
 call-ioapic-requires c κs = search needs
 
--- src/lib.rt:274:28
 with-ioapic-requires : tie.Need-with-ioapic-requires
 with-ioapic-requires c κs = search needs
 
--- src/lib.rt:275:23
 enum-known-call-2 : tie.Need-enum-known-call-2
 enum-known-call-2 c = search needs
 
--- src/lib.rt:275:43
 call-pic-requires : tie.Need-call-pic-requires
 call-pic-requires c κs = search needs
 
--- src/lib.rt:275:29
 with-pic-requires : tie.Need-with-pic-requires
 with-pic-requires c κs = search needs
 
--- src/lib.rt:276:24
 enum-known-call-3 : tie.Need-enum-known-call-3
 enum-known-call-3 c = search needs
 
--- src/lib.rt:276:30
 call-apic-requires : tie.Need-call-apic-requires
 call-apic-requires c κs = search needs
 
--- src/lib.rt:268:5
 returns : tie.Need-returns
 unfolding performed
 returns c = rw (c .before .before .before .call .given .1) (c .with-ioapic .ensures ∙ ap (onIoApic (c .before .before .before .before .before .before .before .args .self)) (c .before .call-ioapic .ensures))
 
--- src/lib.rt:268:5
 returns-2 : tie.Need-returns-2
 unfolding performed
 returns-2 c = rw (c .before .before .before .call2 .given .1) (c .with-pic .ensures ∙ ap (onPic (c .before .before .before .before .before .before .before .args .self)) (c .before .call-pic .ensures))
 
--- src/lib.rt:268:5
 returns-3 : tie.Need-returns-3
 unfolding performed
 returns-3 c = rw (c .before .before .call3 .given .1) (c .call-apic .ensures)
