@@ -1,0 +1,62 @@
+// The program of document 01, "Scripts": it reads a script of at most 65,536 bytes from standard input and prints a line for each field.
+use fields::Cursor;
+use fields::Field;
+use libc::STDIN_FILENO;
+use libc::STDOUT_FILENO;
+use scripts::Machine;
+use types::Refusal;
+use types::Reply;
+
+const LIMIT: usize = 65536;
+
+fn main() {
+    let mut script = [0u8; 65537];
+    let n = io::read_full(STDIN_FILENO, &mut script);
+    if n > LIMIT {
+        show::print_number(Refusal::ScriptTooLong.number() as u64);
+        show::print_text(b"\n");
+        return;
+    }
+    print_fields(&script[..n]);
+}
+
+fn print_fields(script: &[u8]) {
+    let mut machine = Machine::new();
+    let mut next = Cursor { at: 0 };
+    let mut turns: usize = 0;
+    while turns <= LIMIT {
+        turns += 1;
+        let field = next.read(script);
+        match field {
+            Field::Good { tag, call, next: after } => {
+                let performed = machine.perform(call);
+                let changed = performed.machine;
+                let reply = performed.reply;
+                print_line(tag, reply);
+                machine = changed;
+                next = after;
+            }
+            Field::Bad => {
+                print_bad(next);
+                return;
+            }
+            Field::End => {
+                return;
+            }
+        }
+    }
+}
+
+// The tag, the refusal and the answer.
+fn print_line(tag: u8, reply: Reply) {
+    io::print_hex(STDOUT_FILENO, tag as u64, 2);
+    show::print_text(b" ");
+    show::print_reply(reply);
+}
+
+// The place of the bad field's tag.
+fn print_bad(place: Cursor) {
+    show::print_text(b"bad ");
+    show::print_number(place.at as u64);
+    show::print_text(b"\n");
+}

@@ -1,0 +1,57 @@
+use mathlib.Core.Path.{ap, _∙_}
+use Rattle.scripts.specs.Machine.{onIoApic, onPic, performed}
+use borrow.Author.Needs.{needs}
+use Rattle.scripts.proofs.Machine.perform.Statement.{statement}
+use Rattle.scripts.proofs.Machine.perform.Tie as tie
+
+enum-known-call : tie.Need-enum-known-call
+enum-known-call c = search needs
+
+call-ioapic-requires : tie.Need-call-ioapic-requires
+call-ioapic-requires c κs = search needs
+
+with-ioapic-requires : tie.Need-with-ioapic-requires
+with-ioapic-requires c κs = search needs
+
+enum-known-call-2 : tie.Need-enum-known-call-2
+enum-known-call-2 c = search needs
+
+call-pic-requires : tie.Need-call-pic-requires
+call-pic-requires c κs = search needs
+
+with-pic-requires : tie.Need-with-pic-requires
+with-pic-requires c κs = search needs
+
+enum-known-call-3 : tie.Need-enum-known-call-3
+enum-known-call-3 c = search needs
+
+call-apic-requires : tie.Need-call-apic-requires
+call-apic-requires c κs = search needs
+
+returns : tie.Need-returns
+unfolding performed
+returns c = rw (c .before .before .before .call .given .1) (c .with-ioapic .ensures ∙ ap (onIoApic (c .before .before .before .before .before .before .before .args .self)) (c .before .call-ioapic .ensures))
+
+returns-2 : tie.Need-returns-2
+unfolding performed
+returns-2 c = rw (c .before .before .before .call2 .given .1) (c .with-pic .ensures ∙ ap (onPic (c .before .before .before .before .before .before .before .args .self)) (c .before .call-pic .ensures))
+
+returns-3 : tie.Need-returns-3
+unfolding performed
+returns-3 c = rw (c .before .before .call3 .given .1) (c .call-apic .ensures)
+
+pub perform-spec : {M : Type 1} → statement M
+perform-spec =
+    tie.close
+    (tie.spec
+    enum-known-call
+    call-ioapic-requires
+    with-ioapic-requires
+    enum-known-call-2
+    call-pic-requires
+    with-pic-requires
+    enum-known-call-3
+    call-apic-requires
+    returns
+    returns-2
+    returns-3)
