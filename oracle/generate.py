@@ -317,7 +317,7 @@ def whole_domains(thin):
 # ---- seeded scripts -------------------------------------------------------------------------------------------------
 
 
-def io_session(dice):
+def io_visit(dice):
     """A table program with few vectors, then lines held and dropped, masks, rewrites, EOIs."""
     gsis = [dice.below(24) for _ in range(1 + dice.below(4))]
     vectors = [dice.pick([0x30, 0x31, 0x41, 0x0F, 0x10, 0xFF]) for _ in range(1 + dice.below(3))]
@@ -341,7 +341,7 @@ def io_session(dice):
             yield read_low(gsi)
 
 
-def pic_session(dice):
+def pic_visit(dice):
     """Initialisation, masks, claims, EOIs of both kinds, reads of both registers, restores of likely claims."""
     bases = {MASTER: 0x20, SLAVE: 0x28}
     for _ in range(12 + dice.below(60)):
@@ -368,7 +368,7 @@ def pic_session(dice):
             yield [pic_read(chip + dice.below(2))]
 
 
-def local_session(dice):
+def local_visit(dice):
     """A setup, then acceptances, EOIs, priorities, commands of every kind, errors, LVTs and reads."""
     x2, count = dice.below(2), dice.pick([1, 2, 4, 8, 63, 64])
     yield [setup(x2, dice.below(count), count, dice.pick([ALL, dice.word(), (1 << count) - 1, 1]))]
@@ -443,9 +443,9 @@ def damaged(dice, script):
 
 def endless(dice):
     """Sessions of the three chips one after the other, between them some fields of any kind, for ever."""
-    sessions = [io_session, pic_session, local_session]
+    visits = [io_visit, pic_visit, local_visit]
     while True:
-        yield from dice.pick(sessions)(dice)
+        yield from dice.pick(visits)(dice)
         if dice.chance(50):
             yield from (random_field(dice) for _ in range(dice.below(12)))
 
