@@ -28,7 +28,11 @@ fn print_fields(script: &[u8]) {
         turns += 1;
         let field = next.read(script);
         match field {
-            Field::Good { tag, call, next: after } => {
+            Field::Good {
+                tag,
+                call,
+                next: after,
+            } => {
                 let performed = machine.perform(call);
                 let changed = performed.machine;
                 let reply = performed.reply;

@@ -4,7 +4,6 @@ ghost use mathlib.Core.Path.{_≡_};
 ghost use Rattle.vioapic.specs.Calls.{outcome};
 ghost use Rattle.scripts.specs.Machine.{newMachine, ioCall, picOutcome, onIoApic, onPic, onApic, outcomeOf, setUp, apicOutcome, ioStep, picStep, performedOutcome, performed};
 ghost use Rattle.scripts.specs.Run.{runOf};
-
 use fields::ApicCall;
 use fields::Call;
 use fields::Cursor;
@@ -120,50 +119,35 @@ fn call_pic(pic: EmulatedPic, call: PicCall) -> PicStep
             let value = read.value;
             let after = read.pic;
             let reply = value.reply();
-            PicStep {
-                pic: after,
-                reply,
-            }
+            PicStep { pic: after, reply }
         }
         PicCall::HandleWrite { port, width, value } => {
             let written = pic.handle_write(port, width, value);
             let done = written.done;
             let after = written.pic;
             let reply = done.reply();
-            PicStep {
-                pic: after,
-                reply,
-            }
+            PicStep { pic: after, reply }
         }
         PicCall::ClaimIrq(irq) => {
             let claimed = pic.claim_irq(irq);
             let claim = claimed.claim;
             let after = claimed.pic;
             let reply = claim.reply();
-            PicStep {
-                pic: after,
-                reply,
-            }
+            PicStep { pic: after, reply }
         }
         PicCall::ClaimPendingInterrupt => {
             let claimed = pic.claim_pending_interrupt();
             let claim = claimed.claim;
             let after = claimed.pic;
             let reply = claim.reply();
-            PicStep {
-                pic: after,
-                reply,
-            }
+            PicStep { pic: after, reply }
         }
         PicCall::RestoreInterrupt(claim) => {
             let restored = pic.restore_interrupt(claim);
             let done = restored.done;
             let after = restored.pic;
             let reply = done.reply();
-            PicStep {
-                pic: after,
-                reply,
-            }
+            PicStep { pic: after, reply }
         }
     }
 }
@@ -217,7 +201,13 @@ impl Machine {
     }
 
     // A new local APIC, with the count and the active mask that go with it; refused, all three stay.
-    fn set_up(mut self, x2apic: bool, vcpu_id: VcpuId, vcpu_num: usize, active_vcpus: u64) -> Performed
+    fn set_up(
+        mut self,
+        x2apic: bool,
+        vcpu_id: VcpuId,
+        vcpu_num: usize,
+        active_vcpus: u64,
+    ) -> Performed
         ensures { λ r. ⌜ performedOutcome r ≡ setUp self x2apic «vcpu_id» «vcpu_num» «active_vcpus» ⌝ }
     {
         let apic = self.apic;
@@ -242,8 +232,18 @@ impl Machine {
                 let after = apic.accept_interrupt(vector, level_triggered);
                 self.with_apic(after, Reply::Nothing)
             }
-            ApicCall::HandleWrite { offset, width, value } => {
-                let written = apic.handle_write(offset, value, width, self.vcpu_num, self.active_vcpus);
+            ApicCall::HandleWrite {
+                offset,
+                width,
+                value,
+            } => {
+                let written = apic.handle_write(
+                    offset,
+                    value,
+                    width,
+                    self.vcpu_num,
+                    self.active_vcpus,
+                );
                 let answer = written.answer;
                 let after = written.regs;
                 self.with_apic(after, answer.reply())
@@ -258,9 +258,12 @@ impl Machine {
                 let read = apic.handle_read(offset);
                 self.with_apic(apic, read.reply())
             }
-            ApicCall::Setup { x2apic, vcpu_id, vcpu_num, active_vcpus } => {
-                self.set_up(x2apic, vcpu_id, vcpu_num, active_vcpus)
-            }
+            ApicCall::Setup {
+                x2apic,
+                vcpu_id,
+                vcpu_num,
+                active_vcpus,
+            } => { self.set_up(x2apic, vcpu_id, vcpu_num, active_vcpus) }
         }
     }
 
@@ -287,7 +290,11 @@ impl Machine {
         while done < allowance {
             let field = next.read(script);
             match field {
-                Field::Good { tag: _, call, next: after } => {
+                Field::Good {
+                    tag: _,
+                    call,
+                    next: after,
+                } => {
                     let performed = machine.perform(call);
                     let changed = performed.machine;
                     machine = changed;

@@ -41,8 +41,7 @@ loop-less c = search needs
 loop-again : tie.Need-loop-again Inv-loop μ-loop
 loop-again c =
     let l = c .before .before .before .before .before .before .before .loop in
-    let a = c .before .before .before .before .before .before .before .before .before .args in
-    (
+    let a = c .before .before .before .before .before .before .before .before .before .args in (
       omega arith,
       l .inv .1
           ∙ run-good (a .script .now) (l .machine) (l .next .at) (l .done) (a .allowance - l .done) (a .allowance - (l .done + 1)) (omega arith) _ _ _ _ (sym (c .before .before .before .before .before .read .ensures) ∙ c .before .before .before .field .given .1) (ap (λ (o : Outcome Machine). o .state) (c .before .perform .ensures)),

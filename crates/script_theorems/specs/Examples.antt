@@ -1,0 +1,193 @@
+-- The numbered examples 1 to 12 of document 01, about the definitions: one list under one statement, computed. Each is a list of calls on a new machine, what
+-- each of them says back (the number, and then the values), and what is looked at in the machine after them.
+use Prim.Native.Nat.{ℕ}
+use mathlib.Core.Bool.{Bool, true, false}
+use mathlib.Core.List.{List, [], _∷_, map}
+use mathlib.Core.Path.{_≡_, refl}
+use Rattle.utils.specs.Set as set
+use Rattle.types.specs.Reply.{replyNumber, replyValues}
+use Rattle.types.specs.declared.Reply.{Reply}
+use Rattle.vioapic.specs.Redirection as redirection
+use Rattle.vioapic.specs.Table as table
+use Rattle.vioapic.specs.Registers as window
+use Rattle.vioapic.specs.IoApic as vioapic
+use Rattle.vioapic.specs.Calls as ioapic
+use Rattle.vpic.specs.Chip as chip
+use Rattle.vpic.specs.Pair as pair
+use Rattle.vlapic_regs.specs.Vectors as vectors
+use Rattle.vlapic_icr.specs.Icr as icr
+use Rattle.vlapic.specs.Priority as priority
+use Rattle.vlapic.specs.Registers as registers
+use Rattle.vlapic.specs.Calls as vlapic
+use Rattle.fields.specs.declared.IoCall.the-variants as io
+use Rattle.fields.specs.declared.PicCall.the-variants as pic
+use Rattle.fields.specs.declared.ApicCall.the-variants as apic
+use Rattle.fields.specs.declared.Call.{Call}
+use Rattle.fields.specs.declared.Call.the-variants.{Io, Pic, Apic}
+use Rattle.scripts.specs.declared.Machine.{Machine}
+use Rattle.scripts.specs.Machine.{newMachine, setUp, performed}
+use Rattle.scripts.specs.Run.{afterCalls, replies}
+
+pub record Example : Type 0 where
+  pub number : ℕ
+  pub calls : List Call
+  pub says : List (List ℕ)
+  pub look : Machine → List ℕ
+  pub seen : List ℕ
+
+abbrev pub numbers : Reply → List ℕ
+numbers r = replyNumber r ∷ replyValues r
+
+abbrev pub Holds : List Example → Type 0
+Holds [] = Unit
+Holds (e ∷ es) =
+    ((map numbers (replies newMachine (e .calls)) ≡ e .says) × (e .look (afterCalls newMachine (e .calls)) ≡ e .seen)) × Holds es
+
+-- ---- the calls of the examples
+
+-- the I/O APIC: the selector, the window
+abbrev select : ℕ → Call
+select register = Io (io.HandleWrite 0xfec00000 4 register)
+
+abbrev write : ℕ → Call
+write word = Io (io.HandleWrite 0xfec00010 4 word)
+
+abbrev read : Call
+read = Io (io.HandleRead 0xfec00010 4)
+
+abbrev line : ℕ → Bool → Call
+line gsi up = Io (io.SetGsiLevel (record { 0 = gsi }) up)
+
+abbrev assert : ℕ → Call
+assert gsi = Io (io.AssertGsi (record { 0 = gsi }))
+
+abbrev eoi : ℕ → Call
+eoi vector = Io (io.EndOfInterrupt (record { 0 = vector }))
+
+-- the pair
+abbrev outb : ℕ → ℕ → Call
+outb port byte = Pic (pic.HandleWrite port 1 byte)
+
+abbrev inb : ℕ → Call
+inb port = Pic (pic.HandleRead port 1)
+
+abbrev claim : ℕ → Call
+claim irq = Pic (pic.ClaimIrq (record { 0 = irq }))
+
+abbrev pending : Call
+pending = Pic pic.ClaimPendingInterrupt
+
+-- the local APIC
+abbrev accept : ℕ → Call
+accept vector = Apic (apic.AcceptInterrupt (record { 0 = vector }) true)
+
+abbrev store : ℕ → ℕ → Call
+store offset word = Apic (apic.HandleWrite offset 4 word)
+
+abbrev load : ℕ → Call
+load offset = Apic (apic.HandleRead offset)
+
+abbrev end : Call
+end = Apic apic.HandleEoi
+
+abbrev nothing : Machine → List ℕ
+nothing m = []
+
+-- ---- the list
+
+abbrev pub examples : List Example
+examples =
+    record {
+      number = 1;
+      calls = select 0x10 ∷ read ∷ select 0x40 ∷ read ∷ [];
+      says = (0 ∷ []) ∷ (0 ∷ 65536 ∷ []) ∷ (0 ∷ []) ∷ (0 ∷ 0 ∷ []) ∷ [];
+      look = nothing;
+      seen = [];
+    }
+    ∷ record {
+      number = 2;
+      calls = select 0x14 ∷ write 0x8030 ∷ line 2 true ∷ read ∷ line 2 true ∷ eoi 0x30 ∷ line 2 false ∷ eoi 0x30 ∷ eoi 0x30 ∷ [];
+      says = (0 ∷ []) ∷ (0 ∷ []) ∷ (0 ∷ 0x30 ∷ 1 ∷ []) ∷ (0 ∷ 0xC030 ∷ []) ∷ (0 ∷ []) ∷ (0 ∷ 2 ∷ 0x30 ∷ 1 ∷ []) ∷ (0 ∷ []) ∷ (0 ∷ 2 ∷ []) ∷ (0 ∷ []) ∷ [];
+      look = nothing;
+      seen = [];
+    }
+    ∷ record {
+      number = 3;
+      calls = select 0x14 ∷ write 0x8030 ∷ line 2 true ∷ write 0x8030 ∷ read ∷ write 0x18030 ∷ read ∷ eoi 0x30 ∷ [];
+      says = (0 ∷ []) ∷ (0 ∷ []) ∷ (0 ∷ 0x30 ∷ 1 ∷ []) ∷ (0 ∷ []) ∷ (0 ∷ 0xC030 ∷ []) ∷ (0 ∷ []) ∷ (0 ∷ 0x18030 ∷ []) ∷ (0 ∷ []) ∷ [];
+      look = nothing;
+      seen = [];
+    }
+    ∷ record {
+      number = 4;
+      calls = select 0x16 ∷ write 0x8041 ∷ select 0x1a ∷ write 0x8041 ∷ line 3 true ∷ line 5 true ∷ eoi 0x41 ∷ eoi 0x41 ∷ eoi 0x41 ∷ [];
+      says = (0 ∷ []) ∷ (0 ∷ []) ∷ (0 ∷ []) ∷ (0 ∷ []) ∷ (0 ∷ 0x41 ∷ 1 ∷ []) ∷ (0 ∷ 0x41 ∷ 1 ∷ []) ∷ (0 ∷ 3 ∷ 0x41 ∷ 1 ∷ []) ∷ (0 ∷ 3 ∷ 0x41 ∷ 1 ∷ []) ∷ (0 ∷ 3 ∷ 0x41 ∷ 1 ∷ []) ∷ [];
+      look = nothing;
+      seen = [];
+    }
+    ∷ record {
+      number = 5;
+      calls = select 0x10 ∷ write 15 ∷ assert 0 ∷ write 16 ∷ assert 0 ∷ [];
+      says = (0 ∷ []) ∷ (0 ∷ []) ∷ (0 ∷ []) ∷ (0 ∷ []) ∷ (0 ∷ 16 ∷ 0 ∷ []) ∷ [];
+      look = nothing;
+      seen = [];
+    }
+    ∷ record {
+      number = 6;
+      calls = Io (io.HandleRead 0xfebfffff 2) ∷ Io (io.HandleRead 0xfebfffff 4) ∷ Io (io.HandleWrite 0xfebfffff 2 0) ∷ Io (io.HandleWrite 0xfebfffff 4 0) ∷ [];
+      says = (1 ∷ []) ∷ (4 ∷ []) ∷ (1 ∷ []) ∷ (4 ∷ []) ∷ [];
+      look = nothing;
+      seen = [];
+    }
+    ∷ record {
+      number = 7;
+      calls =
+          outb 0x21 0 ∷ outb 0xa1 0 ∷ claim 12 ∷ claim 13 ∷ claim 14 ∷ outb 0xa0 0x20 ∷ outb 0x20 0x20 ∷ pending ∷ outb 0xa0 0x20 ∷ outb 0x20 0x20 ∷ pending ∷ inb 0xa0 ∷ [];
+      says =
+          (0 ∷ []) ∷ (0 ∷ []) ∷ (0 ∷ 0x74 ∷ 12 ∷ 3 ∷ []) ∷ (0 ∷ []) ∷ (0 ∷ []) ∷ (0 ∷ []) ∷ (0 ∷ []) ∷ (0 ∷ 0x75 ∷ 13 ∷ 3 ∷ []) ∷ (0 ∷ []) ∷ (0 ∷ []) ∷ (0 ∷ []) ∷ (0 ∷ 0x40 ∷ []) ∷ [];
+      look = nothing;
+      seen = [];
+    }
+    ∷ record {
+      number = 8;
+      calls =
+          outb 0x21 0 ∷ outb 0xa1 0 ∷ claim 2
+          ∷ Pic (pic.RestoreInterrupt (record { vector = record { 0 = 0x0a }; irq = record { 0 = 2 }; «master_in_service» = true; «slave_in_service» = false }))
+          ∷ [];
+      says = (0 ∷ []) ∷ (0 ∷ []) ∷ (0 ∷ 0x0a ∷ 2 ∷ 1 ∷ []) ∷ (0 ∷ []) ∷ [];
+      look = λ m. m .pic .state .master .request ∷ m .pic .state .master .«in_service» ∷ [];
+      seen = 4 ∷ 0 ∷ [];
+    }
+    ∷ record {
+      number = 9;
+      calls = outb 0x20 0x11 ∷ outb 0x21 0x20 ∷ outb 0x21 4 ∷ outb 0x21 1 ∷ inb 0x21 ∷ [];
+      says = (0 ∷ []) ∷ (0 ∷ []) ∷ (0 ∷ []) ∷ (0 ∷ []) ∷ (0 ∷ 255 ∷ []) ∷ [];
+      look = λ m. m .pic .state .master .«vector_base» ∷ m .pic .state .master .mask ∷ [];
+      seen = 0x20 ∷ 255 ∷ [];
+    }
+    ∷ record {
+      number = 10;
+      calls = store 0x80 0x2f ∷ accept 0x31 ∷ load 0xa0 ∷ end ∷ store 0x80 0x35 ∷ accept 0x31 ∷ load 0xa0 ∷ end ∷ [];
+      says = (0 ∷ []) ∷ (0 ∷ []) ∷ (0 ∷ 0x30 ∷ []) ∷ (0 ∷ 0x31 ∷ []) ∷ (0 ∷ []) ∷ (0 ∷ []) ∷ (0 ∷ 0x35 ∷ []) ∷ (0 ∷ 0x31 ∷ []) ∷ [];
+      look = nothing;
+      seen = [];
+    }
+    ∷ record {
+      number = 11;
+      calls = accept 0x1f ∷ end ∷ load 0x100 ∷ [];
+      says = (0 ∷ []) ∷ (0 ∷ []) ∷ (0 ∷ 0x80000000 ∷ []) ∷ [];
+      look = nothing;
+      seen = [];
+    }
+    ∷ record {
+      number = 12;
+      calls = store 0x300 15 ∷ store 0x280 0 ∷ load 0x280 ∷ [];
+      says = (0 ∷ []) ∷ (0 ∷ []) ∷ (0 ∷ 0x20 ∷ []) ∷ [];
+      look = nothing;
+      seen = [];
+    }
+    ∷ []
+
+pub examples-hold : Holds examples
+unfolding set.with set.without set.outside set.lowest set.highest set.lastSet32 redirection.sendEntry redirection.raiseEntry redirection.lowerEntry redirection.endEntry redirection.writeLow redirection.writeHigh table.interruptForEntry table.setLevel table.firstAwaiting table.endOfEntry table.vectorFor window.readFixed window.readWord window.readSelected window.writeWord window.writeSelected window.readAt window.writeAt vioapic.created vioapic.assertGsi vioapic.setGsiLevel vioapic.endOfInterrupt vioapic.vectorForGsi vioapic.addressRange vioapic.handleRead vioapic.handleWrite ioapic.outcome ioapic.run chip.opened chip.commanded chip.fed chip.commandRead chip.pulsed chip.counts chip.pendingLine chip.pendingIrq chip.acknowledged chip.acknowledge chip.unacknowledged pair.newState pair.latched pair.masterClaim pair.slaveClaim pair.claimPending pair.claimIrq pair.restored pair.portRead pair.writtenAt pair.portWritten pair.newPic vectors.highestFrom icr.destFieldMatched icr.destNoShorthand icr.calculateDest icr.command icr.selfIpi priority.priority priority.updatePpr priority.acceptInterrupt priority.handleEoi registers.handleRead registers.stored registers.writeStored vlapic.setup vlapic.writeIcr vlapic.writeIcrLow vlapic.writeSelfIpi vlapic.handleWrite newMachine setUp performed afterCalls replies
+examples-hold = ((refl, refl), ((refl, refl), ((refl, refl), ((refl, refl), ((refl, refl), ((refl, refl), ((refl, refl), ((refl, refl), ((refl, refl), ((refl, refl), ((refl, refl), ((refl, refl), tt))))))))))))

@@ -1,0 +1,1 @@
+// Theorems on runs of scripts: the statements stand in specs/, the proofs in proofs/.
