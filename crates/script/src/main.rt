@@ -20,6 +20,7 @@ fn main() {
     print_fields(&script[..n]);
 }
 
+// A field has at least three bytes, so that the turns never run out before the script does.
 fn print_fields(script: &[u8]) {
     let mut machine = Machine::new();
     let mut next = Cursor { at: 0 };
