@@ -14,7 +14,7 @@ use Rattle.vioapic.specs.Calls.{Call, outcome, next, run}
 use Rattle.vioapic.specs.Departures.{raise, lower, assert, eoi, select, write}
 use Rattle.vioapic.specs.declared.EmulatedIoApic.{EmulatedIoApic}
 use Rattle.heard.specs.Sends.{sent, sends, eois, count, lowerInFlight}
-use Rattle.heard.specs.Premises.{allBelow, demanded, held}
+use Rattle.heard.specs.Premises.{allBelow, throughout, demanded, held}
 
 abbrev pub vector : Vector
 vector = record { 0 = 0x30 }
@@ -126,3 +126,10 @@ counterExamples =
 pub counter-examples : Counters counterExamples
 unfolding along run outcome sends sent eois count allBelow assertGsi setGsiLevel endOfInterrupt handleWrite interruptForEntry setLevel firstAwaiting endOfEntry writeWord writeSelected writeAt sendEntry raiseEntry lowerEntry endEntry writeLow writeHigh
 counter-examples = ((refl, refl, refl, refl, refl), ((refl, refl, refl, refl, refl), ((refl, refl, refl, refl, refl), ((refl, refl, refl, refl, refl), ((refl, refl, refl, refl, refl), ((refl, refl, refl, refl, refl), ((refl, refl, refl, refl, refl), tt)))))))
+
+-- and the premises can all be met: entry 0 is in flight once, so of three EOIs the first goes to it, and entry 1 is sent 1 + (3 - 1) times
+pub premises-met :
+    (throughout (demanded vector 1) (next (after (assert 0 ∷ [])) (raise 1)) (eoi 0x30 ∷ eoi 0x30 ∷ eoi 0x30 ∷ []) ≡ true)
+    × (sends 1 (after (assert 0 ∷ [])) (raise 1 ∷ eoi 0x30 ∷ eoi 0x30 ∷ eoi 0x30 ∷ []) ≡ 3)
+unfolding along run outcome sends sent eois count allBelow assertGsi setGsiLevel endOfInterrupt handleWrite interruptForEntry setLevel firstAwaiting endOfEntry writeWord writeSelected writeAt sendEntry raiseEntry lowerEntry endEntry writeLow writeHigh throughout
+premises-met = (refl, refl)

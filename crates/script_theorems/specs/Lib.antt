@@ -1,3 +1,4 @@
 pub mod Examples
 pub mod Heard
+pub mod Refusals
 pub mod Runs

@@ -1,0 +1,40 @@
+-- Demand 1 for scripts: a refused call hands back the machine that it was given. An interrupt command that is refused for its kind or destination has stored its words,
+-- and nothing else.
+use Prim.Native.Nat.{ℕ}
+use mathlib.Core.Bool.{Bool, false}
+use mathlib.Core.Path.{_≡_}
+use lib.Dec.{eqb}
+use Rattle.types.specs.Reply.{Outcome, replyNumber}
+use Rattle.vlapic.specs.Regs.{withCommand}
+use Rattle.fields.specs.declared.Call.{Call}
+use Rattle.fields.specs.declared.Call.the-variants.{Io, Pic, Apic}
+use Rattle.fields.specs.declared.ApicCall.the-variants as apic
+use Rattle.scripts.specs.declared.Machine.{Machine}
+use Rattle.scripts.specs.Machine.{performed}
+
+-- the call writes the interrupt command register's low word, which is the command
+abbrev pub isCommand : Call → Bool
+isCommand (Io c) = false
+isCommand (Pic c) = false
+isCommand (Apic (apic.AcceptInterrupt vector level)) = false
+isCommand (Apic (apic.HandleWrite offset width value)) = eqb offset 0x300
+isCommand (Apic apic.HandleEoi) = false
+isCommand (Apic (apic.HandleRead offset)) = false
+isCommand (Apic (apic.Setup x2apic id num active)) = false
+
+-- the machine n with the command's words of m
+abbrev pub withWordsOf : Machine → Machine → Machine
+withWordsOf m n = record {
+  ioapic = n .ioapic;
+  pic = n .pic;
+  apic = withCommand (n .apic) (m .apic .«icr_lo») (m .apic .«icr_hi»);
+  «vcpu_num» = n .«vcpu_num»;
+  «active_vcpus» = n .«active_vcpus»;
+}
+
+pub record Kept (m : Machine) (c : Call) (after : Machine) : Type 0 where
+  pub but-words : withWordsOf m after ≡ m
+  pub whole : isCommand c ≡ false → after ≡ m
+
+abbrev pub RefusedUnchanged : Type 0
+RefusedUnchanged = (m : Machine) (c : Call) → (replyNumber (performed m c .reply) ≡ 0 → ⊥) → Kept m c (performed m c .state)
