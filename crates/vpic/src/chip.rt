@@ -1,4 +1,7 @@
-// One 8259 chip: `PicChip` of vpic.rs. A set of its eight lines is a byte.
+// Ported to Rattle from vpic.rs of the Rust crate x86_vlapic 0.5.4 (Apache License, Version 2.0; the text stands in NOTICE).
+//
+// Changed: one 8259 chip, `PicChip`, has a file of its own; methods take the chip by value and hand it back; ICWs and OCWs became functions of their own; a line is a
+// `PicLine`, and one that a chip doesn't have changes nothing; `Option` became enums; each function has its contract. A set of the chip's eight lines is a byte.
 
 ghost use mathlib.Core.Path.{_≡_};
 ghost use Prim.Native.Nat.{_<_};

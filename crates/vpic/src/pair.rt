@@ -1,4 +1,7 @@
-// The pair of 8259 chips: `PicState`, `PicInterruptClaim` and `EmulatedPic` of vpic.rs.
+// Ported to Rattle from vpic.rs of the Rust crate x86_vlapic 0.5.4 (Apache License, Version 2.0; the text stands in NOTICE).
+//
+// Changed: the pair of 8259 chips, `PicState`, `PicInterruptClaim` and `EmulatedPic`, has a file of its own; the lock is left out, and the pair goes in and comes back by
+// value; a port is a number and a width too; restoring a line from 16 up is refused; `Option` and `Result` became enums; each function has its contract.
 
 ghost use mathlib.Core.Path.{_≡_};
 ghost use Prim.Native.Nat.{_<_, _%_};
