@@ -41,14 +41,16 @@ fn print_claim(name: &[u8], claim: PicClaim) {
 fn claim(name: &[u8], pic: EmulatedPic, line: u8) -> EmulatedPic {
     let claimed = pic.claim_irq(PicLine(line));
     let after = claimed.pic;
-    print_claim(name, claimed.claim);
+    let answer = claimed.claim;
+    print_claim(name, answer);
     after
 }
 
 fn claim_pending(name: &[u8], pic: EmulatedPic) -> EmulatedPic {
     let claimed = pic.claim_pending_interrupt();
     let after = claimed.pic;
-    print_claim(name, claimed.claim);
+    let answer = claimed.claim;
+    print_claim(name, answer);
     after
 }
 
