@@ -1,0 +1,172 @@
+/*
+ * Sillwander: the interrupt controllers of a small hypervisor, proved.
+ *
+ * A chip's state is an array of words that the caller owns and lends for a call. There is no allocation, no global and no lock: two calls
+ * that lend the same words must not overlap in time. Any words may be lent and every call takes any numbers: nothing faults. What words that no
+ * state has stand for is said at each layout.
+ *
+ * Every call answers one number, its code:
+ *
+ *   bits 63..56   why the call was refused (the numbers below), or 0: done
+ *   bits 55..48   how many values it answers: 0, 1, 2 or 3
+ *   one value     bits 31..0
+ *   two or three  a byte each, from bit 0 up
+ *
+ * so that 0 is "done, and nothing to say". A refused call leaves all lent words as they were, but for an interrupt command that is refused for its kind
+ * or destination, which has stored its command words.
+ *
+ * Flags come in as numbers: any but 0 is up. Other numbers come in at full width, and one that doesn't fit is refused, never cut.
+ *
+ * The archives use the xmm registers: a caller that holds a guest's has to save them first.
+ */
+#ifndef SILLWANDER_H
+#define SILLWANDER_H
+
+#include <stdint.h>
+
+#ifdef __cplusplus
+extern "C" {
+#endif
+
+/* ---- Codes */
+
+#define SILLWANDER_REFUSAL(code) ((unsigned)((uint64_t)(code) >> 56))
+#define SILLWANDER_COUNT(code) ((unsigned)((uint64_t)(code) >> 48 & 0xff))
+#define SILLWANDER_VALUE(code) ((uint32_t)(code))                                   /* the one value */
+#define SILLWANDER_BYTE(code, k) ((uint8_t)((uint64_t)(code) >> (8 * (k))))         /* value k, from 0, of two or three */
+
+/* The numbers of refusals. */
+#define SILLWANDER_UNSUPPORTED 1      /* an access width, or a port that the PIC doesn't have */
+#define SILLWANDER_INVALID_REGISTER 2 /* a local register not listed for that use, or written in the wrong mode or width */
+#define SILLWANDER_INVALID_DELIVERY 3 /* an interrupt command's delivery mode, or the destination format's model */
+#define SILLWANDER_INVALID_ADDRESS 4  /* an address below the I/O APIC, or a base and size whose sum doesn't fit in 64 bits */
+#define SILLWANDER_OUT_OF_RANGE 5     /* a vector, destination, vCPU count or id, or PIC line that is too large */
+
+/*
+ * ---- I/O APIC: 32 words
+ *
+ *    0..23   the redirection entries' registers
+ *   24       bit g: a level interrupt of entry g was put off
+ *   25       bit g: line g is up
+ *   26       the selector, bits 31..0
+ *   27, 28   base address and size
+ *   29..31   spare: 0 in a new state, and no call reads or writes them
+ *
+ * Bits of words 24 to 26 that stand for nothing are ignored; a call keeps those of 24 and 25.
+ * A call touches the words that it must: one entry's register and its two flags, or the selector.
+ */
+#define SILLWANDER_IOAPIC_WORDS 32
+
+/* A new I/O APIC. Refused: 4 where base + size is 2^64 or more. */
+uint64_t sillwander_ioapic_new(uint64_t words[32], uint64_t base, uint64_t size);
+
+/* A new I/O APIC at 0xfec00000, of size 0x1000. Answers 0. */
+uint64_t sillwander_ioapic_new_default(uint64_t words[32]);
+
+/* The vector programmed for a line: one value, or none where its entry is masked, isn't of fixed delivery or has a vector below 16, and from line 24 up. */
+uint64_t sillwander_ioapic_vector_for_gsi(const uint64_t words[32], uint64_t gsi);
+
+/* Sends a line's interrupt, its level left as it is. Two values, vector and 1 for level or 0 for edge, or none. */
+uint64_t sillwander_ioapic_assert_gsi(uint64_t words[32], uint64_t gsi);
+
+/* Moves a line up or down. Answers as sillwander_ioapic_assert_gsi does. */
+uint64_t sillwander_ioapic_set_gsi_level(uint64_t words[32], uint64_t gsi, uint64_t asserted);
+
+/* An EOI broadcast. Three values, the line that it ended and the vector and level that it sends again; one value, the line, where nothing
+   is sent; or none where no line in flight has the vector. Refused: 5 for a vector above 255. */
+uint64_t sillwander_ioapic_end_of_interrupt(uint64_t words[32], uint64_t vector);
+
+/* Writes the base and the end, which is not in it, to range[0] and range[1]. Refused: 4 for words whose base + size is 2^64 or more. */
+uint64_t sillwander_ioapic_address_range(const uint64_t words[32], uint64_t range[2]);
+
+/* A memory read: one value. Refused: 1 for a width other than 4 and 8, then 4 for an address below the base. */
+uint64_t sillwander_ioapic_handle_read(const uint64_t words[32], uint64_t addr, uint64_t width);
+
+/* A memory write, of the value's low 32 bits. Refused as a read is. */
+uint64_t sillwander_ioapic_handle_write(uint64_t words[32], uint64_t addr, uint64_t width, uint64_t value);
+
+/*
+ * ---- The pair of 8259s: 4 words
+ *
+ *    0   the master, 1 the slave:
+ *          bits  7..0   base vector        bits 39..32  initialisation step
+ *          bits 15..8   mask               bit  40      ICW4 is expected
+ *          bits 23..16  requests           bit  41      single
+ *          bits 31..24  in service         bit  42      automatic EOI
+ *                                          bit  43      a command port reads the lines in service
+ *    2, 3  spare: 0 in a new state, and no call reads or writes them
+ *
+ * Bits 63..44 of words 0 and 1 are ignored, and cleared by a call that is done and isn't a read.
+ */
+#define SILLWANDER_PIC_WORDS 4
+
+/* A new pair. Answers 0. */
+uint64_t sillwander_pic_new(uint64_t words[4]);
+
+/* Writes the first and last port of the master and of the slave to ranges[0..3]. Answers 0. */
+uint64_t sillwander_pic_port_ranges(uint64_t ranges[4]);
+
+/* An edge on a line, and a claim of what can be delivered. Three values, vector, line and flags (1: the master's in-service bit was set by it, 2: the
+   slave's), or none. A line from 16 up does nothing. */
+uint64_t sillwander_pic_claim_irq(uint64_t words[4], uint64_t irq);
+
+/* A claim of what can be delivered. Answers as sillwander_pic_claim_irq does. */
+uint64_t sillwander_pic_claim_pending_interrupt(uint64_t words[4]);
+
+/* As the two before, but the vector is the one value: such a claim can't be restored. */
+uint64_t sillwander_pic_pulse_irq(uint64_t words[4], uint64_t irq);
+uint64_t sillwander_pic_next_interrupt(uint64_t words[4]);
+
+/* Restores a claim whose vector couldn't be published: the three values that the claim answered. Refused: 5 for a vector above 255, a line from 16 up or
+   flags above 3. */
+uint64_t sillwander_pic_restore_interrupt(uint64_t words[4], uint64_t vector, uint64_t irq, uint64_t flags);
+
+/* A port read: one value. Refused: 1 for a width other than 1 or a port that the pair doesn't have. */
+uint64_t sillwander_pic_handle_read(const uint64_t words[4], uint64_t port, uint64_t width);
+
+/* A port write, of the value's low 8 bits. Refused as a read is. */
+uint64_t sillwander_pic_handle_write(uint64_t words[4], uint64_t port, uint64_t width, uint64_t value);
+
+/*
+ * ---- Local APIC: 48 words
+ *
+ *    0   1 in x2APIC mode, 0 in xAPIC mode       9   ICR, low word        16  LVT LINT1
+ *    1   id                                     10   ICR, high word       17  LVT error
+ *    2   TPR    6   SVR                         11   LVT CMCI             18..25  ISR, eight words of 32 bits
+ *    3   PPR    7   ESR                         12   LVT timer            26..33  TMR, likewise
+ *    4   LDR    8   errors since ESR was        13   LVT thermal          34..41  IRR, likewise
+ *    5   DFR        last written                14   LVT counters         42..47  spare: 0 in a new state, and no call
+ *                                               15   LVT LINT0                    reads or writes them
+ *
+ * Word 0 is x2APIC mode where it isn't 0. Of the others bits 31..0 count; what a call stores has the bits above them 0.
+ */
+#define SILLWANDER_LAPIC_WORDS 48
+
+/* The local APIC of vCPU 0 in xAPIC mode. Answers 0. */
+uint64_t sillwander_lapic_new(uint64_t words[48]);
+
+/* A new local APIC in the place of this one. Refused: 5 for a count above 64 or an id above 63. */
+uint64_t sillwander_lapic_setup(uint64_t words[48], uint64_t x2apic, uint64_t vcpu_id, uint64_t vcpu_num);
+
+/* The processor accepted an interrupt. Answers 0. Refused: 5 for a vector above 255. */
+uint64_t sillwander_lapic_accept_interrupt(uint64_t words[48], uint64_t vector, uint64_t level_triggered);
+
+/* A guest's EOI: one value, the vector that it broadcasts, or none. */
+uint64_t sillwander_lapic_handle_eoi(uint64_t words[48]);
+
+/* A register read at an offset: one value. Refused: 2. */
+uint64_t sillwander_lapic_handle_read(const uint64_t words[48], uint64_t offset);
+
+/* A register write at an offset, `width` bytes wide, in a VM of `vcpu_num` vCPUs of which those in the mask `active_vcpus` are active. None; or, for an
+   interrupt command that sends, two values, kind (0 fixed, 4 NMI, 5 INIT, 6 startup) and vector, and ipi[0] is the mask of the vCPUs that it is for. Any
+   other answer leaves ipi[0] as it was. A write of the EOI register ends the vector in service and broadcasts nothing.
+   Refused: 2 for a width above 255; then 5 for a count above 64 or an own id above 63; then 2 for a register that can't be written so, 3 for an interrupt
+   command's delivery mode or the destination format's model, 5 for its destination. */
+uint64_t sillwander_lapic_handle_write(uint64_t words[48], uint64_t offset, uint64_t value, uint64_t width, uint64_t vcpu_num,
+                                       uint64_t active_vcpus, uint64_t ipi[1]);
+
+#ifdef __cplusplus
+}
+#endif
+
+#endif
