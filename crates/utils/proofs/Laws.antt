@@ -241,3 +241,23 @@ and-left false b e = e
 -- what is outside a mask is in the set
 pub outside-in : (w n m k : ℕ) → k < w → bit (outside w n m) k ≡ true → bit n k ≡ true
 outside-in w n m k l h = and-left (bit n k) (not (bit m k)) (sym (bit-outside w n m k l) ∙ h)
+
+-- a set that is gathered from 0 up
+pub setOf-next : (w : ℕ) (p : ℕ → Bool) → setOf (suc w) p ≡ cond (p w) (with (setOf w p) w) (setOf w p)
+setOf-next w p = same-bits (suc w) (setOf (suc w) p) (cond (p w) (with (setOf w p) w) (setOf w p)) (setOf-lt (suc w) p) (bound (p w)) (λ k h. bit-setOf (suc w) p k h ∙ sym (at k h (eqb k w) refl))
+  where
+    bound : (b : Bool) → cond b (with (setOf w p) w) (setOf w p) < 2 ^ suc w
+    bound true = with-lt (suc w) (setOf w p) w (omega (arith, setOf-lt w p)) (omega arith)
+    bound false = omega (arith, setOf-lt w p)
+
+    here : (b : Bool) → p w ≡ b → bit (cond b (with (setOf w p) w) (setOf w p)) w ≡ p w
+    here true e = bit-with-same (setOf w p) w ∙ sym e
+    here false e = bit-above w (setOf w p) w (setOf-lt w p) (omega arith) ∙ sym e
+
+    other : (b : Bool) (k : ℕ) → k < w → bit (cond b (with (setOf w p) w) (setOf w p)) k ≡ p k
+    other true k h = bit-with-other (setOf w p) w k (omega arith) ∙ bit-setOf w p k h
+    other false k h = bit-setOf w p k h
+
+    at : (k : ℕ) → k < suc w → (b : Bool) → eqb k w ≡ b → bit (cond (p w) (with (setOf w p) w) (setOf w p)) k ≡ p k
+    at k h true e = let q : k ≡ w = eqb-true k w e in rw q (here (p w) refl)
+    at k h false e = let q : (k ≡ w) → ⊥ = eqb-false k w e in other (p w) k (omega (arith, q))

@@ -1,5 +1,5 @@
 -- The calls, a law for each case: what the proofs of the code cite. Assumes nothing.
-use Prim.Native.Nat.{ℕ, _+_, _-_, _≤_, _<_}
+use Prim.Native.Nat.{ℕ, _+_, _-_, _%_, _^_, _≤_, _<_}
 use native.Mathlib.Omega.{arith}
 use mathlib.Core.Bool.{Bool, true, false, cond}
 use mathlib.Core.Path.{_≡_, refl, sym, _∙_, ap}
@@ -7,13 +7,14 @@ use borrow.Author.Tests.{lt-ltb, le-ltb, le-leb, lt-leb, leb-true, leb-false}
 use lib.Dec.{leb}
 use Rattle.types.specs.Reply.{Outcome}
 use Rattle.types.specs.Counters.{entryIndex}
+use Rattle.types.specs.declared.Reply.the-variants.{One}
 use Rattle.types.specs.declared.Gsi.{Gsi}
 use Rattle.types.specs.declared.Vector.{Vector}
 use Rattle.vioapic.specs.Answers.{routedReply, eoiReply, writtenReply}
 use Rattle.vioapic.specs.Redirection.{vectorOf, isFit, awaits, sendEntry, moveLine, endEntry}
-use Rattle.vioapic.specs.Table.{entryAt, put, routeAt, unrouted, interruptForEntry, setLevel, firstAwaiting, endOfEntry, vectorOfEntry, vectorFor}
-use Rattle.vioapic.specs.Registers.{isEntryWord, entryOf, readWord, readSelected, writeWord, writeSelected, done}
-use Rattle.vioapic.specs.IoApic.{fits, withState}
+use Rattle.vioapic.specs.Table.{entryAt, put, routeAt, unrouted, interruptForEntry, setLevel, isNew, firstAwaiting, endOfEntry, endOfEvery, vectorOfEntry, vectorFor}
+use Rattle.vioapic.specs.Registers.{isEntryWord, entryOf, readWord, readSelected, writeWord, writeSelected, done, writtenBy, writeEoi, readAt}
+use Rattle.vioapic.specs.IoApic.{goodWidth, fits, withState, handleRead}
 use Rattle.vioapic.specs.declared.redirection.Entry.{Entry}
 use Rattle.vioapic.specs.declared.redirection.EntryStep.{EntryStep}
 use Rattle.vioapic.specs.declared.IoApicState.{IoApicState}
@@ -21,6 +22,7 @@ use Rattle.vioapic.specs.declared.EmulatedIoApic.{EmulatedIoApic}
 use Rattle.vioapic.specs.declared.Routing.{Routing}
 use Rattle.vioapic.specs.declared.Ending.{Ending}
 use Rattle.vioapic.specs.declared.Writing.{Writing}
+use Rattle.vioapic.specs.declared.Written.{Written}
 use Rattle.vioapic.specs.declared.Eoi.the-variants.{NotEnded, Ended}
 use Rattle.vioapic.specs.declared.GsiVector.{GsiVector}
 use Rattle.vioapic.specs.declared.GsiVector.the-variants.{NoVector, Programmed}
@@ -88,6 +90,20 @@ pub write-entry : (s : IoApicState) (x i : ℕ) (e : Entry) (t : IoApicState) �
 unfolding writeSelected
 write-entry s x i e t h at p q =
     ap done (q ∙ ap (put s i) p ∙ ap (λ (k : ℕ). put s k (writeWord (s .selector) (entryAt s k) x)) at) ∙ rw h
+
+pub read-served : (m : EmulatedIoApic) (addr width v : ℕ) → goodWidth width ≡ true → m .base ≤ addr → v ≡ readAt (m .state) (addr - m .base) → One v ≡ handleRead m addr width
+unfolding handleRead
+read-served m addr width v h k e = rw (h, le-leb _ _ k, e)
+
+-- the EOI register
+pub eoi-old : (s : IoApicState) (x : ℕ) → isNew s ≡ false → done s ≡ writeEoi s x
+unfolding writeEoi
+eoi-old s x h = rw h
+
+pub eoi-written : (s : IoApicState) (x : ℕ) (r : Ending) (w : Written) → isNew s ≡ true → r ≡ endOfEvery s (record { 0 = x % 2 ^ 8 }) → w ≡ writtenBy (r .answer)
+    → record { state = r .state; answer = w } ≡ writeEoi s x
+unfolding writeEoi
+eoi-written s x r w h p q = rw (h, q, p)
 
 -- ---- base and size
 

@@ -6,7 +6,7 @@ use mathlib.Core.Path.{_≡_, refl, _∙_, ap}
 use lib.Dec.{eqb}
 use borrow.Author.Tests.{eqb-true, eqb-false, eq-eqb, ne-eqb}
 use Rattle.utils.specs.Set.{bit}
-use Rattle.vioapic.specs.Redirection.{isFit, isLevel, remoteIrr, sameLow, withRemoteIrr, withoutRemoteIrr, replaceLow, replaceHigh, withWord, withPending, withInput, quietly, sending, settled, sendEntry, raiseEntry, lowerEntry, endEntry, writeLow, writeHigh}
+use Rattle.vioapic.specs.Redirection.{isFit, isLevel, remoteIrr, sameLow, withRemoteIrr, withoutRemoteIrr, replaceLow, replaceHigh, withWord, withPending, withInput, quietly, sending, settled, sendEntry, raiseEntry, lowerEntry, endEntry, endEntry20, writeLow, writeHigh}
 use Rattle.vioapic.specs.declared.redirection.Entry.{Entry}
 use Rattle.vioapic.specs.declared.redirection.EntryStep.{EntryStep}
 
@@ -54,6 +54,18 @@ module _ (e : Entry) (r : EntryStep) where
   pub end-quiet : (w : ℕ) (d : Entry) → e .«input_level» ≡ false → e .«pending_level» ≡ false → w ≡ withoutRemoteIrr (e .word) → d ≡ withWord e w → r ≡ quietly d → r ≡ endEntry e
   unfolding endEntry
   end-quiet w d h l v q p = p ∙ ap quietly (q ∙ ap (withWord e) v) ∙ rw (h, l)
+
+  pub end20-up : (w : ℕ) (d f : Entry) → e .«input_level» ≡ true → w ≡ withoutRemoteIrr (e .word) → d ≡ withWord e w → f ≡ withPending d false → r ≡ sendEntry f → r ≡ endEntry20 e
+  unfolding endEntry20
+  end20-up w d f h v q s p = p ∙ ap sendEntry (s ∙ ap (λ (x : Entry). withPending x false) (q ∙ ap (withWord e) v)) ∙ rw h
+
+  pub end20-deferred : (w : ℕ) (d f : Entry) → e .«input_level» ≡ false → e .«pending_level» ≡ true → w ≡ withoutRemoteIrr (e .word) → d ≡ withWord e w → f ≡ withPending d false → r ≡ sendEntry f → r ≡ endEntry20 e
+  unfolding endEntry20
+  end20-deferred w d f h l v q s p = p ∙ ap sendEntry (s ∙ ap (λ (x : Entry). withPending x false) (q ∙ ap (withWord e) v)) ∙ rw (h, l)
+
+  pub end20-quiet : (w : ℕ) (d f : Entry) → e .«input_level» ≡ false → e .«pending_level» ≡ false → w ≡ withoutRemoteIrr (e .word) → d ≡ withWord e w → f ≡ withPending d false → r ≡ quietly f → r ≡ endEntry20 e
+  unfolding endEntry20
+  end20-quiet w d f h l v q s p = p ∙ ap quietly (s ∙ ap (λ (x : Entry). withPending x false) (q ∙ ap (withWord e) v)) ∙ rw (h, l)
 
 module _ (e r : Entry) (x : ℕ) where
   pub low-same : sameLow (e .word) x ≡ true → r ≡ settled e → r ≡ writeLow e x

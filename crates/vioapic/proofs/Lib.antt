@@ -1,3 +1,4 @@
 pub mod ChipLaws
+pub mod EveryLaws
 pub mod EntryLaws
 pub mod Same

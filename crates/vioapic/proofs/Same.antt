@@ -11,13 +11,13 @@ use Rattle.vioapic.specs.declared.redirection.IoApicInterrupt.{IoApicInt
 use Rattle.vioapic.specs.declared.redirection.Routed.{Routed}
 use Rattle.vioapic.specs.declared.redirection.Routed.the-variants.{NotRouted, Interrupt}
 use Rattle.vioapic.specs.declared.Eoi.{Eoi}
-use Rattle.vioapic.specs.declared.Eoi.the-variants.{NotEnded, Ended}
+use Rattle.vioapic.specs.declared.Eoi.the-variants.{NotEnded, Ended, EndedAll}
 use Rattle.vioapic.specs.declared.GsiVector.{GsiVector}
 use Rattle.vioapic.specs.declared.GsiVector.the-variants.{NoVector, Programmed}
 use Rattle.vioapic.specs.declared.Read.{Read}
 use Rattle.vioapic.specs.declared.Read.the-variants.{Value, NotRead}
 use Rattle.vioapic.specs.declared.Written.{Written}
-use Rattle.vioapic.specs.declared.Written.the-variants.{Done, NotWritten}
+use Rattle.vioapic.specs.declared.Written.the-variants as written
 use Rattle.vioapic.specs.declared.AddressRange.{AddressRange}
 use Rattle.vioapic.specs.declared.AddressRange.the-variants.{Between, NoRange}
 use Rattle.vioapic.specs.declared.EmulatedIoApic.{EmulatedIoApic}
@@ -62,7 +62,7 @@ abbrev eoiOf : Reply → Eoi
 eoiOf (Refused why) = NotEnded
 eoiOf Nothing = NotEnded
 eoiOf (One g) = endedOf g NotRouted
-eoiOf (Two v l) = NotEnded
+eoiOf (Two cleared sent) = EndedAll (record { cleared = cleared; sent = sent })
 eoiOf (Three g v l) = endedOf g (Interrupt (interruptOf v l))
 
 eoi-back : (r : Eoi) → eoiOf (eoiReply r) ≡ r
@@ -72,6 +72,7 @@ eoi-back (Ended e) = go (e .gsi .0) (e .pending)
     go : (g : ℕ) (r : Routed) → eoiOf (eoiReply (endedOf g r)) ≡ endedOf g r
     go g NotRouted = refl
     go g (Interrupt i) = ap (λ (x : IoApicInterrupt). endedOf g (Interrupt x)) (interrupt-back i)
+eoi-back (EndedAll e) = refl
 
 pub eoi-reply-same : (a b : Eoi) → eoiReply a ≡ eoiReply b → a ≡ b
 eoi-reply-same = same eoiReply eoiOf eoi-back
@@ -105,15 +106,16 @@ pub read-reply-same : (a b : Read) → readReply a ≡ readReply b → a ≡ b
 read-reply-same = same readReply readOf read-back
 
 abbrev writtenOf : Reply → Written
-writtenOf (Refused why) = NotWritten why
-writtenOf Nothing = Done
-writtenOf (One a) = Done
-writtenOf (Two a b) = Done
-writtenOf (Three a b c) = Done
+writtenOf (Refused why) = written.NotWritten why
+writtenOf Nothing = written.Done
+writtenOf (One a) = written.Done
+writtenOf (Two cleared sent) = written.EndedAll (record { cleared = cleared; sent = sent })
+writtenOf (Three a b c) = written.Done
 
 written-back : (r : Written) → writtenOf (writtenReply r) ≡ r
-written-back Done = refl
-written-back (NotWritten why) = refl
+written-back written.Done = refl
+written-back (written.EndedAll e) = refl
+written-back (written.NotWritten why) = refl
 
 pub written-reply-same : (a b : Written) → writtenReply a ≡ writtenReply b → a ≡ b
 written-reply-same = same writtenReply writtenOf written-back

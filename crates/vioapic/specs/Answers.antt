@@ -1,5 +1,6 @@
 -- What each kind of answer says in document 01's numbers and values, and what a call that hands the chip back leaves.
 use Prim.Native.Nat.{ℕ}
+use mathlib.Core.Bool.{Bool, true, false}
 use Rattle.types.specs.Reply.{flag, Outcome}
 use Rattle.types.specs.declared.Reply.{Reply}
 use Rattle.types.specs.declared.Reply.the-variants.{Refused, Nothing, One, Two, Three}
@@ -8,13 +9,14 @@ use Rattle.vioapic.specs.declared.redirection.Routed.{Routed}
 use Rattle.vioapic.specs.declared.redirection.Routed.the-variants.{NotRouted, Interrupt}
 use Rattle.vioapic.specs.declared.IoApicEoi.{IoApicEoi}
 use Rattle.vioapic.specs.declared.Eoi.{Eoi}
-use Rattle.vioapic.specs.declared.Eoi.the-variants.{NotEnded, Ended}
+use Rattle.vioapic.specs.declared.IoApicEois.{IoApicEois}
+use Rattle.vioapic.specs.declared.Eoi.the-variants.{NotEnded, Ended, EndedAll}
 use Rattle.vioapic.specs.declared.GsiVector.{GsiVector}
 use Rattle.vioapic.specs.declared.GsiVector.the-variants.{NoVector, Programmed}
 use Rattle.vioapic.specs.declared.Read.{Read}
 use Rattle.vioapic.specs.declared.Read.the-variants.{Value, NotRead}
 use Rattle.vioapic.specs.declared.Written.{Written}
-use Rattle.vioapic.specs.declared.Written.the-variants.{Done, NotWritten}
+use Rattle.vioapic.specs.declared.Written.the-variants as written
 use Rattle.vioapic.specs.declared.AddressRange.{AddressRange}
 use Rattle.vioapic.specs.declared.AddressRange.the-variants.{Between, NoRange}
 use Rattle.vioapic.specs.declared.EmulatedIoApic.{EmulatedIoApic}
@@ -31,6 +33,11 @@ abbrev pub routedReply : Routed → Reply
 routedReply NotRouted = Nothing
 routedReply (Interrupt i) = interruptReply i
 
+-- an interrupt is sent
+abbrev pub isRouted : Routed → Bool
+isRouted NotRouted = false
+isRouted (Interrupt i) = true
+
 -- the GSI alone, or with the interrupt that is sent again
 abbrev pub pendingReply : ℕ → Routed → Reply
 pendingReply gsi NotRouted = One gsi
@@ -39,9 +46,14 @@ pendingReply gsi (Interrupt i) = Three gsi (i .vector .0) (flag (i .«level_trig
 abbrev pub endedReply : IoApicEoi → Reply
 endedReply e = pendingReply (e .gsi .0) (e .pending)
 
+-- version 0x20: the set of GSIs that the EOI ended, and the set of those that are sent again
+abbrev pub everyReply : IoApicEois → Reply
+everyReply e = Two (e .cleared) (e .sent)
+
 abbrev pub eoiReply : Eoi → Reply
 eoiReply NotEnded = Nothing
 eoiReply (Ended e) = endedReply e
+eoiReply (EndedAll e) = everyReply e
 
 abbrev pub gsiVectorReply : GsiVector → Reply
 gsiVectorReply NoVector = Nothing
@@ -52,8 +64,9 @@ readReply (Value x) = One x
 readReply (NotRead why) = Refused why
 
 abbrev pub writtenReply : Written → Reply
-writtenReply Done = Nothing
-writtenReply (NotWritten why) = Refused why
+writtenReply written.Done = Nothing
+writtenReply (written.EndedAll e) = everyReply e
+writtenReply (written.NotWritten why) = Refused why
 
 abbrev pub rangeReply : AddressRange → Reply
 rangeReply (Between a b) = Two a b

@@ -8,7 +8,7 @@ use Rattle.types.specs.Reply.{replyValues}
 use Rattle.types.specs.Departure.{Departure, Shown}
 use Rattle.types.specs.declared.Gsi.{Gsi}
 use Rattle.vioapic.specs.Redirection.{sendEntry, raiseEntry, lowerEntry, endEntry, writeLow, writeHigh}
-use Rattle.vioapic.specs.Table.{interruptForEntry, setLevel, firstAwaiting, endOfEntry}
+use Rattle.vioapic.specs.Table.{interruptForEntry, setLevel, firstAwaiting, endOfEntry, endOf}
 use Rattle.vioapic.specs.Registers.{readFixed, readWord, readSelected, writeWord, writeSelected, readAt, writeAt}
 use Rattle.vioapic.specs.IoApic.{chipAt, assertGsi, setGsiLevel, endOfInterrupt, handleRead, handleWrite}
 use Rattle.vioapic.specs.Calls.{Call, SetGsiLevel, AssertGsi, EndOfInterrupt, HandleRead, HandleWrite, outcome, run}
@@ -101,5 +101,5 @@ departures =
     ∷ []
 
 pub departures-hold : Shown departures
-unfolding run outcome assertGsi setGsiLevel endOfInterrupt handleRead handleWrite interruptForEntry setLevel firstAwaiting endOfEntry readFixed readWord readSelected writeWord writeSelected readAt writeAt sendEntry raiseEntry lowerEntry endEntry writeLow writeHigh
+unfolding run outcome assertGsi setGsiLevel endOfInterrupt handleRead handleWrite interruptForEntry setLevel firstAwaiting endOfEntry endOf readFixed readWord readSelected writeWord writeSelected readAt writeAt sendEntry raiseEntry lowerEntry endEntry writeLow writeHigh
 departures-hold = ((refl, refl), ((refl, refl), ((refl, refl), ((refl, refl), ((refl, refl), ((refl, refl), ((refl, refl), ((refl, refl), ((refl, refl), ((refl, refl), ((refl, refl), ((refl, refl), ((refl, refl), ((refl, refl), ((refl, refl), ((refl, refl), ((refl, refl), tt)))))))))))))))))

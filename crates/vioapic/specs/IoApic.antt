@@ -11,7 +11,7 @@ use Rattle.types.specs.declared.Refusal.the-variants.{Unsupported, InvalidAddre
 use Rattle.types.specs.declared.Reply.{Reply}
 use Rattle.types.specs.declared.Reply.the-variants.{Refused, Nothing, One, Two}
 use Rattle.vioapic.specs.Answers.{routedReply, eoiReply, gsiVectorReply, writtenReply}
-use Rattle.vioapic.specs.Table.{newState, interruptForEntry, setLevel, endOfEntry, vectorFor}
+use Rattle.vioapic.specs.Table.{newState, interruptForEntry, setLevel, endOf, vectorFor}
 use Rattle.vioapic.specs.Registers.{readAt, writeAt}
 use Rattle.vioapic.specs.declared.IoApicState.{IoApicState}
 use Rattle.vioapic.specs.declared.EmulatedIoApic.{EmulatedIoApic}
@@ -24,9 +24,13 @@ goodWidth width = cond (eqb width 4) true (eqb width 8)
 abbrev pub fits : ℕ → ℕ → Bool
 fits base size = leb (base + size) (2 ^ 64 - 1)
 
--- a new chip there
+-- a new chip there, in either version
+abbrev pub chipOf : ℕ → ℕ → ℕ → EmulatedIoApic
+chipOf version base size = record { base = base; size = size; state = newState version }
+
+-- and in version 0x11, which a new chip has if nothing else is asked for
 abbrev pub chipAt : ℕ → ℕ → EmulatedIoApic
-chipAt base size = record { base = base; size = size; state = newState }
+chipAt base size = chipOf 0x11 base size
 
 abbrev pub withState : EmulatedIoApic → IoApicState → EmulatedIoApic
 withState m s = record { base = m .base; size = m .size; state = s }
@@ -35,10 +39,16 @@ withState m s = record { base = m .base; size = m .size; state = s }
 abbrev pub refuse : EmulatedIoApic → Refusal → Outcome EmulatedIoApic
 refuse m why = record { state = m; reply = Refused why }
 
--- `new`: where base and size don't fit nothing is created, and a chip that covers no address stands in its place
-unfoldable pub created : ℕ → ℕ → Outcome EmulatedIoApic
-created base size =
-    cond (fits base size) (record { state = chipAt base size; reply = Nothing }) (refuse (chipAt 0 0) InvalidAddress)
+-- there are two versions
+abbrev pub isVersion : ℕ → Bool
+isVersion version = cond (eqb version 0x11) true (eqb version 0x20)
+
+-- `new_version`, and `new` with version 0x11: where base and size don't fit nothing is created, and a chip that covers no address stands in its place
+unfoldable pub createdVersion : ℕ → ℕ → ℕ → Outcome EmulatedIoApic
+createdVersion base size version =
+    cond (isVersion version)
+    (cond (fits base size) (record { state = chipOf version base size; reply = Nothing }) (refuse (chipAt 0 0) InvalidAddress))
+    (refuse (chipAt 0 0) Unsupported)
 
 -- `new_default`
 abbrev pub newDefault : EmulatedIoApic
@@ -63,7 +73,7 @@ setGsiLevel m gsi up =
 -- `end_of_interrupt`
 unfoldable pub endOfInterrupt : EmulatedIoApic → Vector → Outcome EmulatedIoApic
 endOfInterrupt m v =
-    record { state = withState m (endOfEntry (m .state) v .state); reply = eoiReply (endOfEntry (m .state) v .answer) }
+    record { state = withState m (endOf (m .state) v .state); reply = eoiReply (endOf (m .state) v .answer) }
 
 -- `vector_for_gsi`, which leaves the chip as it is
 unfoldable pub vectorForGsi : EmulatedIoApic → Gsi → Reply

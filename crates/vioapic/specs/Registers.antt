@@ -1,14 +1,19 @@
 -- The registers behind the selector and the window.
+-- I/O Controller Hub: EOI register (offset 0x40, version 0x20).
 -- 82093AA: IOREGSEL (offset 0x00), IOWIN (offset 0x10), IOAPICID (0x00), IOAPICVER (0x01), IOAPICARB (0x02), IOREDTBL (0x10 to 0x3F, the low word of each entry before its high word).
 use Prim.Native.Nat.{ℕ, _-_, _/_, _%_, _^_}
 use mathlib.Core.Bool.{Bool, false, cond}
 use lib.Dec.{eqb, leb}
 use Rattle.vioapic.specs.Redirection.{writeLow, writeHigh}
-use Rattle.vioapic.specs.Table.{entryAt, put}
+use Rattle.vioapic.specs.Table.{isNew, entryAt, put, endOfEvery}
 use Rattle.vioapic.specs.declared.redirection.Entry.{Entry}
 use Rattle.vioapic.specs.declared.IoApicState.{IoApicState}
 use Rattle.vioapic.specs.declared.Writing.{Writing}
-use Rattle.vioapic.specs.declared.Written.the-variants.{Done}
+use Rattle.vioapic.specs.declared.Written.{Written}
+use Rattle.vioapic.specs.declared.Written.the-variants.{Done, EndedAll}
+use Rattle.vioapic.specs.declared.Ending.{Ending}
+use Rattle.vioapic.specs.declared.Eoi.{Eoi}
+use Rattle.vioapic.specs.declared.Eoi.the-variants as eoi
 
 -- the selector names a word of the redirection table
 abbrev pub isEntryWord : ℕ → Bool
@@ -22,15 +27,15 @@ entryOf sel = (sel - 0x10) / 2
 abbrev pub isLow : ℕ → Bool
 isLow sel = eqb (sel % 2) 0
 
--- IOAPICVER: 24 entries, version 0x11
-abbrev pub versionWord : ℕ
-versionWord = 0x00170011
+-- IOAPICVER: 24 entries, and the version
+abbrev pub versionWord : ℕ → ℕ
+versionWord version = cond (eqb version 0x20) 0x00170020 0x00170011
 
 -- IOAPICID and IOAPICARB (D-36, D-37: fixed), IOAPICVER; any other register reads 0
-unfoldable pub readFixed : ℕ → ℕ
-readFixed sel =
+unfoldable pub readFixed : ℕ → ℕ → ℕ
+readFixed version sel =
     cond (eqb sel 0) 0x01000000
-    (cond (eqb sel 1) versionWord
+    (cond (eqb sel 1) (versionWord version)
     (cond (eqb sel 2) 0x01000000
     0))
 
@@ -40,10 +45,16 @@ readWord sel e = cond (isLow sel) (e .word % 2 ^ 32) (e .word / 2 ^ 32)
 -- IOWIN is read
 unfoldable pub readSelected : IoApicState → ℕ
 readSelected s =
-    cond (isEntryWord (s .selector)) (readWord (s .selector) (entryAt s (entryOf (s .selector)))) (readFixed (s .selector))
+    cond (isEntryWord (s .selector)) (readWord (s .selector) (entryAt s (entryOf (s .selector)))) (readFixed (s .version) (s .selector))
 
 unfoldable pub writeWord : ℕ → Entry → ℕ → Entry
 writeWord sel e x = cond (isLow sel) (writeLow e x) (writeHigh e x)
+
+-- what an EOI's answer is to a write
+abbrev pub writtenBy : Eoi → Written
+writtenBy eoi.NotEnded = Done
+writtenBy (eoi.Ended e) = Done
+writtenBy (eoi.EndedAll e) = EndedAll e
 
 abbrev pub done : IoApicState → Writing
 done s = record { state = s; answer = Done }
@@ -59,9 +70,17 @@ writeSelected s x =
 unfoldable pub readAt : IoApicState → ℕ → ℕ
 readAt s offset = cond (eqb offset 0) (s .selector) (cond (eqb offset 0x10) (readSelected s) 0)
 
+abbrev pub eoiWritten : Ending → Writing
+eoiWritten r = record { state = r .state; answer = writtenBy (r .answer) }
+
+-- the EOI register, which version 0x20 alone has, is written: an EOI of the low byte's vector
+unfoldable pub writeEoi : IoApicState → ℕ → Writing
+writeEoi s x = cond (isNew s) (eoiWritten (endOfEvery s (record { 0 = x % 2 ^ 8 }))) (done s)
+
 -- and written: IOREGSEL takes the value whole (D-34), and a write at any other offset is ignored
 unfoldable pub writeAt : IoApicState → ℕ → ℕ → Writing
 writeAt s offset x =
-    cond (eqb offset 0) (done (record { selector = x; entries = s .entries }))
+    cond (eqb offset 0) (done (record { version = s .version; selector = x; entries = s .entries }))
     (cond (eqb offset 0x10) (writeSelected s x)
-    (done s))
+    (cond (eqb offset 0x40) (writeEoi s x)
+    (done s)))

@@ -15,10 +15,10 @@ use types::Vector;
 ghost use mathlib.Core.Path.{_≡_};
 ghost use mathlib.Core.Bool.{true};
 ghost use Prim.Native.Nat.{_<_};
-ghost use Rattle.vioapic.specs.Answers.{eoiReply, gsiVectorReply, readReply, writtenReply, rangeReply, endedReply, routingOutcome, endingOutcome, writingOutcome};
-ghost use Rattle.vioapic.specs.Table.{newState, put, routeAt, interruptForEntry, setLevel, firstAwaiting, endOfEntry, vectorOfEntry, vectorFor};
-ghost use Rattle.vioapic.specs.Registers.{isEntryWord, isLow, entryOf, versionWord, readFixed, readWord, readSelected, writeWord, writeSelected, readAt, writeAt};
-ghost use Rattle.vioapic.specs.IoApic.{goodWidth, fits, chipAt, created, newDefault, withState, vectorForGsi, assertGsi, setGsiLevel, endOfInterrupt, addressRange, handleRead, handleWrite};
+ghost use Rattle.vioapic.specs.Answers.{eoiReply, everyReply, gsiVectorReply, readReply, writtenReply, rangeReply, endedReply, routingOutcome, endingOutcome, writingOutcome};
+ghost use Rattle.vioapic.specs.Table.{newState, isNew, put, routeAt, interruptForEntry, setLevel, firstAwaiting, endOfEntry, endNext, everyAnswer, endOfEvery, endOf, vectorOfEntry, vectorFor};
+ghost use Rattle.vioapic.specs.Registers.{isEntryWord, isLow, entryOf, versionWord, readFixed, readWord, readSelected, writeWord, writeSelected, readAt, writtenBy, writeEoi, writeAt};
+ghost use Rattle.vioapic.specs.IoApic.{goodWidth, fits, isVersion, chipOf, chipAt, refuse, createdVersion, newDefault, withState, vectorForGsi, assertGsi, setGsiLevel, endOfInterrupt, addressRange, handleRead, handleWrite};
 
 pub mod redirection;
 
@@ -29,6 +29,9 @@ pub const IOAPIC_SIZE: u64 = 0x1000;
 pub const IOREGSEL: u64 = 0x00;
 
 pub const IOWIN: u64 = 0x10;
+
+// The EOI register of version 0x20.
+pub const IOEOI: u64 = 0x40;
 
 const IOAPIC_ID: u32 = 0x00;
 
@@ -44,12 +47,21 @@ const IOAPIC_ID_VALUE: u64 = 0x0100_0000;
 
 const IOAPIC_VERSION_VALUE: u64 = 0x0017_0011;
 
+const IOAPIC_VERSION_20_VALUE: u64 = 0x0017_0020;
+
+pub const VERSION_11: u8 = 0x11;
+
+// That of Intel's I/O Controller Hubs.
+pub const VERSION_20: u8 = 0x20;
+
 const REDIRECTION_ENTRY_COUNT: usize = 24;
 
 const REDIRECTION_ENTRY_MASKED: u64 = 0x1_0000;
 
 // The registers behind the selector, and the inputs.
 pub struct IoApicState {
+    // 0x20; any other number is 0x11.
+    pub version: u8,
     pub selector: u32,
     pub entries: [Entry; 24],
 }
@@ -67,9 +79,16 @@ pub struct IoApicEoi {
     pub pending: Routed,
 }
 
+// The same in version 0x20, one bit a GSI: those whose remote-IRR state was cleared, and those of them whose interrupt should be injected now.
+pub struct IoApicEois {
+    pub cleared: u32,
+    pub sent: u32,
+}
+
 pub enum Eoi {
     NotEnded,
     Ended(IoApicEoi),
+    EndedAll(IoApicEois),
 }
 
 // The vector programmed for a GSI.
@@ -85,6 +104,8 @@ pub enum Read {
 
 pub enum Written {
     Done,
+    // The EOI register's write.
+    EndedAll(IoApicEois),
     NotWritten(Refusal),
 }
 
@@ -141,6 +162,14 @@ impl IoApicEoi {
     }
 }
 
+impl IoApicEois {
+    pub fn reply(self) -> Reply
+        ensures { λ r. ⌜ r ≡ everyReply self ⌝ }
+    {
+        Reply::Two(self.cleared as u64, self.sent as u64)
+    }
+}
+
 impl Eoi {
     pub fn reply(self) -> Reply
         ensures { λ r. ⌜ r ≡ eoiReply self ⌝ }
@@ -148,6 +177,18 @@ impl Eoi {
         match self {
             Eoi::NotEnded => Reply::Nothing,
             Eoi::Ended(eoi) => eoi.reply(),
+            Eoi::EndedAll(eois) => eois.reply(),
+        }
+    }
+
+    // The answer of a write that was an EOI.
+    fn written(self) -> Written
+        ensures { λ r. ⌜ r ≡ writtenBy self ⌝ }
+    {
+        match self {
+            Eoi::NotEnded => Written::Done,
+            Eoi::Ended(_) => Written::Done,
+            Eoi::EndedAll(eois) => Written::EndedAll(eois),
         }
     }
 }
@@ -180,6 +221,7 @@ impl Written {
     {
         match self {
             Written::Done => Reply::Nothing,
+            Written::EndedAll(eois) => eois.reply(),
             Written::NotWritten(why) => Reply::Refused(why),
         }
     }
@@ -196,9 +238,56 @@ impl AddressRange {
     }
 }
 
+// How far an EOI of version 0x20 has come.
+struct EveryEnd {
+    state: IoApicState,
+    cleared: u32,
+    sent: u32,
+}
+
+impl EveryEnd {
+    // Entry `index` ends, if it awaits the EOI.
+    fn end_at(self, index: usize, vector: Vector) -> EveryEnd
+        requires { ⌜ index < 24 ⌝ }
+        ensures { λ r. ⌜ r ≡ endNext vector self index ⌝ }
+    {
+        let before = self.state;
+        let entry = before.entries[index];
+        if !entry.awaits(vector) {
+            return self;
+        }
+        let step = entry.end20();
+        let after = step.entry;
+        let answer = step.answer;
+        let state = before.with_entry(index, after);
+        let cleared = utils::set32::with(self.cleared, index as u32);
+        if answer.is_routed() {
+            return EveryEnd {
+                state,
+                cleared,
+                sent: utils::set32::with(self.sent, index as u32),
+            };
+        }
+        EveryEnd {
+            state,
+            cleared,
+            sent: self.sent,
+        }
+    }
+}
+
+fn every_answer(cleared: u32, sent: u32) -> Eoi
+    ensures { λ r. ⌜ r ≡ everyAnswer cleared sent ⌝ }
+{
+    if cleared == 0 {
+        return Eoi::NotEnded;
+    }
+    Eoi::EndedAll(IoApicEois { cleared, sent })
+}
+
 impl IoApicState {
-    pub fn new() -> IoApicState
-        ensures { λ r. ⌜ r ≡ newState ⌝ }
+    pub fn new(version: u8) -> IoApicState
+        ensures { λ r. ⌜ r ≡ newState version ⌝ }
     {
         let entry = Entry {
             word: REDIRECTION_ENTRY_MASKED,
@@ -206,6 +295,7 @@ impl IoApicState {
             input_level: false,
         };
         IoApicState {
+            version,
             selector: 0,
             entries: [entry; 24],
         }
@@ -270,7 +360,8 @@ impl IoApicState {
         index
     }
 
-    pub fn end_of_interrupt(self, vector: Vector) -> Ending
+    // Version 0x11: the lowest of them ends.
+    fn end_first(self, vector: Vector) -> Ending
         ensures { λ r. ⌜ r ≡ endOfEntry self vector ⌝ }
     {
         let index = self.first_awaiting(vector);
@@ -292,6 +383,42 @@ impl IoApicState {
         }
     }
 
+    fn is_new(self) -> bool
+        ensures { λ r. ⌜ r ≡ isNew self ⌝ }
+    {
+        self.version == VERSION_20
+    }
+
+    // Version 0x20: all of them end.
+    fn end_every(self, vector: Vector) -> Ending
+        ensures { λ r. ⌜ r ≡ endOfEvery self vector ⌝ }
+    {
+        let mut ends = EveryEnd {
+            state: self,
+            cleared: 0,
+            sent: 0,
+        };
+        let mut index: usize = 0;
+        while index < REDIRECTION_ENTRY_COUNT {
+            ends = ends.end_at(index, vector);
+            index += 1;
+        }
+        let state = ends.state;
+        Ending {
+            state,
+            answer: every_answer(ends.cleared, ends.sent),
+        }
+    }
+
+    pub fn end_of_interrupt(self, vector: Vector) -> Ending
+        ensures { λ r. ⌜ r ≡ endOf self vector ⌝ }
+    {
+        if self.is_new() {
+            return self.end_every(vector);
+        }
+        self.end_first(vector)
+    }
+
     pub fn vector_for_gsi(self, gsi: Gsi) -> GsiVector
         ensures { λ r. ⌜ r ≡ vectorFor self gsi ⌝ }
     {
@@ -311,7 +438,7 @@ impl IoApicState {
             let index = entry_of(selector);
             return read_word(selector, self.entries[index]);
         }
-        read_fixed(selector)
+        read_fixed(self.version, selector)
     }
 
     pub fn write_selected_register(self, value: u32) -> Writing
@@ -352,6 +479,7 @@ impl IoApicState {
             let entries = self.entries;
             return Writing {
                 state: IoApicState {
+                    version: self.version,
                     selector: value,
                     entries,
                 },
@@ -361,29 +489,54 @@ impl IoApicState {
         if offset == IOWIN {
             return self.write_selected_register(value);
         }
+        if offset == IOEOI {
+            return self.write_eoi(value);
+        }
         Writing {
             state: self,
             answer: Written::Done,
         }
     }
+
+    // The EOI register, which version 0x20 alone has.
+    fn write_eoi(self, value: u32) -> Writing
+        ensures { λ r. ⌜ r ≡ writeEoi self value ⌝ }
+    {
+        if !self.is_new() {
+            return Writing {
+                state: self,
+                answer: Written::Done,
+            };
+        }
+        let ending = self.end_every(Vector((value % 0x100) as u8));
+        let state = ending.state;
+        let answer = ending.answer;
+        Writing {
+            state,
+            answer: answer.written(),
+        }
+    }
 }
 
 // IOAPICVER.
-fn version_word() -> u64
-    ensures { λ r. ⌜ r ≡ versionWord ⌝ }
+fn version_word(version: u8) -> u64
+    ensures { λ r. ⌜ r ≡ versionWord version ⌝ }
 {
+    if version == VERSION_20 {
+        return IOAPIC_VERSION_20_VALUE;
+    }
     IOAPIC_VERSION_VALUE
 }
 
 // The registers that can't be written.
-pub fn read_fixed(selector: u32) -> u64
-    ensures { λ r. ⌜ r ≡ readFixed selector ⌝ }
+pub fn read_fixed(version: u8, selector: u32) -> u64
+    ensures { λ r. ⌜ r ≡ readFixed version selector ⌝ }
 {
     if selector == IOAPIC_ID {
         return IOAPIC_ID_VALUE;
     }
     if selector == IOAPIC_VER {
-        return version_word();
+        return version_word(version);
     }
     if selector == IOAPIC_ARB {
         return IOAPIC_ID_VALUE;
@@ -458,29 +611,54 @@ pub fn fits(base: u64, size: u64) -> bool
     size <= 0xffff_ffff_ffff_ffff - base
 }
 
+pub fn is_version(version: u8) -> bool
+    ensures { λ r. ⌜ r ≡ isVersion version ⌝ }
+{
+    if version == VERSION_11 {
+        return true;
+    }
+    version == VERSION_20
+}
+
+fn not_created(why: Refusal) -> IoApicWriting
+    ensures { λ r. ⌜ writingOutcome r ≡ refuse (chipAt 0 0) why ⌝ }
+{
+    let chip = EmulatedIoApic::at(VERSION_11, 0, 0);
+    IoApicWriting {
+        chip,
+        answer: Written::NotWritten(why),
+    }
+}
+
 impl EmulatedIoApic {
-    fn at(base: u64, size: u64) -> EmulatedIoApic
-        ensures { λ r. ⌜ r ≡ chipAt base size ⌝ }
+    fn at(version: u8, base: u64, size: u64) -> EmulatedIoApic
+        ensures { λ r. ⌜ r ≡ chipOf version base size ⌝ }
     {
-        let state = IoApicState::new();
+        let state = IoApicState::new(version);
         EmulatedIoApic { base, size, state }
     }
 
-    // Create a new `EmulatedIoApic`. Where base and size don't fit, nothing is created: beside the refusal stands a chip that covers no address.
+    // Create a new `EmulatedIoApic`, of version 0x11. Where base and size don't fit, nothing is created: beside the refusal stands a chip that covers no address.
     pub fn new(base: u64, size: u64) -> IoApicWriting
-        ensures { λ r. ⌜ writingOutcome r ≡ created base size ⌝ }
+        ensures { λ r. ⌜ writingOutcome r ≡ createdVersion base size 0x11 ⌝ }
     {
-        if fits(base, size) {
-            let chip = EmulatedIoApic::at(base, size);
-            return IoApicWriting {
-                chip,
-                answer: Written::Done,
-            };
+        EmulatedIoApic::new_version(base, size, VERSION_11)
+    }
+
+    // The same of version 0x11 or 0x20; another number is refused likewise.
+    pub fn new_version(base: u64, size: u64, version: u8) -> IoApicWriting
+        ensures { λ r. ⌜ writingOutcome r ≡ createdVersion base size version ⌝ }
+    {
+        if !is_version(version) {
+            return not_created(Refusal::Unsupported);
         }
-        let chip = EmulatedIoApic::at(0, 0);
+        if !fits(base, size) {
+            return not_created(Refusal::InvalidAddress);
+        }
+        let chip = EmulatedIoApic::at(version, base, size);
         IoApicWriting {
             chip,
-            answer: Written::NotWritten(Refusal::InvalidAddress),
+            answer: Written::Done,
         }
     }
 
@@ -488,7 +666,7 @@ impl EmulatedIoApic {
     pub fn new_default() -> EmulatedIoApic
         ensures { λ r. ⌜ r ≡ newDefault ⌝ }
     {
-        EmulatedIoApic::at(IOAPIC_BASE, IOAPIC_SIZE)
+        EmulatedIoApic::at(VERSION_11, IOAPIC_BASE, IOAPIC_SIZE)
     }
 
     fn with_state(self, state: IoApicState) -> EmulatedIoApic

@@ -6,8 +6,8 @@
 use types::Reply;
 use types::Vector;
 ghost use mathlib.Core.Path.{_≡_};
-ghost use Rattle.vioapic.specs.Answers.{interruptReply, routedReply};
-ghost use Rattle.vioapic.specs.Redirection.{vectorOf, isFixed, isDeliverable, remoteIrr, isLevel, isMasked, withRemoteIrr, withoutRemoteIrr, isFit, sameLow, replaceLow, replaceHigh, awaits, withWord, withPending, withInput, quietly, sending, sendEntry, raiseEntry, lowerEntry, moveLine, endEntry, settled, writeLow, writeHigh};
+ghost use Rattle.vioapic.specs.Answers.{interruptReply, routedReply, isRouted};
+ghost use Rattle.vioapic.specs.Redirection.{vectorOf, isFixed, isDeliverable, remoteIrr, isLevel, isMasked, withRemoteIrr, withoutRemoteIrr, isFit, sameLow, replaceLow, replaceHigh, awaits, withWord, withPending, withInput, quietly, sending, sendEntry, raiseEntry, lowerEntry, moveLine, endEntry, endEntry20, settled, writeLow, writeHigh};
 
 // A redirection entry: its register, whether a level interrupt was put off, and the level of its input line.
 pub struct Entry {
@@ -43,6 +43,15 @@ impl IoApicInterrupt {
 }
 
 impl Routed {
+    pub fn is_routed(self) -> bool
+        ensures { λ r. ⌜ r ≡ isRouted self ⌝ }
+    {
+        match self {
+            Routed::NotRouted => false,
+            Routed::Interrupt(_) => true,
+        }
+    }
+
     pub fn reply(self) -> Reply
         ensures { λ r. ⌜ r ≡ routedReply self ⌝ }
     {
@@ -256,6 +265,21 @@ impl Entry {
         }
         if self.pending_level {
             return done.with_pending(false).send();
+        }
+        quietly(done)
+    }
+
+    // An EOI ends it in version 0x20: what was put off goes too, and the entry is sent again if its line is up or something was put off.
+    pub fn end20(self) -> EntryStep
+        ensures { λ r. ⌜ r ≡ endEntry20 self ⌝ }
+    {
+        let done = self.with_word(without_remote_irr(self.word))
+            .with_pending(false);
+        if self.input_level {
+            return done.send();
+        }
+        if self.pending_level {
+            return done.send();
         }
         quietly(done)
     }

@@ -1,3 +1,5 @@
+use Rattle.utils.specs.Cases.{so}
+use Rattle.vioapic.proofs.ChipLaws.{read-served}
 use Rattle.utils.specs.Cases.{cases}
 use Rattle.vioapic.specs.IoApic.{handleRead}
 use borrow.Author.Needs.{needs}
@@ -19,8 +21,7 @@ read-at-requires : tie.Need-read-at-requires
 read-at-requires c κs = search needs
 
 returns-3 : tie.Need-returns-3
-unfolding handleRead
-returns-3 c = search cases
+returns-3 c = search (read-served, so)
 
 pub handle-read-spec : {M : Type 1} → statement M
 handle-read-spec =

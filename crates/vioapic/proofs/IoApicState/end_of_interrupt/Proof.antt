@@ -1,37 +1,36 @@
-use Rattle.vioapic.proofs.ChipLaws.{eoi-in, eoi-none}
+use Rattle.vioapic.specs.Table.{endOf}
+use Rattle.utils.specs.Cases.{cases}
 use borrow.Author.Needs.{needs}
 use Rattle.vioapic.proofs.IoApicState.end_of_interrupt.Statement.{statement}
 use Rattle.vioapic.proofs.IoApicState.end_of_interrupt.Tie as tie
+use Rattle.vioapic.proofs.IoApicState.end_of_interrupt.Reads as reads
+use Rattle.vioapic.proofs.IoApicState.end_of_interrupt.Lts as lts
+use Rattle.vioapic.proofs.IoApicState.end_every.Reads as end-every-reads
+use Rattle.vioapic.proofs.IoApicState.end_first.Reads as end-first-reads
+use Rattle.vioapic.proofs.IoApicState.is_new.Reads as is-new-reads
 
-first-awaiting-requires : tie.Need-first-awaiting-requires
-first-awaiting-requires c κs = search needs
+-- src/lib.rt:416:12
+is-new-requires : tie.Need-is-new-requires
+is-new-requires c κs = search needs
 
-mul-end : tie.Need-mul-end
-mul-end c = search needs
+-- src/lib.rt:417:13
+end-every-requires : tie.Need-end-every-requires
+end-every-requires c κs = search needs
 
-element-copy-out-end : tie.Need-element-copy-out-end
-element-copy-out-end c = search needs
-
-end-requires : tie.Need-end-requires
-end-requires c κs = search needs
-
-routed-requires : tie.Need-routed-requires
-routed-requires c κs = search needs
-
+-- src/lib.rt:417:13
 returns : tie.Need-returns
-returns c = search (eoi-in)
+unfolding endOf
+returns c = search cases
 
+-- src/lib.rt:419:9
+end-first-requires : tie.Need-end-first-requires
+end-first-requires c κs = search needs
+
+-- src/lib.rt:413:5
 returns-2 : tie.Need-returns-2
-returns-2 c = search (eoi-none)
+unfolding endOf
+returns-2 c = search cases
 
 pub end-of-interrupt-spec : {M : Type 1} → statement M
 end-of-interrupt-spec =
-    tie.close
-    (tie.spec
-    first-awaiting-requires
-    mul-end
-    element-copy-out-end
-    end-requires
-    routed-requires
-    returns
-    returns-2)
+    tie.close (tie.spec is-new-requires end-every-requires returns end-first-requires returns-2)
