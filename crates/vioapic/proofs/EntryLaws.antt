@@ -1,12 +1,12 @@
 -- The rules of one entry, a law for each case: what the proofs of the code cite. Assumes nothing.
-use Prim.Native.Nat.{ℕ, _+_, _*_, _/_, _%_, _^_}
+use Prim.Native.Nat.{ℕ, _+_, _*_, _/_, _%_, _^_, _<_, _≤_}
 use native.Mathlib.Omega.{arith}
 use mathlib.Core.Bool.{Bool, true, false, cond}
 use mathlib.Core.Path.{_≡_, refl, _∙_, ap}
-use lib.Dec.{eqb}
-use borrow.Author.Tests.{eqb-true, eqb-false, eq-eqb, ne-eqb}
+use lib.Dec.{eqb, ltb, leb}
+use borrow.Author.Tests.{eqb-true, eqb-false, eq-eqb, ne-eqb, lt-ltb, le-ltb, lt-leb, le-leb}
 use Rattle.utils.specs.Set.{bit}
-use Rattle.vioapic.specs.Redirection.{isFit, isLevel, remoteIrr, sameLow, withRemoteIrr, withoutRemoteIrr, replaceLow, replaceHigh, withWord, withPending, withInput, quietly, sending, settled, sendEntry, raiseEntry, lowerEntry, endEntry, writeLow, writeHigh}
+use Rattle.vioapic.specs.Redirection.{isFixed, isFit, isLevel, remoteIrr, sameLow, withRemoteIrr, withoutRemoteIrr, replaceLow, replaceHigh, withWord, withPending, withInput, quietly, sending, settled, sendEntry, raiseEntry, lowerEntry, endEntry, writeLow, writeHigh}
 use Rattle.vioapic.specs.declared.redirection.Entry.{Entry}
 use Rattle.vioapic.specs.declared.redirection.EntryStep.{EntryStep}
 
@@ -87,3 +87,37 @@ awaits-sum w v = go (eqb (w % 2 ^ 8) v) (bit w 15) (bit w 14) refl refl refl
     go true true false p q r = ne-eqb (fields w) (0xc000 + v) (λ e. eqb-false (w / 2 ^ 14 % 2) 1 r (omega (arith, e)))
     go true false c p q r = ne-eqb (fields w) (0xc000 + v) (λ e. eqb-false (w / 2 ^ 15 % 2) 1 q (omega (arith, e)))
     go false b c p q r = ne-eqb (fields w) (0xc000 + v) (λ e. eqb-false (w % 2 ^ 8) v p (omega (arith, e)))
+
+-- fit to be sent, in one number: the mask, the delivery mode and the vector's upper half
+abbrev fitness : ℕ → ℕ
+fitness w = w / 2 ^ 16 % 2 * 2 ^ 16 + w / 16 % 128 * 16
+
+module _ (w : ℕ) where
+  pub fit-low : fitness w < 16 → false ≡ isFit w
+  fit-low h = go (bit w 16) (isFixed w) refl refl
+    where
+      go : (a b : Bool) → bit w 16 ≡ a → isFixed w ≡ b → false ≡ isFit w
+      go true b p q = rw p
+      go false true p q = let z : w % 2 ^ 8 < 16 = omega (arith, h) in rw (p, q, lt-leb 16 (w % 2 ^ 8) z)
+      go false false p q = rw (p, q)
+
+  pub fit-is : 16 ≤ fitness w → ltb (fitness w) 256 ≡ isFit w
+  fit-is h = go (bit w 16) (isFixed w) refl refl
+    where
+      go : (a b : Bool) → bit w 16 ≡ a → isFixed w ≡ b → ltb (fitness w) 256 ≡ isFit w
+      go true b p q = let x : w / 2 ^ 16 % 2 ≡ 1 = eqb-true _ _ p in rw p (le-ltb (fitness w) 256 (omega (arith, x)))
+      go false true p q =
+          let x : (w / 2 ^ 16 % 2 ≡ 1) → ⊥ = eqb-false _ _ p in
+          let y : w / 2 ^ 8 % 8 ≡ 0 = eqb-true _ _ q in
+          let m : w / 2 ^ 16 % 2 ≡ 0 = omega (arith, x) in
+          let k : w / 16 / 16 ≡ w / 2 ^ 8 = omega arith in
+          let i : w / 16 % 128 ≡ w / 16 % 16 = omega (arith, k, y) in
+          let j : w % 2 ^ 8 / 16 ≡ w / 16 % 16 = omega (arith, k) in
+          let low : fitness w < 256 = omega (arith, m, i) in
+          let upper : 16 ≤ w % 2 ^ 8 = omega (arith, h, m, i, j) in
+          rw (p, q, le-leb 16 (w % 2 ^ 8) upper) (lt-ltb (fitness w) 256 low)
+      go false false p q =
+          let y : (w / 2 ^ 8 % 8 ≡ 0) → ⊥ = eqb-false _ _ q in
+          let k : w / 16 / 16 ≡ w / 2 ^ 8 = omega arith in
+          let i : 16 ≤ w / 16 % 128 = omega (arith, k, y) in
+          rw (p, q) (le-ltb (fitness w) 256 (omega (arith, i)))

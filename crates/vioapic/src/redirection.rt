@@ -7,7 +7,7 @@ use types::Reply;
 use types::Vector;
 ghost use mathlib.Core.Path.{_≡_};
 ghost use Rattle.vioapic.specs.Answers.{interruptReply, routedReply};
-ghost use Rattle.vioapic.specs.Redirection.{vectorOf, isFixed, isDeliverable, remoteIrr, isLevel, isMasked, withRemoteIrr, withoutRemoteIrr, isFit, sameLow, replaceLow, replaceHigh, awaits, withWord, withPending, withInput, quietly, sending, sendEntry, raiseEntry, lowerEntry, moveLine, endEntry, settled, writeLow, writeHigh};
+ghost use Rattle.vioapic.specs.Redirection.{vectorOf, remoteIrr, isLevel, isMasked, withRemoteIrr, withoutRemoteIrr, isFit, sameLow, replaceLow, replaceHigh, awaits, withWord, withPending, withInput, quietly, sending, sendEntry, raiseEntry, lowerEntry, moveLine, endEntry, settled, writeLow, writeHigh};
 
 // A redirection entry: its register, whether a level interrupt was put off, and the level of its input line.
 pub struct Entry {
@@ -61,18 +61,6 @@ pub fn vector_of(word: u64) -> Vector
     Vector((word % 0x100) as u8)
 }
 
-fn is_fixed(word: u64) -> bool
-    ensures { λ r. ⌜ r ≡ isFixed word ⌝ }
-{
-    word / 0x100 % 8 == 0
-}
-
-fn is_deliverable(word: u64) -> bool
-    ensures { λ r. ⌜ r ≡ isDeliverable word ⌝ }
-{
-    16 <= word % 0x100
-}
-
 pub fn remote_irr(word: u64) -> bool
     ensures { λ r. ⌜ r ≡ remoteIrr word ⌝ }
 {
@@ -103,17 +91,15 @@ fn without_remote_irr(word: u64) -> u64
     word / 0x8000 * 0x8000 + word % 0x4000
 }
 
-// Unmasked, of fixed delivery, with a vector that can be delivered.
+// Unmasked, of fixed delivery, with a vector that can be delivered: the mask, the delivery mode and the vector's upper half in one number, since every send asks it.
 pub fn is_fit(word: u64) -> bool
     ensures { λ r. ⌜ r ≡ isFit word ⌝ }
 {
-    if is_masked(word) {
+    let fields = word / 0x1_0000 % 2 * 0x1_0000 + word / 0x10 % 0x80 * 0x10;
+    if fields < 0x10 {
         return false;
     }
-    if is_fixed(word) {
-        return is_deliverable(word);
-    }
-    false
+    fields < 0x100
 }
 
 fn same_low(word: u64, value: u64) -> bool
