@@ -1,6 +1,8 @@
 //! A disk on GSI 10, from the guest's programming to the end of its interrupt; and a PIC claim whose vector can't be published.
 
-use sillwander::{EmulatedIoApic, EmulatedLocalApic, EmulatedPic, Locked, X86AccessWidth, X86GuestPhysAddr, X86Port, X86VlapicResult};
+use sillwander::{
+    EmulatedIoApic, EmulatedLocalApic, EmulatedPic, Locked, X86AccessWidth, X86GuestPhysAddr, X86Port, X86VlapicResult,
+};
 
 fn main() -> X86VlapicResult {
     let mut io = EmulatedIoApic::new_default();
@@ -27,12 +29,12 @@ fn main() -> X86VlapicResult {
 
     // A pair that several threads share. Its claim can't be published, and is restored.
     let pic = Locked::new(EmulatedPic::new());
-    pic.lock().handle_write(X86Port::new(0x21), X86AccessWidth::Byte, 0)?;
-    if let Some(claim) = pic.lock().claim_irq(4) {
+    pic.with(|pic| pic.handle_write(X86Port::new(0x21), X86AccessWidth::Byte, 0))?;
+    if let Some(claim) = pic.with(|pic| pic.claim_irq(4)) {
         println!("vector {:#x} can't be published", claim.vector());
-        pic.lock().restore_interrupt(claim);
+        pic.with(|pic| pic.restore_interrupt(claim));
     }
-    println!("next: {:x?}", pic.lock().next_interrupt());
+    println!("next: {:x?}", pic.with(|pic| pic.next_interrupt()));
 
     // A width that there isn't.
     println!("refused: {:?}", io.handle_read(select, X86AccessWidth::Word));

@@ -30,7 +30,7 @@ mod vlapic;
 mod vpic;
 
 pub use self::{
-    locked::{Locked, LockedGuard},
+    locked::Locked,
     types::{
         X86AccessWidth, X86GuestPhysAddr, X86GuestPhysAddrRange, X86InterruptVector, X86MsrAddr, X86MsrAddrRange, X86Port,
         X86PortRange, X86VcpuId, X86VlapicError, X86VlapicResult,

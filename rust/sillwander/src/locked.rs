@@ -4,21 +4,20 @@ use core::{
     cell::UnsafeCell,
     fmt::{Debug, Formatter},
     hint::spin_loop,
-    ops::{Deref, DerefMut},
     sync::atomic::{AtomicBool, Ordering::Acquire, Ordering::Relaxed, Ordering::Release},
 };
 
 /// A chip behind a spin lock, for callers that have it by `&self` as the original's callers do: `chip.assert_gsi(2)` becomes
-/// `chip.lock().assert_gsi(2)`.
+/// `chip.with(|chip| chip.assert_gsi(2))`.
 ///
-/// The lock neither counts nor queues, and doesn't turn interrupts off: a caller that uses a chip in an interrupt handler too
-/// turns them off around `lock()`, or the handler waits for ever. It isn't reentrant, and a guard that is forgotten
-/// ([`core::mem::forget`]) leaves it locked. Hold a guard for one call, and not while its answer is injected.
+/// The lock is held for the closure alone, as the original holds its own for a call alone: there is no guard that an `if let` or a `match` would keep
+/// until its end. It isn't reentrant: a closure that uses the same `Locked` waits for ever. It doesn't turn interrupts off: a caller that uses a chip in an
+/// interrupt handler too turns them off around `with`, or the handler waits for ever. Inject an answer after `with`, not inside.
 ///
 /// ```
 /// # use sillwander::{EmulatedPic, Locked};
 /// let pic = Locked::new(EmulatedPic::new());
-/// let claim = pic.lock().claim_irq(4);
+/// let claim = pic.with(|pic| pic.claim_irq(4));
 /// assert!(claim.is_none(), "every line of a new pair is masked");
 /// ```
 #[derive(Default)]
@@ -27,9 +26,18 @@ pub struct Locked<T> {
     value: UnsafeCell<T>,
 }
 
-// SAFETY: the value is reached through a guard alone, and there is one guard at a time; so whoever holds it may be on another thread,
-// which is sending the value.
+// SAFETY: the value is reached in `with` alone, by one thread at a time; that thread has it as if it had been sent.
 unsafe impl<T: Send> Sync for Locked<T> {}
+
+/// Gives the lock back, also where the closure panics.
+struct Held<'a>(&'a AtomicBool);
+
+impl Drop for Held<'_> {
+    #[inline]
+    fn drop(&mut self) {
+        self.0.store(false, Release);
+    }
+}
 
 impl<T> Locked<T> {
     /// A value that nobody has locked.
@@ -37,15 +45,17 @@ impl<T> Locked<T> {
         Self { is_locked: AtomicBool::new(false), value: UnsafeCell::new(value) }
     }
 
-    /// Waits until nobody holds the value, and holds it until the guard is dropped.
+    /// Waits until nobody else has the value, and lends it to the closure.
     #[inline]
-    pub fn lock(&self) -> LockedGuard<'_, T> {
+    pub fn with<R>(&self, call: impl FnOnce(&mut T) -> R) -> R {
         while self.is_locked.compare_exchange_weak(false, true, Acquire, Relaxed).is_err() {
             while self.is_locked.load(Relaxed) {
                 spin_loop();
             }
         }
-        LockedGuard(self)
+        let _held = Held(&self.is_locked);
+        // SAFETY: whoever took the lock has the value alone until `_held` is dropped, and the reference ends with the closure.
+        call(unsafe { &mut *self.value.get() })
     }
 
     /// The value, where nobody else can have it.
@@ -62,33 +72,5 @@ impl<T> Locked<T> {
 impl<T> Debug for Locked<T> {
     fn fmt(&self, f: &mut Formatter<'_>) -> core::fmt::Result {
         f.debug_struct("Locked").field("is_locked", &self.is_locked).finish_non_exhaustive()
-    }
-}
-
-/// Holds the value of a [`Locked`] until it is dropped.
-#[must_use = "the lock is given back where the guard is dropped"]
-pub struct LockedGuard<'a, T>(&'a Locked<T>);
-
-impl<T> Deref for LockedGuard<'_, T> {
-    type Target = T;
-    #[inline]
-    fn deref(&self) -> &T {
-        // SAFETY: this guard is the only one.
-        unsafe { &*self.0.value.get() }
-    }
-}
-
-impl<T> DerefMut for LockedGuard<'_, T> {
-    #[inline]
-    fn deref_mut(&mut self) -> &mut T {
-        // SAFETY: this guard is the only one, and it is borrowed alone.
-        unsafe { &mut *self.0.value.get() }
-    }
-}
-
-impl<T> Drop for LockedGuard<'_, T> {
-    #[inline]
-    fn drop(&mut self) {
-        self.0.is_locked.store(false, Release);
     }
 }
