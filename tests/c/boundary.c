@@ -496,13 +496,14 @@ static uint64_t dice(void)
 static uint64_t number(void)
 {
     static const uint64_t known[] = {0, 1, 2, 4, 8, 0x20, 0x21, 0xa0, 0xa1, 0x80, 0xb0, 0xd0, 0xe0, 0xf0, 0x280, 0x300, 0x310, 0x3f0, 0x350};
-    switch (dice() % 8) {
-    case 0: return dice();
-    case 1: return UINT64_MAX - dice() % 4;
-    case 2: return dice() % 64 * 16;
-    case 3: return dice() >> dice() % 64;
-    case 4: return dice() % 70;
-    default: return known[dice() % (sizeof known / sizeof *known)];
+    uint64_t kind = dice() % 8, any = dice();
+    switch (kind) {
+    case 0: return any;
+    case 1: return UINT64_MAX - any % 4;
+    case 2: return any % 64 * 16;
+    case 3: return any >> any % 64;
+    case 4: return any % 70;
+    default: return known[any % (sizeof known / sizeof *known)];
     }
 }
 
@@ -524,8 +525,8 @@ static uint64_t call(unsigned which)
     case 4: return sillwander_ioapic_set_gsi_level(io, a, b % 2);
     case 5: return sillwander_ioapic_end_of_interrupt(io, a);
     case 6: return sillwander_ioapic_address_range(io, range);
-    case 7: return sillwander_ioapic_handle_read(io, dice() % 2 ? io[27] + a % 32 : a, b);
-    case 8: return sillwander_ioapic_handle_write(io, dice() % 2 ? io[27] + 16 * (a % 2) : a, b, c);
+    case 7: return sillwander_ioapic_handle_read(io, d % 2 ? io[27] + a % 32 : a, b);
+    case 8: return sillwander_ioapic_handle_write(io, d % 2 ? io[27] + 16 * (a % 2) : a, b, c);
     case 9: return sillwander_pic_new(pic);
     case 10: return sillwander_pic_port_ranges(ranges);
     case 11: return sillwander_pic_claim_irq(pic, a);
@@ -541,7 +542,7 @@ static uint64_t call(unsigned which)
     case 21: return sillwander_lapic_handle_eoi(lapic);
     case 22: return sillwander_lapic_handle_read(lapic, a);
     case 23: return sillwander_lapic_handle_write(lapic, a, b, c, d % 70, e, ipi);
-    default: return sillwander_lapic_handle_write(lapic, 0x300, dice() & 0xfffff, 8 >> (dice() & 1), d % 65, e, ipi);
+    default: return sillwander_lapic_handle_write(lapic, 0x300, a * 0x9e3779b97f4a7c15 >> 44, b % 2 ? 4 : 8, d % 65, e, ipi);
     }
 }
 
