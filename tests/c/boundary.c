@@ -212,6 +212,7 @@ static void examples_of_the_io_apic(void)
     EXPECT(line(5, 1), two(0x41, 1));
     for (int again = 0; again < 5; again++)
         EXPECT(io_eoi(0x41), three(3, 0x41, 1));
+    CHECK(io[3] == 0xc041 && io[5] == 0xc041 && io[24] == 0 && io[25] == 0x28);
 
     start("example 5");
     EXPECT(select_register(0x10), NONE);
@@ -512,6 +513,14 @@ static uint64_t word(void)
     return dice() % 4 == 0 ? UINT64_MAX : dice() % 4 == 0 ? 0 : dice();
 }
 
+/* An entry that is sent and ended: one of the vectors that `number` draws, fixed, mostly level-triggered, often in flight, seldom masked. */
+static uint64_t sendable(void)
+{
+    static const uint64_t vectors[] = {0x20, 0x21, 0xa0, 0xa1, 0x80, 0xb0};
+    uint64_t any = dice();
+    return vectors[any % 6] + (any >> 8) % 2 * 0x4000 + ((any >> 16) % 8 ? 0x8000 : 0) + ((any >> 24) % 16 ? 0 : 0x10000) + (any >> 32 << 32);
+}
+
 enum { CALLS = 25 };
 
 static uint64_t call(unsigned which)
@@ -580,6 +589,18 @@ static int spare_words_stayed(unsigned which)
             memcmp(lapic + 42, lapic_lent.before + 42, 48) == 0);
 }
 
+/* Of the I/O APIC a call moves one entry at most, and the two flags of the same entry. Base and size stay. */
+static int one_entry_moved(unsigned which)
+{
+    if (which < 2)
+        return 1;
+    uint64_t flags = (io[24] ^ io_lent.before[24]) | (io[25] ^ io_lent.before[25]);
+    for (unsigned gsi = 0; gsi < 24; gsi++)
+        if (io[gsi] != io_lent.before[gsi])
+            flags |= (uint64_t)1 << gsi;
+    return (flags & (flags - 1)) == 0 && io[27] == io_lent.before[27] && io[28] == io_lent.before[28];
+}
+
 static void made_up_words(void)
 {
     part = "made-up words";
@@ -588,6 +609,9 @@ static void made_up_words(void)
         fill(&io_lent), fill(&pic_lent), fill(&lapic_lent);
         if (round % 8 < 6) /* words that a state may have: ids and modes that let calls through */
             lapic[0] = round % 2, lapic[1] = round % 64, io[27] = dice() >> 1;
+        if (round % 8 < 4)
+            for (unsigned gsi = 0; gsi < 24; gsi++)
+                io[gsi] = sendable();
         if (round == 0) {
             memset(io, 0xff, SILLWANDER_IOAPIC_WORDS * 8);
             memset(pic, 0xff, SILLWANDER_PIC_WORDS * 8);
@@ -601,6 +625,7 @@ static void made_up_words(void)
             CHECK(is_a_code(code));
             CHECK(only_its_chip_moved(which));
             CHECK(spare_words_stayed(which));
+            CHECK(one_entry_moved(which));
             CHECK(code >> 56 == 0 || refusal_kept_the_words(which, SILLWANDER_REFUSAL(code)));
         }
     }

@@ -26,6 +26,6 @@ pub fn value(code: u64) -> usize {
 
 /// Value `k`, from 0, of two or three.
 #[inline]
-pub fn byte(code: u64, k: u32) -> u8 {
+pub const fn byte(code: u64, k: u32) -> u8 {
     (code >> (8 * k)) as u8
 }

@@ -7,6 +7,10 @@ use crate::{
     code::{byte, done, value},
     types::{X86AccessWidth, X86Port, X86PortRange, X86VlapicResult},
 };
+use core::{
+    fmt::{Debug, Formatter},
+    num::NonZeroU64,
+};
 
 const MASTER: u8 = 1;
 const SLAVE: u8 = 2;
@@ -14,35 +18,44 @@ const SLAVE: u8 = 2;
 /// A request that was taken for delivery.
 ///
 /// It can be restored where its vector can't be published. It is neither [`Copy`] nor [`Clone`], and can't be made: so one claim is restored at most once.
-#[derive(Debug, Eq, PartialEq)]
+#[derive(Eq, PartialEq)]
 #[must_use = "a claim that isn't delivered is to be restored"]
 pub struct PicInterruptClaim {
-    vector: u8,
-    irq: u8,
-    master_in_service: bool,
-    slave_in_service: bool,
+    /// The code that the claim answered: three values, vector, line and flags.
+    code: NonZeroU64,
 }
 
 impl PicInterruptClaim {
     /// The vector that the guest programmed.
+    #[inline]
     pub const fn vector(&self) -> u8 {
-        self.vector
+        byte(self.code.get(), 0)
     }
 
-    /// None, or vector, line and flags.
+    const fn irq(&self) -> u8 {
+        byte(self.code.get(), 1)
+    }
+
+    const fn flags(&self) -> u8 {
+        byte(self.code.get(), 2)
+    }
+
+    /// Nothing where there is no claim.
     #[inline]
     fn of(code: u64) -> Option<Self> {
-        let flags = byte(code, 2);
-        (code != 0).then(|| Self {
-            vector: byte(code, 0),
-            irq: byte(code, 1),
-            master_in_service: flags & MASTER != 0,
-            slave_in_service: flags & SLAVE != 0,
-        })
+        NonZeroU64::new(code).map(|code| Self { code })
     }
+}
 
-    fn flags(&self) -> u8 {
-        u8::from(self.master_in_service) * MASTER + u8::from(self.slave_in_service) * SLAVE
+/// The original's text.
+impl Debug for PicInterruptClaim {
+    fn fmt(&self, f: &mut Formatter<'_>) -> core::fmt::Result {
+        f.debug_struct("PicInterruptClaim")
+            .field("vector", &self.vector())
+            .field("irq", &self.irq())
+            .field("master_in_service", &(self.flags() & MASTER != 0))
+            .field("slave_in_service", &(self.flags() & SLAVE != 0))
+            .finish()
     }
 }
 
@@ -97,7 +110,8 @@ impl EmulatedPic {
     /// Restores a claim whose vector couldn't be published.
     #[inline]
     pub fn restore_interrupt(&mut self, claim: PicInterruptClaim) {
-        let code = sillwander_pic_restore_interrupt(&mut self.words, claim.vector.into(), claim.irq.into(), claim.flags().into());
+        let code =
+            sillwander_pic_restore_interrupt(&mut self.words, claim.vector().into(), claim.irq().into(), claim.flags().into());
         debug_assert!(code == 0, "a claim's line is below 16");
     }
 
