@@ -199,11 +199,32 @@ fn run<P: Pair>(seed: u64, least: u64) -> bool {
     missing.is_empty()
 }
 
+/// Four threads at once behind the crate's lock: an edge each time, and each is sent.
+fn lock_keeps_order() -> bool {
+    const TIMES: usize = 20_000;
+    let chip = sillwander::Locked::new((sillwander::EmulatedIoApic::new_default(), 0));
+    let [select, window] = [0xfec0_0000, 0xfec0_0010].map(sillwander::X86GuestPhysAddr::from_usize);
+    let write = |addr, value| chip.with(|(io, _)| io.handle_write(addr, sillwander::X86AccessWidth::Dword, value).is_ok());
+    let is_programmed = write(select, 0x14) && write(window, 0x30);
+    std::thread::scope(|threads| {
+        for _ in 0..4 {
+            threads.spawn(|| {
+                (0..TIMES).for_each(|_| chip.with(|(io, sent)| *sent += usize::from(io.set_gsi_level(2, true).is_some())));
+            });
+        }
+    });
+    let (_, sent) = chip.into_inner();
+    if sent != 4 * TIMES {
+        println!("the lock: {sent} of {} edges were sent", 4 * TIMES);
+    }
+    is_programmed && sent == 4 * TIMES
+}
+
 fn main() -> ExitCode {
     reply::report_own_panics_only();
     host::listen();
     let mut seeds = vec![1, 2026];
-    let mut least = 100_000;
+    let mut least = 500_000;
     let mut arguments = std::env::args().skip(1);
     while let Some(name) = arguments.next() {
         let number = arguments.next().and_then(|text| text.parse().ok());
@@ -216,7 +237,7 @@ fn main() -> ExitCode {
             }
         }
     }
-    let mut same = pic::same_ports() & local::same_ranges();
+    let mut same = lock_keeps_order() & pic::same_ports() & local::same_ranges();
     for seed in seeds {
         same &= run::<io_apic::IoApics>(seed, least);
         same &= run::<pic::Pics>(seed, least);
