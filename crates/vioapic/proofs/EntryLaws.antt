@@ -1,7 +1,11 @@
 -- The rules of one entry, a law for each case: what the proofs of the code cite. Assumes nothing.
-use Prim.Native.Nat.{ℕ}
-use mathlib.Core.Bool.{true, false}
-use mathlib.Core.Path.{_≡_, _∙_, ap}
+use Prim.Native.Nat.{ℕ, _+_, _*_, _/_, _%_, _^_}
+use native.Mathlib.Omega.{arith}
+use mathlib.Core.Bool.{Bool, true, false, cond}
+use mathlib.Core.Path.{_≡_, refl, _∙_, ap}
+use lib.Dec.{eqb}
+use borrow.Author.Tests.{eqb-true, eqb-false, eq-eqb, ne-eqb}
+use Rattle.utils.specs.Set.{bit}
 use Rattle.vioapic.specs.Redirection.{isFit, isLevel, remoteIrr, sameLow, withRemoteIrr, withoutRemoteIrr, replaceLow, replaceHigh, withWord, withPending, withInput, quietly, sending, settled, sendEntry, raiseEntry, lowerEntry, endEntry, writeLow, writeHigh}
 use Rattle.vioapic.specs.declared.redirection.Entry.{Entry}
 use Rattle.vioapic.specs.declared.redirection.EntryStep.{EntryStep}
@@ -63,3 +67,23 @@ module _ (e r : Entry) (x : ℕ) where
   pub high-is : (w : ℕ) → w ≡ replaceHigh (e .word) x → r ≡ withWord e w → r ≡ writeHigh e x
   unfolding writeHigh
   high-is w v q = q ∙ ap (withWord e) v
+
+-- level and in flight, and the vector, in one number: an EOI of the vector ends exactly the entry in which both bits stand beside it
+abbrev fields : ℕ → ℕ
+fields w = w / 2 ^ 14 % 4 * 2 ^ 14 + w % 2 ^ 8
+
+pub awaits-sum : (w v : ℕ) → eqb (fields w) (0xc000 + v) ≡ cond (eqb (w % 2 ^ 8) v) (cond (bit w 15) (bit w 14) false) false
+awaits-sum w v = go (eqb (w % 2 ^ 8) v) (bit w 15) (bit w 14) refl refl refl
+  where
+    go : (a b c : Bool) → eqb (w % 2 ^ 8) v ≡ a → bit w 15 ≡ b → bit w 14 ≡ c → eqb (fields w) (0xc000 + v) ≡ cond a (cond b c false) false
+    go true true true p q r =
+        let x : w % 2 ^ 8 ≡ v = eqb-true _ _ p in
+        let y : w / 2 ^ 15 % 2 ≡ 1 = eqb-true _ _ q in
+        let z : w / 2 ^ 14 % 2 ≡ 1 = eqb-true _ _ r in
+        let h : w / 2 ^ 15 ≡ w / 2 ^ 14 / 2 = omega arith in
+        let m : w / 2 ^ 14 / 2 % 2 ≡ 1 = rw (← h) y in
+        let d : w / 2 ^ 14 % 4 ≡ 3 = omega (arith, m, z) in
+        eq-eqb (fields w) (0xc000 + v) (omega (arith, x, d))
+    go true true false p q r = ne-eqb (fields w) (0xc000 + v) (λ e. eqb-false (w / 2 ^ 14 % 2) 1 r (omega (arith, e)))
+    go true false c p q r = ne-eqb (fields w) (0xc000 + v) (λ e. eqb-false (w / 2 ^ 15 % 2) 1 q (omega (arith, e)))
+    go false b c p q r = ne-eqb (fields w) (0xc000 + v) (λ e. eqb-false (w % 2 ^ 8) v p (omega (arith, e)))

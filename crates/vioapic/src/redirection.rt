@@ -7,7 +7,7 @@ use types::Reply;
 use types::Vector;
 ghost use mathlib.Core.Path.{_≡_};
 ghost use Rattle.vioapic.specs.Answers.{interruptReply, routedReply};
-ghost use Rattle.vioapic.specs.Redirection.{vectorOf, isFixed, isDeliverable, remoteIrr, isLevel, isMasked, withRemoteIrr, withoutRemoteIrr, isFit, sameLow, replaceLow, replaceHigh, awaits, hasVector, withWord, withPending, withInput, quietly, sending, sendEntry, raiseEntry, lowerEntry, moveLine, endEntry, settled, writeLow, writeHigh};
+ghost use Rattle.vioapic.specs.Redirection.{vectorOf, isFixed, isDeliverable, remoteIrr, isLevel, isMasked, withRemoteIrr, withoutRemoteIrr, isFit, sameLow, replaceLow, replaceHigh, awaits, withWord, withPending, withInput, quietly, sending, sendEntry, raiseEntry, lowerEntry, moveLine, endEntry, settled, writeLow, writeHigh};
 
 // A redirection entry: its register, whether a level interrupt was put off, and the level of its input line.
 pub struct Entry {
@@ -71,12 +71,6 @@ fn is_deliverable(word: u64) -> bool
     ensures { λ r. ⌜ r ≡ isDeliverable word ⌝ }
 {
     16 <= word % 0x100
-}
-
-fn has_vector(word: u64, vector: Vector) -> bool
-    ensures { λ r. ⌜ r ≡ hasVector word vector ⌝ }
-{
-    (word % 0x100) as u8 == vector.0
 }
 
 pub fn remote_irr(word: u64) -> bool
@@ -244,18 +238,12 @@ impl Entry {
         self.lower()
     }
 
-    // Whether an EOI of the vector ends it.
+    // Whether an EOI of the vector ends it: level, in flight and of that vector, all in one comparison, since an EOI asks it of every entry.
     pub fn awaits(self, vector: Vector) -> bool
         ensures { λ r. ⌜ r ≡ awaits vector self ⌝ }
     {
         let word = self.word;
-        if has_vector(word, vector) {
-            if is_level(word) {
-                return remote_irr(word);
-            }
-            return false;
-        }
-        false
+        word / 0x4000 % 4 * 0x4000 + word % 0x100 == 0xc000 + vector.0 as u64
     }
 
     // An EOI ends it.
