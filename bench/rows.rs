@@ -114,7 +114,7 @@ fn code_ended(code: u64) -> u64 {
     if code == 0 {
         return 0;
     }
-    (code & 0xff) + if code >> 48 == 3 { code >> 8 & 0xff } else { 0 }
+    (code & 0xff) + if code >> 48 == 3 { code >> 16 & 0xff } else { 0 }
 }
 
 #[inline(always)]
@@ -360,7 +360,7 @@ row! {
         let code = sillwander_pic_claim_irq(words, irq);
         if code != 0 {
             sum += code & 0xff;
-            sillwander_pic_restore_interrupt(words, code & 0xff, code >> 8 & 0xff, code >> 16 & 0xff);
+            sillwander_pic_restore_interrupt(words, code & 0xffff, code >> 16 & 0xffff, code >> 32 & 0xffff);
         }
     }
     ours(pic) {
@@ -441,7 +441,7 @@ macro_rules! icr_write {
                 let (vcpus, active) = (Host::vcpu_num() as u64, Host::active_vcpus() as u64);
                 let code = sillwander_lapic_handle_write(words, offset, command, 4, vcpus, active, &mut ipi);
                 if code >> 48 == 2 {
-                    inject_all(ipi[0], (code >> 8) as u8);
+                    inject_all(ipi[0], (code >> 24) as u8);
                 }
                 sum += code_wrote(code);
             }

@@ -52,17 +52,21 @@ static Answer answer(uint64_t code)
     Answer said = {SILLWANDER_REFUSAL(code), SILLWANDER_COUNT(code), {0, 0, 0}};
     if (said.count == 1)
         said.values[0] = SILLWANDER_VALUE(code);
-    else
-        for (unsigned k = 0; k < said.count && k < 3; k++)
-            said.values[k] = SILLWANDER_BYTE(code, k);
+    for (unsigned k = 0; k < said.count && said.count == 2; k++)
+        said.values[k] = SILLWANDER_OF_TWO(code, k);
+    for (unsigned k = 0; k < said.count && said.count == 3; k++)
+        said.values[k] = SILLWANDER_OF_THREE(code, k);
     return said;
 }
 
 /* The code that an answer has by the header's text. */
 static uint64_t code_of(Answer said)
 {
-    uint64_t low = said.count == 1 ? said.values[0] : said.values[0] + 256 * said.values[1] + 65536 * said.values[2];
-    return (uint64_t)said.refusal << 56 | (uint64_t)said.count << 48 | low;
+    static const unsigned bits[] = {0, 0, 24, 16}; /* from one value to the next, by their count */
+    uint64_t code = (uint64_t)said.refusal << 56 | (uint64_t)said.count << 48;
+    for (unsigned k = 0; k < said.count && k < 3; k++)
+        code |= (uint64_t)said.values[k] << (k * bits[said.count % 4]);
+    return code;
 }
 
 static void expect(int line, const char *text, uint64_t code, Answer wanted)

@@ -1,5 +1,7 @@
 //! Codes, as include/sillwander.h describes them: bits 63..56 why the call was refused or 0, bits 55..48 how many values it answers, one value in bits
-//! 31..0, two or three as a byte each from bit 0 up. "Done, and nothing to say" is 0.
+//! 31..0, two of 24 bits each, or three of 16 bits each, from bit 0 up. "Done, and nothing to say" is 0.
+//!
+//! Of two and three values the archives' are bytes: a line, a vector, a level, flags, a kind.
 
 use crate::types::{X86VlapicError, X86VlapicResult};
 
@@ -24,8 +26,14 @@ pub fn value(code: u64) -> usize {
     code as u32 as usize
 }
 
-/// Value `k`, from 0, of two or three.
+/// Value `k`, from 0, of two.
 #[inline]
-pub const fn byte(code: u64, k: u32) -> u8 {
-    (code >> (8 * k)) as u8
+pub const fn of_two(code: u64, k: u32) -> u8 {
+    (code >> (24 * k)) as u8
+}
+
+/// Value `k`, from 0, of three.
+#[inline]
+pub const fn of_three(code: u64, k: u32) -> u8 {
+    (code >> (16 * k)) as u8
 }

@@ -4,7 +4,7 @@
 
 use crate::{
     archives::*,
-    code::{byte, count, done, value},
+    code::{count, done, of_three, of_two, value},
     types::{X86AccessWidth, X86GuestPhysAddr, X86GuestPhysAddrRange, X86VlapicResult},
 };
 
@@ -37,7 +37,7 @@ pub struct EmulatedIoApic {
 /// None, or vector and level.
 #[inline]
 fn sent(code: u64) -> Option<IoApicInterrupt> {
-    (code != 0).then(|| IoApicInterrupt { vector: byte(code, 0), level_triggered: byte(code, 1) != 0 })
+    (code != 0).then(|| IoApicInterrupt { vector: of_two(code, 0), level_triggered: of_two(code, 1) != 0 })
 }
 
 impl EmulatedIoApic {
@@ -82,8 +82,9 @@ impl EmulatedIoApic {
     pub fn end_of_interrupt(&mut self, vector: u8) -> Option<IoApicEoi> {
         let code = sillwander_ioapic_end_of_interrupt(&mut self.words, vector.into());
         (code != 0).then(|| IoApicEoi {
-            gsi: byte(code, 0).into(),
-            pending: (count(code) == 3).then(|| IoApicInterrupt { vector: byte(code, 1), level_triggered: byte(code, 2) != 0 }),
+            gsi: of_three(code, 0).into(), // or the one value,
+            pending: (count(code) == 3)
+                .then(|| IoApicInterrupt { vector: of_three(code, 1), level_triggered: of_three(code, 2) != 0 }),
         })
     }
 

@@ -5,7 +5,7 @@
 
 use crate::{
     archives::*,
-    code::{byte, count, done, value},
+    code::{count, done, of_two, value},
     types::{
         X86AccessWidth, X86GuestPhysAddr, X86GuestPhysAddrRange, X86MsrAddr, X86MsrAddrRange, X86VcpuId, X86VlapicError,
         X86VlapicResult,
@@ -103,7 +103,7 @@ impl EmulatedLocalApic {
             &mut vcpus,
         ))?;
         Ok((count(code) == 2).then(|| {
-            let kind = match byte(code, 0) {
+            let kind = match of_two(code, 0) {
                 0 => IpiKind::Fixed,
                 4 => IpiKind::Nmi,
                 5 => IpiKind::Init,
@@ -112,7 +112,7 @@ impl EmulatedLocalApic {
                     IpiKind::StartUp
                 }
             };
-            Ipi { kind, vector: byte(code, 1), vcpus: vcpus[0] }
+            Ipi { kind, vector: of_two(code, 1), vcpus: vcpus[0] }
         }))
     }
 

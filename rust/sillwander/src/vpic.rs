@@ -4,7 +4,7 @@
 
 use crate::{
     archives::*,
-    code::{byte, done, value},
+    code::{done, of_three, value},
     types::{X86AccessWidth, X86Port, X86PortRange, X86VlapicResult},
 };
 use core::{
@@ -29,15 +29,15 @@ impl PicInterruptClaim {
     /// The vector that the guest programmed.
     #[inline]
     pub const fn vector(&self) -> u8 {
-        byte(self.code.get(), 0)
+        of_three(self.code.get(), 0)
     }
 
     const fn irq(&self) -> u8 {
-        byte(self.code.get(), 1)
+        of_three(self.code.get(), 1)
     }
 
     const fn flags(&self) -> u8 {
-        byte(self.code.get(), 2)
+        of_three(self.code.get(), 2)
     }
 
     /// Nothing where there is no claim.
