@@ -311,6 +311,38 @@ row! {
     ours(io) { sum += vector(io.lend(|io| io.vector_for_gsi(gsi as usize))); }
 }
 
+row! {
+    address_range, io, LEVEL_2, (), |sum|,
+    original(io) {
+        let range = black_box(io).address_range();
+        sum += (range.end.as_usize() - range.start.as_usize()) as u64;
+    }
+    boundary(words) {
+        let mut range = [0; 2];
+        sillwander_ioapic_address_range(black_box(words), &mut range);
+        sum += range[1] - range[0];
+    }
+    ours(io) {
+        let range = black_box(&mut *io).lend(|io| io.address_range());
+        sum += (range.end.as_usize() - range.start.as_usize()) as u64;
+    }
+}
+
+// A new chip in the place of the old one.
+row! {
+    io_new, io, LEVEL_2, (), |sum|,
+    original(_io) { black_box(io::Original::new_default()); }
+    boundary(words) { sum += code_wrote(sillwander_ioapic_new_default(black_box(words))); }
+    ours(io) { io.lend(|io| *black_box(io) = io::Ours::new_default()); }
+}
+
+row! {
+    pic_new, pic, [], (), |sum|,
+    original(_pic) { black_box(pic::Original::new()); }
+    boundary(words) { sum += code_wrote(sillwander_pic_new(black_box(words))); }
+    ours(pic) { pic.lend(|pic| *black_box(pic) = pic::Ours::new()); }
+}
+
 const OPEN: [(usize, usize); 2] = [(0x21, 0), (0xa1, 0)];
 
 row! {
@@ -512,4 +544,7 @@ pub const ROWS: &[&Row] = &[
     &icr_physical::ROW,
     &icr_logical::ROW,
     &tpr_write_ppr_read::ROW,
+    &address_range::ROW,
+    &io_new::ROW,
+    &pic_new::ROW,
 ];

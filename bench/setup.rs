@@ -34,6 +34,7 @@ unsafe extern "C" {
     pub safe fn sillwander_ioapic_assert_gsi(words: &mut io::Words, gsi: u64) -> u64;
     pub safe fn sillwander_ioapic_set_gsi_level(words: &mut io::Words, gsi: u64, asserted: u64) -> u64;
     pub safe fn sillwander_ioapic_end_of_interrupt(words: &mut io::Words, vector: u64) -> u64;
+    pub safe fn sillwander_ioapic_address_range(words: &io::Words, range: &mut [u64; 2]) -> u64;
     pub safe fn sillwander_ioapic_handle_read(words: &io::Words, addr: u64, width: u64) -> u64;
     pub safe fn sillwander_ioapic_handle_write(words: &mut io::Words, addr: u64, width: u64, value: u64) -> u64;
     pub safe fn sillwander_pic_new(words: &mut pic::Words) -> u64;

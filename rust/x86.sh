@@ -1,3 +1,4 @@
+# shellcheck shell=sh disable=SC2034
 # For `.`: how rustc makes x86-64 programs here, and what starts them. Sets `x86_target` (options for rustc), `x86_start` (a command, or nothing) and `x86_missing` (what
 # isn't at hand, or nothing).
 x86_target=''
