@@ -39,6 +39,9 @@ module _ (l : List ℕ) (at g : ℕ) (up : Bool) where
   pub flag-down : (s : ℕ) → up ≡ false → s ≡ without (getD l at 0) g → set l at s ≡ putFlag l at g up
   flag-down s u e = rw u (ap (set l at) e)
 
+  pub flag-put : (w : List ℕ) (b : Bool) → up ≡ b → w ≡ putFlag l at g b → w ≡ putFlag l at g up
+  flag-put w b u e = rw u e
+
   pub flag-kept : (was : Bool) → was ≡ bit (getD l at 0) g → up ≡ was → l ≡ putFlag l at g up
   flag-kept was is u = sym (ap (set l at) (marked-kept (getD l at 0) g up (sym (u ∙ is))) ∙ set-getD l at 0)
 
@@ -56,20 +59,27 @@ put-is l v w g e p q = q ∙ ap (λ (z : List ℕ). putFlag z 25 g (e .«input_l
 -- ---- lines and EOIs
 
 module _ (l : List ℕ) (g : ℕ) where
-  pub step-is : (s : EntryStep) (r : Reply) (n : ℕ) (w : List ℕ) → w ≡ putEntry l g (s .entry) → r ≡ routedReply (s .answer) → n ≡ replyCode r → lent w n ≡ steppedWords l g s
-  step-is s r n w p q e = ap₂ lent p (e ∙ ap replyCode q)
+  -- a step's words and code
+  pub sent-is : (e : Entry) (s : EntryStep) (n : ℕ) (w : List ℕ) → e ≡ entryIn l g → s ≡ sendEntry e → w ≡ putEntry l g (s .entry) → n ≡ replyCode (routedReply (s .answer))
+      → lent w n ≡ steppedWords l g (sendEntry (entryIn l g))
+  sent-is e s n w p q z x = ap₂ lent z x ∙ ap (steppedWords l g) (q ∙ ap sendEntry p)
 
-  pub assert-in : (e : Entry) (s : EntryStep) (a : Lent) → g < 24 → e ≡ entryIn l g → s ≡ sendEntry e → a ≡ steppedWords l g s → a ≡ assertWords l g
+  pub moved-is : (up : Bool) (e : Entry) (s : EntryStep) (n : ℕ) (v w : List ℕ) → e ≡ entryIn l g → s ≡ moveLine e up → n ≡ replyCode (routedReply (s .answer))
+      → v ≡ putFlag (set l g (s .entry .word)) 24 g (s .entry .«pending_level») → w ≡ putFlag v 25 g (s .entry .«input_level»)
+      → lent w n ≡ steppedWords l g (moveLine (entryIn l g) up)
+  moved-is up e s n v w p q x t z = ap₂ lent (put-is l v w g (s .entry) t z) x ∙ ap (steppedWords l g) (q ∙ ap (λ (d : Entry). moveLine d up) p)
+
+  pub assert-in : (a : Lent) → g < 24 → a ≡ steppedWords l g (sendEntry (entryIn l g)) → a ≡ assertWords l g
   unfolding assertWords
-  assert-in e s a h p q z = z ∙ ap (steppedWords l g) (q ∙ ap sendEntry p) ∙ rw (lt-ltb _ _ h)
+  assert-in a h z = z ∙ rw (lt-ltb _ _ h)
 
   pub assert-out : (n : ℕ) → 24 ≤ g → n ≡ replyCode Nothing → lent l n ≡ assertWords l g
   unfolding assertWords
   assert-out n h e = rw (le-ltb _ _ h) (ap (lent l) e)
 
-  pub level-in : (x : ℕ) (up : Bool) (e : Entry) (s : EntryStep) (a : Lent) → g < 24 → e ≡ entryIn l g → up ≡ isUp x → s ≡ moveLine e up → a ≡ steppedWords l g s → a ≡ setLevelWords l g x
+  pub level-in : (x : ℕ) (up : Bool) (a : Lent) → g < 24 → isUp x ≡ up → a ≡ steppedWords l g (moveLine (entryIn l g) up) → a ≡ setLevelWords l g x
   unfolding setLevelWords
-  level-in x up e s a h p u q z = z ∙ ap (steppedWords l g) (q ∙ ap₂ moveLine p u) ∙ rw (lt-ltb _ _ h)
+  level-in x up a h u z = z ∙ rw (lt-ltb _ _ h, u)
 
   pub level-out : (x n : ℕ) → 24 ≤ g → n ≡ replyCode Nothing → lent l n ≡ setLevelWords l g x
   unfolding setLevelWords

@@ -6,8 +6,9 @@ ghost use Prim.Native.Nat.{_<_};
 ghost use lib.ListN.{getD};
 ghost use Rattle.utils.specs.Set.{bit};
 ghost use Rattle.boundary.specs.Lent.{replyCode};
+ghost use Rattle.vioapic.specs.Answers.{interruptReply, routedReply};
 ghost use Rattle.vioapic.specs.IoApic.{goodWidth, vectorForGsi, handleRead};
-ghost use Rattle.vioapic.specs.Redirection.{endEntry};
+ghost use Rattle.vioapic.specs.Redirection.{sendEntry, moveLine, endEntry};
 ghost use Rattle.vioapic.specs.Registers.{readSelected, readAt};
 ghost use Rattle.vioapic_c.specs.Words.{entryIn, selectorIn, putFlag, putEntry, newWords, view};
 ghost use Rattle.vioapic_c.specs.Calls.{firstIn, steppedWords, assertWords, setLevelWords, endedWords, endWords, createdWords, rangeWords, writeSelectedWords, writeAtWords, writeWords, lent};
@@ -19,9 +20,9 @@ use types::Reply;
 use types::Vector;
 use utils::set64;
 use vioapic::IoApicEoi;
-use vioapic::redirection;
 use vioapic::redirection::Entry;
-use vioapic::redirection::EntryStep;
+use vioapic::redirection::IoApicInterrupt;
+use vioapic::redirection::Routed;
 
 const ENTRIES: usize = 24;
 
@@ -48,19 +49,31 @@ fn entry_in(words: &[u64; 32], g: usize) -> Entry
     }
 }
 
-// Puts a flag of entry g; a flag that doesn't move isn't written.
+// Puts a flag of entry g.
+fn set_flag(words: &mut [u64; 32], at: usize, g: usize, up: bool)
+    requires { ⌜ (at < 32) × (g < 24) ⌝ }
+    ensures { λ _. ⌜ now (words .exit) ≡ putFlag (now (words .entry)) at g up ⌝ }
+{
+    if up {
+        words[at] = set64::with(words[at], g as u64);
+        return;
+    }
+    words[at] = set64::without(words[at], g as u64);
+}
+
+// The same where the flag often doesn't move, and then isn't written.
 fn put_flag(words: &mut [u64; 32], at: usize, g: usize, was: bool, up: bool)
     requires { ⌜ (at < 32) × (g < 24) × (was ≡ bit (getD (now words) at 0) g) ⌝ }
     ensures { λ _. ⌜ now (words .exit) ≡ putFlag (now (words .entry)) at g up ⌝ }
 {
     if up {
         if !was {
-            words[at] = set64::with(words[at], g as u64);
+            set_flag(&mut *words, at, g, true);
         }
         return;
     }
     if was {
-        words[at] = set64::without(words[at], g as u64);
+        set_flag(&mut *words, at, g, false);
     }
 }
 
@@ -165,14 +178,59 @@ pub extern "C" fn sillwander_ioapic_new_default(words: &mut [u64; 32]) -> u64
 
 // ---- Lines and EOIs
 
-fn stepped(words: &mut [u64; 32], g: usize, before: Entry, step: EntryStep) -> u64
-    requires { ⌜ (g < 24) × (before ≡ entryIn (now words) g) ⌝ }
-    ensures { λ r. ⌜ lent (now (words .exit)) r ≡ steppedWords (now (words .entry)) g step ⌝ }
+// The code of an interrupt: with the two trigger modes apart, each way through a rule has its code at hand.
+fn interrupt_code(interrupt: IoApicInterrupt) -> u64
+    ensures { λ r. ⌜ r ≡ replyCode (interruptReply interrupt) ⌝ }
 {
+    let vector = interrupt.vector;
+    if interrupt.level_triggered {
+        return code(Reply::Two(vector.0 as u64, 1));
+    }
+    code(Reply::Two(vector.0 as u64, 0))
+}
+
+fn routed_code(answer: Routed) -> u64
+    ensures { λ r. ⌜ r ≡ replyCode (routedReply answer) ⌝ }
+{
+    match answer {
+        Routed::NotRouted => code(Reply::Nothing),
+        Routed::Interrupt(interrupt) => interrupt_code(interrupt),
+    }
+}
+
+// A step of an entry, which leaves its line as it is.
+fn sent(words: &mut [u64; 32], g: usize) -> u64
+    requires { ⌜ g < 24 ⌝ }
+    ensures { λ r. ⌜ lent (now (words .exit)) r ≡ steppedWords (now (words .entry)) g (sendEntry (entryIn (now (words .entry)) g)) ⌝ }
+{
+    let entry = entry_in(&*words, g);
+    let step = entry.send();
     let after = step.entry;
     let answer = step.answer;
-    put_entry(&mut *words, g, before, after);
-    code(answer.reply())
+    put_entry(&mut *words, g, entry, after);
+    routed_code(answer)
+}
+
+// A step of an entry that moves its line.
+fn moved(words: &mut [u64; 32], g: usize, up: bool) -> u64
+    requires { ⌜ g < 24 ⌝ }
+    ensures { λ r. ⌜ lent (now (words .exit)) r ≡ steppedWords (now (words .entry)) g (moveLine (entryIn (now (words .entry)) g) up) ⌝ }
+{
+    let entry = entry_in(&*words, g);
+    let step = entry.move_line(up);
+    let after = step.entry;
+    let answer = step.answer;
+    let answered = routed_code(answer);
+    words[g] = after.word;
+    put_flag(
+        &mut *words,
+        PENDING,
+        g,
+        entry.pending_level,
+        after.pending_level,
+    );
+    set_flag(&mut *words, INPUT, g, after.input_level);
+    answered
 }
 
 #[no_mangle]
@@ -190,8 +248,7 @@ pub extern "C" fn sillwander_ioapic_assert_gsi(words: &mut [u64; 32], gsi: usize
     ensures { λ r. ⌜ lent (now (words .exit)) r ≡ assertWords (now (words .entry)) gsi ⌝ }
 {
     if gsi < ENTRIES {
-        let entry = entry_in(&*words, gsi);
-        return stepped(&mut *words, gsi, entry, entry.send());
+        return sent(&mut *words, gsi);
     }
     code(Reply::Nothing)
 }
@@ -205,8 +262,11 @@ pub extern "C" fn sillwander_ioapic_set_gsi_level(
     ensures { λ r. ⌜ lent (now (words .exit)) r ≡ setLevelWords (now (words .entry)) gsi asserted ⌝ }
 {
     if gsi < ENTRIES {
-        let entry = entry_in(&*words, gsi);
-        return stepped(&mut *words, gsi, entry, entry.move_line(is_up(asserted)));
+        // The two ways apart, so that neither looks at what only the other needs.
+        if is_up(asserted) {
+            return moved(&mut *words, gsi, true);
+        }
+        return moved(&mut *words, gsi, false);
     }
     code(Reply::Nothing)
 }

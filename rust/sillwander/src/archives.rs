@@ -1,0 +1,59 @@
+//! The functions of the three archives, as include/sillwander.h declares them.
+//!
+//! They are safe to call: it is proved that each takes any words and any numbers, and touches nothing but the words that it is lent. A reference to an
+//! array is the pointer that C passes.
+
+pub const IOAPIC_WORDS: usize = 32;
+pub const PIC_WORDS: usize = 4;
+pub const LAPIC_WORDS: usize = 48;
+
+type IoApic = [u64; IOAPIC_WORDS];
+type Pic = [u64; PIC_WORDS];
+type Lapic = [u64; LAPIC_WORDS];
+
+// SAFETY: the signatures are the header's; that the functions keep to them is proved.
+#[link(name = "vioapic_c", kind = "static")]
+unsafe extern "C" {
+    pub safe fn sillwander_ioapic_new(words: &mut IoApic, base: u64, size: u64) -> u64;
+    pub safe fn sillwander_ioapic_new_default(words: &mut IoApic) -> u64;
+    pub safe fn sillwander_ioapic_vector_for_gsi(words: &IoApic, gsi: u64) -> u64;
+    pub safe fn sillwander_ioapic_assert_gsi(words: &mut IoApic, gsi: u64) -> u64;
+    pub safe fn sillwander_ioapic_set_gsi_level(words: &mut IoApic, gsi: u64, asserted: u64) -> u64;
+    pub safe fn sillwander_ioapic_end_of_interrupt(words: &mut IoApic, vector: u64) -> u64;
+    pub safe fn sillwander_ioapic_address_range(words: &IoApic, range: &mut [u64; 2]) -> u64;
+    pub safe fn sillwander_ioapic_handle_read(words: &IoApic, addr: u64, width: u64) -> u64;
+    pub safe fn sillwander_ioapic_handle_write(words: &mut IoApic, addr: u64, width: u64, value: u64) -> u64;
+}
+
+// SAFETY: as above.
+#[link(name = "vpic_c", kind = "static")]
+unsafe extern "C" {
+    pub safe fn sillwander_pic_new(words: &mut Pic) -> u64;
+    pub safe fn sillwander_pic_port_ranges(ranges: &mut [u64; 4]) -> u64;
+    pub safe fn sillwander_pic_claim_irq(words: &mut Pic, irq: u64) -> u64;
+    pub safe fn sillwander_pic_claim_pending_interrupt(words: &mut Pic) -> u64;
+    pub safe fn sillwander_pic_pulse_irq(words: &mut Pic, irq: u64) -> u64;
+    pub safe fn sillwander_pic_next_interrupt(words: &mut Pic) -> u64;
+    pub safe fn sillwander_pic_restore_interrupt(words: &mut Pic, vector: u64, irq: u64, flags: u64) -> u64;
+    pub safe fn sillwander_pic_handle_read(words: &Pic, port: u64, width: u64) -> u64;
+    pub safe fn sillwander_pic_handle_write(words: &mut Pic, port: u64, width: u64, value: u64) -> u64;
+}
+
+// SAFETY: as above.
+#[link(name = "vlapic_c", kind = "static")]
+unsafe extern "C" {
+    pub safe fn sillwander_lapic_setup(words: &mut Lapic, x2apic: u64, vcpu_id: u64, vcpu_num: u64) -> u64;
+    pub safe fn sillwander_lapic_new(words: &mut Lapic) -> u64;
+    pub safe fn sillwander_lapic_accept_interrupt(words: &mut Lapic, vector: u64, level_triggered: u64) -> u64;
+    pub safe fn sillwander_lapic_handle_eoi(words: &mut Lapic) -> u64;
+    pub safe fn sillwander_lapic_handle_read(words: &Lapic, offset: u64) -> u64;
+    pub safe fn sillwander_lapic_handle_write(
+        words: &mut Lapic,
+        offset: u64,
+        value: u64,
+        width: u64,
+        vcpu_num: u64,
+        active_vcpus: u64,
+        ipi: &mut [u64; 1],
+    ) -> u64;
+}

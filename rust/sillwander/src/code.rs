@@ -1,0 +1,39 @@
+//! Codes, as include/sillwander.h describes them: bits 63..56 why the call was refused or 0, bits 55..48 how many values it answers, one value in bits
+//! 31..0, two of 24 bits each, or three of 16 bits each, from bit 0 up. "Done, and nothing to say" is 0.
+//!
+//! Of two and three values the archives' are bytes: a line, a vector, a level, flags, a kind.
+
+use crate::types::{X86VlapicError, X86VlapicResult};
+
+/// The code itself where the call was done.
+#[inline]
+pub fn done(code: u64) -> X86VlapicResult<u64> {
+    match code >> 56 {
+        0 => Ok(code),
+        number => Err(X86VlapicError::of_number(number as u8)),
+    }
+}
+
+/// How many values a done call answers.
+#[inline]
+pub fn count(code: u64) -> u8 {
+    (code >> 48) as u8
+}
+
+/// The one value.
+#[inline]
+pub fn value(code: u64) -> usize {
+    code as u32 as usize
+}
+
+/// Value `k`, from 0, of two.
+#[inline]
+pub const fn of_two(code: u64, k: u32) -> u8 {
+    (code >> (24 * k)) as u8
+}
+
+/// Value `k`, from 0, of three.
+#[inline]
+pub const fn of_three(code: u64, k: u32) -> u8 {
+    (code >> (16 * k)) as u8
+}

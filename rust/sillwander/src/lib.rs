@@ -1,0 +1,41 @@
+//! The interrupt controllers of a small hypervisor, proved, behind the names of the crate that they were ported from, x86_vlapic 0.5.4.
+//!
+//! Every call goes to a function of the three archives that `rt staticlib` writes; nothing of the chips' rules stands here. What
+//! the functions do is proved (docs/PROMISES.md); what this crate adds is types: numbers become addresses, widths and claims,
+//! and coded answers become `Option` and `Result`.
+//!
+//! - **States** are arrays of words inside the types. There is no allocation and no global.
+//! - **Locking** is the caller's: a call that changes a chip takes `&mut self`, where the original takes `&self` and locks inside. [`Locked`] is such a lock.
+//! - **The xmm registers** are used by the archives: save a guest's before a call.
+//! - **No panics**: what the original panics at is refused with [`X86VlapicError::InvalidAddress`] or [`X86VlapicError::OutOfRange`].
+//!
+//! ```
+//! use sillwander::{EmulatedIoApic, IoApicInterrupt, X86AccessWidth::Dword, X86GuestPhysAddr};
+//!
+//! let mut io = EmulatedIoApic::new_default();
+//! io.handle_write(X86GuestPhysAddr::from_usize(0xfec0_0000), Dword, 0x14)?; // entry 2, low word
+//! io.handle_write(X86GuestPhysAddr::from_usize(0xfec0_0010), Dword, 0x8030)?; // level, vector 0x30
+//! assert_eq!(io.set_gsi_level(2, true), Some(IoApicInterrupt { vector: 0x30, level_triggered: true }));
+//! # Ok::<(), sillwander::X86VlapicError>(())
+//! ```
+#![no_std]
+#![deny(missing_docs, unsafe_op_in_unsafe_fn)]
+
+mod archives;
+mod code;
+mod locked;
+mod types;
+mod vioapic;
+mod vlapic;
+mod vpic;
+
+pub use self::{
+    locked::Locked,
+    types::{
+        X86AccessWidth, X86GuestPhysAddr, X86GuestPhysAddrRange, X86InterruptVector, X86MsrAddr, X86MsrAddrRange, X86Port,
+        X86PortRange, X86VcpuId, X86VlapicError, X86VlapicResult,
+    },
+    vioapic::{EmulatedIoApic, IoApicEoi, IoApicInterrupt},
+    vlapic::{EmulatedLocalApic, Ipi, IpiKind},
+    vpic::{EmulatedPic, PicInterruptClaim},
+};

@@ -1,0 +1,135 @@
+//! The pair of 8259s.
+//!
+//! The names and signatures are those of vpic.rs of x86_vlapic 0.5.4 (Copyright The Axvisor Team, Apache License 2.0; `NOTICE`); behind them are calls of the archive.
+
+use crate::{
+    archives::*,
+    code::{done, of_three, value},
+    types::{X86AccessWidth, X86Port, X86PortRange, X86VlapicResult},
+};
+use core::{
+    fmt::{Debug, Formatter},
+    num::NonZeroU64,
+};
+
+const MASTER: u8 = 1;
+const SLAVE: u8 = 2;
+
+/// A request that was taken for delivery.
+///
+/// It can be restored where its vector can't be published. It is neither [`Copy`] nor [`Clone`], and can't be made: so one claim is restored at most once.
+#[derive(Eq, PartialEq)]
+#[must_use = "a claim that isn't delivered is to be restored"]
+pub struct PicInterruptClaim {
+    /// The code that the claim answered: three values, vector, line and flags.
+    code: NonZeroU64,
+}
+
+impl PicInterruptClaim {
+    /// The vector that the guest programmed.
+    #[inline]
+    pub const fn vector(&self) -> u8 {
+        of_three(self.code.get(), 0)
+    }
+
+    const fn irq(&self) -> u8 {
+        of_three(self.code.get(), 1)
+    }
+
+    const fn flags(&self) -> u8 {
+        of_three(self.code.get(), 2)
+    }
+
+    /// Nothing where there is no claim.
+    #[inline]
+    fn of(code: u64) -> Option<Self> {
+        NonZeroU64::new(code).map(|code| Self { code })
+    }
+}
+
+/// The original's text.
+impl Debug for PicInterruptClaim {
+    fn fmt(&self, f: &mut Formatter<'_>) -> core::fmt::Result {
+        f.debug_struct("PicInterruptClaim")
+            .field("vector", &self.vector())
+            .field("irq", &self.irq())
+            .field("master_in_service", &(self.flags() & MASTER != 0))
+            .field("slave_in_service", &(self.flags() & SLAVE != 0))
+            .finish()
+    }
+}
+
+/// A PC's two 8259s: the master's lines are 0 to 7, the slave's 8 to 15.
+#[derive(Debug)]
+pub struct EmulatedPic {
+    words: [u64; PIC_WORDS],
+}
+
+impl EmulatedPic {
+    /// A new pair, every line masked.
+    pub fn new() -> Self {
+        let mut words = [0; PIC_WORDS];
+        sillwander_pic_new(&mut words);
+        Self { words }
+    }
+
+    /// The command and data port of the master, and of the slave.
+    pub fn port_ranges() -> [X86PortRange; 2] {
+        let mut ranges = [0; 4];
+        sillwander_pic_port_ranges(&mut ranges);
+        let [master_start, master_end, slave_start, slave_end] = ranges.map(|port| X86Port::new(port as u16));
+        [X86PortRange { start: master_start, end: master_end }, X86PortRange { start: slave_start, end: slave_end }]
+    }
+
+    /// An edge on a line, and the vector that can then be delivered. Such a one can't be restored.
+    #[inline]
+    pub fn pulse_irq(&mut self, irq: u8) -> Option<u8> {
+        let code = sillwander_pic_pulse_irq(&mut self.words, irq.into());
+        (code != 0).then_some(code as u8)
+    }
+
+    /// The vector that can be delivered after a change of the pair, as after an EOI or a write of a mask. Such a one can't be restored.
+    #[inline]
+    pub fn next_interrupt(&mut self) -> Option<u8> {
+        let code = sillwander_pic_next_interrupt(&mut self.words);
+        (code != 0).then_some(code as u8)
+    }
+
+    /// An edge on a line, and a claim of what can then be delivered. A line from 16 up does nothing.
+    #[inline]
+    pub fn claim_irq(&mut self, irq: u8) -> Option<PicInterruptClaim> {
+        PicInterruptClaim::of(sillwander_pic_claim_irq(&mut self.words, irq.into()))
+    }
+
+    /// A claim of what can be delivered after a change of the pair.
+    #[inline]
+    pub fn claim_pending_interrupt(&mut self) -> Option<PicInterruptClaim> {
+        PicInterruptClaim::of(sillwander_pic_claim_pending_interrupt(&mut self.words))
+    }
+
+    /// Restores a claim whose vector couldn't be published.
+    #[inline]
+    pub fn restore_interrupt(&mut self, claim: PicInterruptClaim) {
+        let code =
+            sillwander_pic_restore_interrupt(&mut self.words, claim.vector().into(), claim.irq().into(), claim.flags().into());
+        debug_assert!(code == 0, "a claim's line is below 16");
+    }
+
+    /// A port read. [`Unsupported`](crate::X86VlapicError::Unsupported) for a width other than a byte, or a port that the pair doesn't have.
+    #[inline]
+    pub fn handle_read(&self, port: X86Port, width: X86AccessWidth) -> X86VlapicResult<usize> {
+        done(sillwander_pic_handle_read(&self.words, port.number().into(), width.size() as u64)).map(value)
+    }
+
+    /// A port write, of the value's low 8 bits. Refused as a read is.
+    #[inline]
+    pub fn handle_write(&mut self, port: X86Port, width: X86AccessWidth, value: usize) -> X86VlapicResult {
+        done(sillwander_pic_handle_write(&mut self.words, port.number().into(), width.size() as u64, value as u64)).map(|_| ())
+    }
+}
+
+impl Default for EmulatedPic {
+    fn default() -> Self {
+        Self::new()
+    }
+}

@@ -1,0 +1,663 @@
+/*
+ * The C boundary, called from C: the numbered examples of document 01, the other calls once each, every refusal, and made-up words.
+ * What is expected was written from document 01 and from the header's text. The exit status is 0 only if everything was as expected.
+ *
+ * The lent words of each chip end where a page ends that nobody may touch, so that a call which reads or writes behind them faults; what stands before
+ * them is compared.
+ */
+#define _DEFAULT_SOURCE
+#include "sillwander.h"
+#include <stddef.h>
+#include <stdint.h>
+#include <stdio.h>
+#include <string.h>
+#include <sys/mman.h>
+
+enum { PAGE = 4096, SHOWN = 20, NUMBERS = 6 };
+
+/* ---- What was asked and what was answered */
+
+static unsigned long asked, wrong;
+static unsigned long seen[256]; /* how often each refusal number came up; 0: done */
+static const char *part = "";
+
+static void fault(int line, const char *text, const char *why)
+{
+    if (wrong++ < SHOWN)
+        printf("boundary.c:%d: %s: %s %s\n", line, part, text, why);
+}
+
+static void check(int line, const char *text, int is_so)
+{
+    asked++;
+    if (!is_so)
+        fault(line, text, "isn't so");
+}
+#define CHECK(is_so) check(__LINE__, #is_so, (is_so))
+
+typedef struct {
+    unsigned refusal, count;
+    uint32_t values[3];
+} Answer;
+
+static const Answer NONE = {0, 0, {0, 0, 0}};
+static Answer one(uint32_t value) { return (Answer){0, 1, {value, 0, 0}}; }
+static Answer two(uint32_t first, uint32_t second) { return (Answer){0, 2, {first, second, 0}}; }
+static Answer three(uint32_t first, uint32_t second, uint32_t third) { return (Answer){0, 3, {first, second, third}}; }
+static Answer refused(unsigned number) { return (Answer){number, 0, {0, 0, 0}}; }
+
+/* A code as the header's macros read it. */
+static Answer answer(uint64_t code)
+{
+    Answer said = {SILLWANDER_REFUSAL(code), SILLWANDER_COUNT(code), {0, 0, 0}};
+    if (said.count == 1)
+        said.values[0] = SILLWANDER_VALUE(code);
+    for (unsigned k = 0; k < said.count && said.count == 2; k++)
+        said.values[k] = SILLWANDER_OF_TWO(code, k);
+    for (unsigned k = 0; k < said.count && said.count == 3; k++)
+        said.values[k] = SILLWANDER_OF_THREE(code, k);
+    return said;
+}
+
+/* The code that an answer has by the header's text. */
+static uint64_t code_of(Answer said)
+{
+    static const unsigned bits[] = {0, 0, 24, 16}; /* from one value to the next, by their count */
+    uint64_t code = (uint64_t)said.refusal << 56 | (uint64_t)said.count << 48;
+    for (unsigned k = 0; k < said.count && k < 3; k++)
+        code |= (uint64_t)said.values[k] << (k * bits[said.count % 4]);
+    return code;
+}
+
+static void expect(int line, const char *text, uint64_t code, Answer wanted)
+{
+    asked++;
+    seen[SILLWANDER_REFUSAL(code)]++;
+    Answer got = answer(code);
+    if (memcmp(&got, &wanted, sizeof got) == 0 && code == code_of(wanted))
+        return;
+    fault(line, text, "was answered otherwise:");
+    if (wrong <= SHOWN)
+        printf("    refusal %u, %u values: %u, %u, %u (code %lx); expected refusal %u, %u values: %u, %u, %u\n", got.refusal, got.count,
+               got.values[0], got.values[1], got.values[2], (unsigned long)code, wanted.refusal, wanted.count, wanted.values[0],
+               wanted.values[1], wanted.values[2]);
+}
+#define EXPECT(call, wanted) expect(__LINE__, #call, (call), (wanted))
+
+/* ---- Lent words */
+
+typedef struct {
+    uint64_t *words;
+    unsigned count;
+    unsigned char *page;
+    uint64_t before[SILLWANDER_LAPIC_WORDS];
+} Lent;
+
+/* So many words at the end of a page of their own, behind which nothing may be touched. */
+static Lent lend(unsigned count)
+{
+    Lent lent = {NULL, count, NULL, {0}};
+    unsigned char *pages = mmap(NULL, 2 * PAGE, PROT_READ | PROT_WRITE, MAP_PRIVATE | MAP_ANONYMOUS, -1, 0);
+    if (pages == MAP_FAILED || mprotect(pages + PAGE, PAGE, PROT_NONE) != 0) {
+        fault(__LINE__, "mmap", "gave no memory");
+        return lent;
+    }
+    memset(pages, 0xa5, PAGE);
+    lent.page = pages;
+    lent.words = (uint64_t *)(void *)(pages + PAGE) - count;
+    return lent;
+}
+
+static void remember(Lent *lent) { memcpy(lent->before, lent->words, lent->count * sizeof *lent->words); }
+
+static int is_as_before(const Lent *lent)
+{
+    return memcmp(lent->before, lent->words, lent->count * sizeof *lent->words) == 0;
+}
+
+static int nothing_before_it_was_touched(const Lent *lent)
+{
+    for (const unsigned char *at = lent->page; at < (const unsigned char *)lent->words; at++)
+        if (*at != 0xa5)
+            return 0;
+    return 1;
+}
+
+static Lent io_lent, pic_lent, lapic_lent, ipi_lent, range_lent, ranges_lent;
+static uint64_t *io, *pic, *lapic, *ipi, *range, *ranges;
+
+static int lend_all(void)
+{
+    io_lent = lend(SILLWANDER_IOAPIC_WORDS), pic_lent = lend(SILLWANDER_PIC_WORDS), lapic_lent = lend(SILLWANDER_LAPIC_WORDS);
+    ipi_lent = lend(1), range_lent = lend(2), ranges_lent = lend(4);
+    io = io_lent.words, pic = pic_lent.words, lapic = lapic_lent.words;
+    ipi = ipi_lent.words, range = range_lent.words, ranges = ranges_lent.words;
+    return wrong == 0;
+}
+
+/* A new machine: the I/O APIC at its usual place, the pair, and the local APIC of vCPU 0. */
+static void start(const char *name)
+{
+    part = name;
+    EXPECT(sillwander_ioapic_new_default(io), NONE);
+    EXPECT(sillwander_pic_new(pic), NONE);
+    EXPECT(sillwander_lapic_new(lapic), NONE);
+}
+
+/* A refused call, and what was lent is as it was. */
+#define REFUSED(lent, call, number)                                                                                                        \
+    do {                                                                                                                                   \
+        remember(&lent);                                                                                                                   \
+        EXPECT(call, refused(number));                                                                                                     \
+        check(__LINE__, "after " #call ": " #lent " as before", is_as_before(&lent));                                                      \
+    } while (0)
+
+/* A call that is done, answers nothing and changes nothing. */
+#define IDLE(lent, call)                                                                                                                   \
+    do {                                                                                                                                   \
+        remember(&lent);                                                                                                                   \
+        EXPECT(call, NONE);                                                                                                                \
+        check(__LINE__, "after " #call ": " #lent " as before", is_as_before(&lent));                                                      \
+    } while (0)
+
+/* ---- Short names for the calls that the examples make */
+
+static const uint64_t BASE = 0xfec00000;
+static uint64_t select_register(uint64_t number) { return sillwander_ioapic_handle_write(io, BASE, 4, number); }
+static uint64_t window(uint64_t word) { return sillwander_ioapic_handle_write(io, BASE + 0x10, 4, word); }
+static uint64_t look(void) { return sillwander_ioapic_handle_read(io, BASE + 0x10, 4); }
+static uint64_t line(uint64_t gsi, uint64_t up) { return sillwander_ioapic_set_gsi_level(io, gsi, up); }
+static uint64_t io_eoi(uint64_t vector) { return sillwander_ioapic_end_of_interrupt(io, vector); }
+static uint64_t outb(uint64_t port, uint64_t byte) { return sillwander_pic_handle_write(pic, port, 1, byte); }
+static uint64_t inb(uint64_t port) { return sillwander_pic_handle_read(pic, port, 1); }
+static uint64_t claim(uint64_t irq) { return sillwander_pic_claim_irq(pic, irq); }
+static uint64_t pending(void) { return sillwander_pic_claim_pending_interrupt(pic); }
+static uint64_t load(uint64_t offset) { return sillwander_lapic_handle_read(lapic, offset); }
+static uint64_t store(uint64_t offset, uint64_t word) { return sillwander_lapic_handle_write(lapic, offset, word, 4, 1, 1, ipi); }
+static uint64_t local_eoi(void) { return sillwander_lapic_handle_eoi(lapic); }
+
+/* ---- Document 01, "Numbered examples" */
+
+static void examples_of_the_io_apic(void)
+{
+    start("example 1");
+    EXPECT(select_register(0x10), NONE);
+    EXPECT(look(), one(65536));
+    EXPECT(select_register(0x40), NONE);
+    EXPECT(look(), one(0));
+
+    start("example 2");
+    EXPECT(select_register(0x14), NONE);
+    EXPECT(window(0x8030), NONE);
+    EXPECT(line(2, 1), two(0x30, 1));
+    EXPECT(look(), one(0xc030));
+    EXPECT(line(2, 1), NONE);
+    EXPECT(io_eoi(0x30), three(2, 0x30, 1));
+    EXPECT(line(2, 0), NONE);
+    EXPECT(io_eoi(0x30), one(2));
+    EXPECT(io_eoi(0x30), NONE);
+
+    start("example 3");
+    EXPECT(select_register(0x14), NONE);
+    EXPECT(window(0x8030), NONE);
+    EXPECT(line(2, 1), two(0x30, 1));
+    EXPECT(window(0x8030), NONE);
+    EXPECT(look(), one(0xc030));
+    EXPECT(window(0x18030), NONE);
+    EXPECT(look(), one(0x18030));
+    EXPECT(io_eoi(0x30), NONE);
+
+    start("example 4");
+    EXPECT(select_register(0x16), NONE);
+    EXPECT(window(0x8041), NONE);
+    EXPECT(select_register(0x1a), NONE);
+    EXPECT(window(0x8041), NONE);
+    EXPECT(line(3, 1), two(0x41, 1));
+    EXPECT(line(5, 1), two(0x41, 1));
+    for (int again = 0; again < 5; again++)
+        EXPECT(io_eoi(0x41), three(3, 0x41, 1));
+    CHECK(io[3] == 0xc041 && io[5] == 0xc041 && io[24] == 0 && io[25] == 0x28);
+
+    start("example 5");
+    EXPECT(select_register(0x10), NONE);
+    EXPECT(window(15), NONE);
+    EXPECT(sillwander_ioapic_assert_gsi(io, 0), NONE);
+    EXPECT(window(16), NONE);
+    EXPECT(sillwander_ioapic_assert_gsi(io, 0), two(16, 0));
+
+    start("example 6");
+    REFUSED(io_lent, sillwander_ioapic_handle_read(io, BASE - 1, 2), SILLWANDER_UNSUPPORTED);
+    REFUSED(io_lent, sillwander_ioapic_handle_read(io, BASE - 1, 4), SILLWANDER_INVALID_ADDRESS);
+    REFUSED(io_lent, sillwander_ioapic_handle_write(io, BASE - 1, 2, 0), SILLWANDER_UNSUPPORTED);
+    REFUSED(io_lent, sillwander_ioapic_handle_write(io, BASE - 1, 4, 0), SILLWANDER_INVALID_ADDRESS);
+}
+
+static void open_masks(void)
+{
+    EXPECT(outb(0x21, 0), NONE);
+    EXPECT(outb(0xa1, 0), NONE);
+}
+
+static void examples_of_the_pair(void)
+{
+    start("example 7");
+    open_masks();
+    EXPECT(claim(12), three(0x74, 12, 3));
+    EXPECT(claim(13), NONE);
+    EXPECT(claim(14), NONE);
+    EXPECT(outb(0xa0, 0x20), NONE);
+    EXPECT(outb(0x20, 0x20), NONE);
+    EXPECT(pending(), three(0x75, 13, 3));
+    EXPECT(outb(0xa0, 0x20), NONE);
+    EXPECT(outb(0x20, 0x20), NONE);
+    EXPECT(pending(), NONE);
+    EXPECT(inb(0xa0), one(0x40));
+
+    start("example 8");
+    open_masks();
+    EXPECT(claim(2), three(0x0a, 2, 1));
+    EXPECT(sillwander_pic_restore_interrupt(pic, 0x0a, 2, 1), NONE);
+    CHECK((pic[0] >> 16 & 0xff) == 4);
+    CHECK((pic[0] >> 24 & 0xff) == 0);
+    EXPECT(inb(0x20), one(4));
+    EXPECT(outb(0x20, 0x0b), NONE);
+    EXPECT(inb(0x20), one(0));
+
+    start("example 9");
+    EXPECT(outb(0x20, 0x11), NONE);
+    EXPECT(outb(0x21, 0x20), NONE);
+    EXPECT(outb(0x21, 4), NONE);
+    EXPECT(outb(0x21, 1), NONE);
+    CHECK((pic[0] & 0xff) == 0x20);
+    CHECK((pic[0] >> 8 & 0xff) == 255);
+    EXPECT(inb(0x21), one(255));
+}
+
+static void examples_of_the_local_apic(void)
+{
+    start("example 10");
+    EXPECT(store(0x80, 0x2f), NONE);
+    EXPECT(sillwander_lapic_accept_interrupt(lapic, 0x31, 1), NONE);
+    EXPECT(load(0xa0), one(0x30));
+    EXPECT(local_eoi(), one(0x31));
+    start("example 10, TPR before");
+    EXPECT(store(0x80, 0x35), NONE);
+    EXPECT(sillwander_lapic_accept_interrupt(lapic, 0x31, 1), NONE);
+    EXPECT(load(0xa0), one(0x35));
+    EXPECT(local_eoi(), one(0x31));
+
+    start("example 11");
+    EXPECT(sillwander_lapic_accept_interrupt(lapic, 0x1f, 1), NONE);
+    EXPECT(local_eoi(), NONE);
+    EXPECT(load(0x100), one(0x80000000));
+
+    start("example 12");
+    EXPECT(store(0x300, 15), NONE);
+    EXPECT(store(0x280, 0), NONE);
+    EXPECT(load(0x280), one(0x20));
+}
+
+/* ---- The calls that the examples don't make */
+
+static void other_calls(void)
+{
+    start("the I/O APIC's other calls");
+    EXPECT(sillwander_ioapic_address_range(io, range), NONE);
+    CHECK(range[0] == 0xfec00000 && range[1] == 0xfec01000);
+    EXPECT(sillwander_ioapic_new(io, 0xffffffffffffff00, 0xff), NONE);
+    EXPECT(sillwander_ioapic_address_range(io, range), NONE);
+    CHECK(range[0] == 0xffffffffffffff00 && range[1] == UINT64_MAX);
+    EXPECT(sillwander_ioapic_new(io, BASE, 0), NONE);
+    EXPECT(sillwander_ioapic_vector_for_gsi(io, 7), NONE);
+    EXPECT(select_register(0x1e), NONE);
+    EXPECT(window(0x41), NONE);
+    EXPECT(sillwander_ioapic_vector_for_gsi(io, 7), one(0x41));
+    EXPECT(window(0x141), NONE);
+    EXPECT(sillwander_ioapic_vector_for_gsi(io, 7), NONE);
+    EXPECT(select_register(0x1f), NONE);
+    EXPECT(sillwander_ioapic_handle_write(io, BASE + 0x10, 8, 0x123456789abcdef0), NONE);
+    EXPECT(look(), one(0x9abcdef0));
+    CHECK(io[7] == 0x9abcdef000000141);
+    EXPECT(line(2, 1000), NONE);
+    CHECK(io[25] == 4);
+
+    start("the pair's other calls");
+    EXPECT(sillwander_pic_port_ranges(ranges), NONE);
+    CHECK(ranges[0] == 0x20 && ranges[1] == 0x21 && ranges[2] == 0xa0 && ranges[3] == 0xa1);
+    open_masks();
+    EXPECT(sillwander_pic_pulse_irq(pic, 4), one(0x0c));
+    EXPECT(sillwander_pic_pulse_irq(pic, 5), NONE);
+    EXPECT(sillwander_pic_next_interrupt(pic), NONE);
+    EXPECT(outb(0x20, 0x20), NONE);
+    EXPECT(sillwander_pic_next_interrupt(pic), one(0x0d));
+    EXPECT(sillwander_pic_handle_write(pic, 0x21, 1, 0x1234), NONE);
+    EXPECT(inb(0x21), one(0x34));
+
+    start("the local APIC's other calls");
+    ipi[0] = 77;
+    EXPECT(sillwander_lapic_setup(lapic, 5, 3, 64), NONE);
+    EXPECT(load(0x20), one(3));
+    EXPECT(sillwander_lapic_handle_write(lapic, 0x3f0, 0x1242, 4, 8, 0, ipi), two(0, 0x42));
+    CHECK(ipi[0] == 8);
+    EXPECT(sillwander_lapic_handle_write(lapic, 0x300, 0x40042, 8, 8, 0, ipi), two(0, 0x42));
+    CHECK(ipi[0] == 8);
+    EXPECT(sillwander_lapic_setup(lapic, 0, 3, 64), NONE);
+    EXPECT(load(0x20), one(0x03000000));
+    EXPECT(sillwander_lapic_handle_write(lapic, 0x300, 0xc0442, 4, 8, 0x3ff, ipi), two(4, 0x42));
+    CHECK(ipi[0] == 0xf7);
+    EXPECT(sillwander_lapic_handle_write(lapic, 0x300, 0xc0542, 4, 64, UINT64_MAX, ipi), two(5, 0x42));
+    CHECK(ipi[0] == (UINT64_MAX ^ 8));
+    EXPECT(sillwander_lapic_handle_write(lapic, 0x300, 0xc0642, 4, 64, 1, ipi), two(6, 0x42));
+    CHECK(ipi[0] == 1);
+    EXPECT(sillwander_lapic_handle_write(lapic, 0x300, 0x80442, 4, 64, 1, ipi), NONE);
+    EXPECT(sillwander_lapic_handle_write(lapic, 0x300, 0xc0042, 4, 64, 8, ipi), NONE);
+    CHECK(ipi[0] == 1);
+    EXPECT(sillwander_lapic_accept_interrupt(lapic, 0x51, 0), NONE);
+    EXPECT(sillwander_lapic_accept_interrupt(lapic, 0xff, 256), NONE);
+    EXPECT(load(0x1f0), one(0x80000000));
+    EXPECT(store(0xb0, 0), NONE);
+    EXPECT(local_eoi(), NONE);
+    EXPECT(local_eoi(), NONE);
+    EXPECT(load(0x120), one(0));
+}
+
+/* ---- Refusals: each leaves what was lent as it was. Numbers that don't fit are refused, and not cut. */
+
+static const uint64_t HIGH = (uint64_t)1 << 32;
+
+static void refusals_of_the_io_apic(void)
+{
+    start("refusals of the I/O APIC");
+    EXPECT(select_register(0x14), NONE);
+    EXPECT(window(0x8030), NONE);
+    EXPECT(line(2, 1), two(0x30, 1));
+    EXPECT(line(2, 1), NONE);
+    CHECK(io[24] == 4 && io[25] == 4);
+    const uint64_t widths[] = {0, 1, 2, 3, 5, 16, 256 + 4, HIGH + 4, UINT64_MAX};
+    for (unsigned k = 0; k < sizeof widths / sizeof *widths; k++) {
+        REFUSED(io_lent, sillwander_ioapic_handle_read(io, BASE, widths[k]), SILLWANDER_UNSUPPORTED);
+        REFUSED(io_lent, sillwander_ioapic_handle_write(io, BASE, widths[k], 1), SILLWANDER_UNSUPPORTED);
+        REFUSED(io_lent, sillwander_ioapic_handle_write(io, 0, widths[k], 1), SILLWANDER_UNSUPPORTED);
+    }
+    REFUSED(io_lent, sillwander_ioapic_handle_read(io, 0, 8), SILLWANDER_INVALID_ADDRESS);
+    REFUSED(io_lent, sillwander_ioapic_handle_write(io, 0, 8, 1), SILLWANDER_INVALID_ADDRESS);
+    IDLE(io_lent, sillwander_ioapic_handle_write(io, BASE + HIGH, 4, 1));
+    REFUSED(io_lent, sillwander_ioapic_end_of_interrupt(io, 256), SILLWANDER_OUT_OF_RANGE);
+    REFUSED(io_lent, sillwander_ioapic_end_of_interrupt(io, 256 + 0x30), SILLWANDER_OUT_OF_RANGE);
+    REFUSED(io_lent, sillwander_ioapic_end_of_interrupt(io, HIGH + 0x30), SILLWANDER_OUT_OF_RANGE);
+    REFUSED(io_lent, sillwander_ioapic_new(io, 1, UINT64_MAX), SILLWANDER_INVALID_ADDRESS);
+    REFUSED(io_lent, sillwander_ioapic_new(io, UINT64_MAX, 1), SILLWANDER_INVALID_ADDRESS);
+    const uint64_t lines[] = {24, 25, 255, 256 + 2, HIGH + 2, UINT64_MAX};
+    for (unsigned k = 0; k < sizeof lines / sizeof *lines; k++) {
+        IDLE(io_lent, line(lines[k], 1));
+        IDLE(io_lent, line(lines[k], 0));
+        IDLE(io_lent, sillwander_ioapic_assert_gsi(io, lines[k]));
+        IDLE(io_lent, sillwander_ioapic_vector_for_gsi(io, lines[k]));
+    }
+    io[27] = UINT64_MAX, io[28] = 1, range[0] = 12, range[1] = 13;
+    REFUSED(io_lent, sillwander_ioapic_address_range(io, range), SILLWANDER_INVALID_ADDRESS);
+    CHECK(range[0] == 12 && range[1] == 13);
+}
+
+static void refusals_of_the_pair(void)
+{
+    start("refusals of the pair");
+    open_masks();
+    EXPECT(claim(9), three(0x71, 9, 3));
+    EXPECT(claim(3), NONE);
+    const uint64_t widths[] = {0, 2, 4, 8, 256 + 1, HIGH + 1, UINT64_MAX};
+    for (unsigned k = 0; k < sizeof widths / sizeof *widths; k++) {
+        REFUSED(pic_lent, sillwander_pic_handle_read(pic, 0x20, widths[k]), SILLWANDER_UNSUPPORTED);
+        REFUSED(pic_lent, sillwander_pic_handle_write(pic, 0x20, widths[k], 0x20), SILLWANDER_UNSUPPORTED);
+    }
+    const uint64_t ports[] = {0, 0x1f, 0x22, 0x9f, 0xa2, 0x10000 + 0x20, HIGH + 0xa0, UINT64_MAX};
+    for (unsigned k = 0; k < sizeof ports / sizeof *ports; k++) {
+        REFUSED(pic_lent, inb(ports[k]), SILLWANDER_UNSUPPORTED);
+        REFUSED(pic_lent, outb(ports[k], 0x20), SILLWANDER_UNSUPPORTED);
+    }
+    REFUSED(pic_lent, sillwander_pic_restore_interrupt(pic, 256, 9, 3), SILLWANDER_OUT_OF_RANGE);
+    REFUSED(pic_lent, sillwander_pic_restore_interrupt(pic, HIGH, 9, 3), SILLWANDER_OUT_OF_RANGE);
+    REFUSED(pic_lent, sillwander_pic_restore_interrupt(pic, 0x71, 16, 3), SILLWANDER_OUT_OF_RANGE);
+    REFUSED(pic_lent, sillwander_pic_restore_interrupt(pic, 0x71, 256 + 9, 3), SILLWANDER_OUT_OF_RANGE);
+    REFUSED(pic_lent, sillwander_pic_restore_interrupt(pic, 0x71, HIGH + 9, 3), SILLWANDER_OUT_OF_RANGE);
+    REFUSED(pic_lent, sillwander_pic_restore_interrupt(pic, 0x71, 9, 4), SILLWANDER_OUT_OF_RANGE);
+    REFUSED(pic_lent, sillwander_pic_restore_interrupt(pic, 0x71, 9, HIGH + 3), SILLWANDER_OUT_OF_RANGE);
+    const uint64_t lines[] = {16, 17, 255, 256 + 1, HIGH + 1, UINT64_MAX};
+    for (unsigned k = 0; k < sizeof lines / sizeof *lines; k++) {
+        IDLE(pic_lent, claim(lines[k]));
+        IDLE(pic_lent, sillwander_pic_pulse_irq(pic, lines[k]));
+    }
+}
+
+static uint64_t write_for(uint64_t offset, uint64_t word, uint64_t width, uint64_t count, uint64_t active)
+{
+    return sillwander_lapic_handle_write(lapic, offset, word, width, count, active, ipi);
+}
+
+/* A refused command has stored its words, and nothing else. */
+static void refused_command(int line, const char *text, uint64_t code, unsigned number, uint64_t low, uint64_t high)
+{
+    expect(line, text, code, refused(number));
+    lapic_lent.before[9] = low, lapic_lent.before[10] = high;
+    check(line, text, is_as_before(&lapic_lent));
+    check(line, "ipi[0] as before", ipi[0] == 99);
+}
+#define COMMAND(call, number, low, high) (remember(&lapic_lent), refused_command(__LINE__, #call, (call), number, low, high))
+
+static void refusals_of_the_local_apic(void)
+{
+    start("refusals of the local APIC");
+    ipi[0] = 99;
+    EXPECT(sillwander_lapic_accept_interrupt(lapic, 0x31, 1), NONE);
+    REFUSED(lapic_lent, sillwander_lapic_setup(lapic, 0, 0, 65), SILLWANDER_OUT_OF_RANGE);
+    REFUSED(lapic_lent, sillwander_lapic_setup(lapic, 0, 64, 1), SILLWANDER_OUT_OF_RANGE);
+    REFUSED(lapic_lent, sillwander_lapic_setup(lapic, 1, HIGH, HIGH), SILLWANDER_OUT_OF_RANGE);
+    REFUSED(lapic_lent, sillwander_lapic_accept_interrupt(lapic, 256, 1), SILLWANDER_OUT_OF_RANGE);
+    REFUSED(lapic_lent, sillwander_lapic_accept_interrupt(lapic, HIGH + 0x41, 0), SILLWANDER_OUT_OF_RANGE);
+    const uint64_t unread[] = {0, 0x24, 0x30, 0x90, 0xb0, 0xc0, 0x200, 0x270, 0x380, 0x390, 0x3e0, 0x3f0, 0x1080, HIGH + 0x80, UINT64_MAX};
+    for (unsigned k = 0; k < sizeof unread / sizeof *unread; k++)
+        REFUSED(lapic_lent, load(unread[k]), SILLWANDER_INVALID_REGISTER);
+    const uint64_t unwritten[] = {0, 0x30, 0x81, 0x90, 0xa0, 0xc0, 0x100, 0x180, 0x200, 0x380, 0x3e0, 0x3f0, 0x1080, HIGH + 0x80, UINT64_MAX};
+    for (unsigned k = 0; k < sizeof unwritten / sizeof *unwritten; k++)
+        REFUSED(lapic_lent, store(unwritten[k], 0x42), SILLWANDER_INVALID_REGISTER);
+    REFUSED(lapic_lent, write_for(0x80, 1, 256, 1, 1), SILLWANDER_INVALID_REGISTER);
+    REFUSED(lapic_lent, write_for(0x80, 1, HIGH + 4, 65, 1), SILLWANDER_INVALID_REGISTER);
+    REFUSED(lapic_lent, write_for(0x80, 1, 4, 65, 1), SILLWANDER_OUT_OF_RANGE);
+    REFUSED(lapic_lent, write_for(0x90, 1, 4, HIGH + 1, 1), SILLWANDER_OUT_OF_RANGE);
+    REFUSED(lapic_lent, write_for(0x300, 0x40042, 8, 1, 1), SILLWANDER_INVALID_REGISTER);
+    CHECK(ipi[0] == 99);
+
+    COMMAND(store(0x300, 0x342), SILLWANDER_INVALID_DELIVERY, 0x342, 0);
+    COMMAND(store(0x300, 0x1742), SILLWANDER_INVALID_DELIVERY, 0x742, 0);
+    EXPECT(store(0x310, 0x40ffffff), NONE);
+    COMMAND(store(0x300, 0x42), SILLWANDER_OUT_OF_RANGE, 0x42, 0x40000000);
+    EXPECT(store(0xe0, 0x10000000), NONE);
+    COMMAND(store(0x300, 0x843), SILLWANDER_INVALID_DELIVERY, 0x843, 0x40000000);
+
+    EXPECT(sillwander_lapic_setup(lapic, 1, 63, 64), NONE);
+    REFUSED(lapic_lent, store(0xd0, 0), SILLWANDER_INVALID_REGISTER);
+    REFUSED(lapic_lent, store(0xe0, 0), SILLWANDER_INVALID_REGISTER);
+    REFUSED(lapic_lent, store(0x300, 0x42), SILLWANDER_INVALID_REGISTER);
+    REFUSED(lapic_lent, store(0x310, 0), SILLWANDER_INVALID_REGISTER);
+    COMMAND(write_for(0x300, 0x4000000042, 8, 64, 1), SILLWANDER_OUT_OF_RANGE, 0x42, 64);
+    lapic[1] = 64;
+    REFUSED(lapic_lent, store(0x80, 1), SILLWANDER_OUT_OF_RANGE);
+}
+
+/* ---- Made-up words: nothing faults, every code is one, and a refusal leaves what was lent as it was. */
+
+static uint64_t dice_state;
+
+/* splitmix64, from a fixed start */
+static uint64_t dice(void)
+{
+    uint64_t z = dice_state += 0x9e3779b97f4a7c15;
+    z = (z ^ z >> 30) * 0xbf58476d1ce4e5b9;
+    z = (z ^ z >> 27) * 0x94d049bb133111eb;
+    return z ^ z >> 31;
+}
+
+/* Any number, but often a small one or one of the interesting ones. */
+static uint64_t number(void)
+{
+    static const uint64_t known[] = {0, 1, 2, 4, 8, 0x20, 0x21, 0xa0, 0xa1, 0x80, 0xb0, 0xd0, 0xe0, 0xf0, 0x280, 0x300, 0x310, 0x3f0, 0x350};
+    uint64_t kind = dice() % 8, any = dice();
+    switch (kind) {
+    case 0: return any;
+    case 1: return UINT64_MAX - any % 4;
+    case 2: return any % 64 * 16;
+    case 3: return any >> any % 64;
+    case 4: return any % 70;
+    default: return known[any % (sizeof known / sizeof *known)];
+    }
+}
+
+static uint64_t word(void)
+{
+    return dice() % 4 == 0 ? UINT64_MAX : dice() % 4 == 0 ? 0 : dice();
+}
+
+/* An entry that is sent and ended: one of the vectors that `number` draws, fixed, mostly level-triggered, often in flight, seldom masked. */
+static uint64_t sendable(void)
+{
+    static const uint64_t vectors[] = {0x20, 0x21, 0xa0, 0xa1, 0x80, 0xb0};
+    uint64_t any = dice();
+    return vectors[any % 6] + (any >> 8) % 2 * 0x4000 + ((any >> 16) % 8 ? 0x8000 : 0) + ((any >> 24) % 16 ? 0 : 0x10000) + (any >> 32 << 32);
+}
+
+enum { CALLS = 25 };
+
+static uint64_t call(unsigned which)
+{
+    uint64_t a = number(), b = number(), c = number(), d = number(), e = number();
+    switch (which) {
+    case 0: return sillwander_ioapic_new(io, a, b);
+    case 1: return sillwander_ioapic_new_default(io);
+    case 2: return sillwander_ioapic_vector_for_gsi(io, a);
+    case 3: return sillwander_ioapic_assert_gsi(io, a);
+    case 4: return sillwander_ioapic_set_gsi_level(io, a, b % 2);
+    case 5: return sillwander_ioapic_end_of_interrupt(io, a);
+    case 6: return sillwander_ioapic_address_range(io, range);
+    case 7: return sillwander_ioapic_handle_read(io, d % 2 ? io[27] + a % 32 : a, b);
+    case 8: return sillwander_ioapic_handle_write(io, d % 2 ? io[27] + 16 * (a % 2) : a, b, c);
+    case 9: return sillwander_pic_new(pic);
+    case 10: return sillwander_pic_port_ranges(ranges);
+    case 11: return sillwander_pic_claim_irq(pic, a);
+    case 12: return sillwander_pic_claim_pending_interrupt(pic);
+    case 13: return sillwander_pic_pulse_irq(pic, a);
+    case 14: return sillwander_pic_next_interrupt(pic);
+    case 15: return sillwander_pic_restore_interrupt(pic, a, b, c % 5);
+    case 16: return sillwander_pic_handle_read(pic, a, b);
+    case 17: return sillwander_pic_handle_write(pic, a, b, c);
+    case 18: return sillwander_lapic_new(lapic);
+    case 19: return sillwander_lapic_setup(lapic, a, b, c);
+    case 20: return sillwander_lapic_accept_interrupt(lapic, a, b);
+    case 21: return sillwander_lapic_handle_eoi(lapic);
+    case 22: return sillwander_lapic_handle_read(lapic, a);
+    case 23: return sillwander_lapic_handle_write(lapic, a, b, c, d % 70, e, ipi);
+    default: return sillwander_lapic_handle_write(lapic, 0x300, a * 0x9e3779b97f4a7c15 >> 44, b % 2 ? 4 : 8, d % 65, e, ipi);
+    }
+}
+
+static void fill(Lent *lent)
+{
+    for (unsigned k = 0; k < lent->count; k++)
+        lent->words[k] = word();
+}
+
+/* Only the two command words of the local APIC may have moved under a refusal. */
+static int refusal_kept_the_words(unsigned which, unsigned number)
+{
+    if (which >= 23 && (number == SILLWANDER_INVALID_DELIVERY || number == SILLWANDER_OUT_OF_RANGE))
+        lapic_lent.before[9] = lapic[9], lapic_lent.before[10] = lapic[10];
+    return is_as_before(&io_lent) && is_as_before(&pic_lent) && is_as_before(&lapic_lent);
+}
+
+static int is_a_code(uint64_t code)
+{
+    Answer said = answer(code);
+    return said.refusal < NUMBERS && said.count <= 3 && code == code_of(said) && (said.refusal == 0 || code << 8 == 0);
+}
+
+/* A chip's calls leave the other chips alone. */
+static int only_its_chip_moved(unsigned which)
+{
+    return (which < 9 || is_as_before(&io_lent)) && ((which >= 9 && which < 18) || is_as_before(&pic_lent)) &&
+           (which >= 18 || is_as_before(&lapic_lent));
+}
+
+static int makes_a_new_state(unsigned which) { return which < 2 || which == 9 || which == 18 || which == 19; }
+
+static int spare_words_stayed(unsigned which)
+{
+    return makes_a_new_state(which) ||
+           (memcmp(io + 29, io_lent.before + 29, 24) == 0 && memcmp(pic + 2, pic_lent.before + 2, 16) == 0 &&
+            memcmp(lapic + 42, lapic_lent.before + 42, 48) == 0);
+}
+
+/* Of the I/O APIC a call moves one entry at most, and the two flags of the same entry. Base and size stay. */
+static int one_entry_moved(unsigned which)
+{
+    if (which < 2)
+        return 1;
+    uint64_t flags = (io[24] ^ io_lent.before[24]) | (io[25] ^ io_lent.before[25]);
+    for (unsigned gsi = 0; gsi < 24; gsi++)
+        if (io[gsi] != io_lent.before[gsi])
+            flags |= (uint64_t)1 << gsi;
+    return (flags & (flags - 1)) == 0 && io[27] == io_lent.before[27] && io[28] == io_lent.before[28];
+}
+
+static void made_up_words(void)
+{
+    part = "made-up words";
+    dice_state = 2026;
+    for (unsigned round = 0; round < 4000; round++) {
+        fill(&io_lent), fill(&pic_lent), fill(&lapic_lent);
+        if (round % 8 < 6) /* words that a state may have: ids and modes that let calls through */
+            lapic[0] = round % 2, lapic[1] = round % 64, io[27] = dice() >> 1;
+        if (round % 8 < 4)
+            for (unsigned gsi = 0; gsi < 24; gsi++)
+                io[gsi] = sendable();
+        if (round == 0) {
+            memset(io, 0xff, SILLWANDER_IOAPIC_WORDS * 8);
+            memset(pic, 0xff, SILLWANDER_PIC_WORDS * 8);
+            memset(lapic, 0xff, SILLWANDER_LAPIC_WORDS * 8);
+        }
+        for (unsigned step = 0; step < 4 * CALLS; step++) {
+            unsigned which = step < CALLS ? step : (unsigned)(dice() % CALLS);
+            if (makes_a_new_state(which) && dice() % 64 != 0)
+                continue; /* the made-up words are to stay */
+            remember(&io_lent), remember(&pic_lent), remember(&lapic_lent);
+            uint64_t code = call(which);
+            seen[SILLWANDER_REFUSAL(code)]++;
+            CHECK(is_a_code(code));
+            CHECK(only_its_chip_moved(which));
+            CHECK(spare_words_stayed(which));
+            CHECK(one_entry_moved(which));
+            CHECK(code >> 56 == 0 || refusal_kept_the_words(which, SILLWANDER_REFUSAL(code)));
+        }
+    }
+}
+
+int main(void)
+{
+    if (!lend_all())
+        return 2;
+    examples_of_the_io_apic();
+    examples_of_the_pair();
+    examples_of_the_local_apic();
+    other_calls();
+    refusals_of_the_io_apic();
+    refusals_of_the_pair();
+    refusals_of_the_local_apic();
+    part = "refusal numbers before made-up words";
+    for (unsigned number = 0; number < NUMBERS; number++)
+        CHECK(seen[number] > 0);
+    made_up_words();
+    part = "after all";
+    CHECK(nothing_before_it_was_touched(&io_lent) && nothing_before_it_was_touched(&pic_lent) && nothing_before_it_was_touched(&lapic_lent));
+    CHECK(nothing_before_it_was_touched(&ipi_lent) && nothing_before_it_was_touched(&range_lent) && nothing_before_it_was_touched(&ranges_lent));
+    printf("C boundary: %lu checks, %lu wrong; refusals 0 to 5 seen %lu, %lu, %lu, %lu, %lu, %lu times\n", asked, wrong, seen[0], seen[1],
+           seen[2], seen[3], seen[4], seen[5]);
+    return wrong == 0 ? 0 : 1;
+}
