@@ -4,7 +4,7 @@ use native.Mathlib.Omega.{arith}
 use mathlib.Core.Bool.{Bool, true, false, cond, _&&_}
 use mathlib.Core.List.{List, [], _∷_, map}
 use mathlib.Core.Path.{_≡_, refl, sym, _∙_, ap}
-use lib.ListN.{length, getD, set}
+use lib.ListN.{length, length-map, getD, set}
 use Rattle.utils.specs.Set.{with, setOf}
 use Rattle.utils.proofs.Laws.{setOf-next}
 use Rattle.types.specs.declared.Vector.{Vector}
@@ -47,6 +47,10 @@ first-all zero f [] h = refl
 first-all zero f (e ∷ l) h = absurd (omega arith)
 first-all (suc i) f [] h = refl
 first-all (suc i) f (e ∷ l) h = ap (λ (t : List Entry). f e ∷ t) (first-all i f l (omega arith))
+
+-- what is known of the table's length is known of its image
+pub table-long : (X : Type 0) (f : Entry → X) (l : List Entry) (n : ℕ) → length (map f l) ≡ n → length l ≡ n
+table-long X f l n h = sym (length-map l f) ∙ h
 
 -- the EOI when the entries below i have had their turn
 abbrev pub upTo : Vector → IoApicState → ℕ → EveryEnd

@@ -3,44 +3,30 @@ use Rattle.utils.specs.Cases.{cases}
 use borrow.Author.Needs.{needs}
 use Rattle.vioapic.proofs.EmulatedIoApic.new_version.Statement.{statement}
 use Rattle.vioapic.proofs.EmulatedIoApic.new_version.Tie as tie
-use Rattle.vioapic.proofs.EmulatedIoApic.new_version.Reads as reads
-use Rattle.vioapic.proofs.EmulatedIoApic.new_version.Lts as lts
-use Rattle.vioapic.proofs.EmulatedIoApic.at.Reads as at-reads
-use Rattle.vioapic.proofs.fits.Reads as fits-reads
-use Rattle.vioapic.proofs.is_version.Reads as is-version-reads
-use Rattle.vioapic.proofs.not_created.Reads as not-created-reads
 
--- src/lib.rt:652:13
 is-version-requires : tie.Need-is-version-requires
 is-version-requires c κs = search needs
 
--- src/lib.rt:653:13
 not-created-requires : tie.Need-not-created-requires
 not-created-requires c κs = search needs
 
--- src/lib.rt:653:13
 returns : tie.Need-returns
 unfolding createdVersion
 returns c = search cases
 
--- src/lib.rt:655:13
 fits-requires : tie.Need-fits-requires
 fits-requires c κs = search needs
 
--- src/lib.rt:656:13
 not-created-requires-2 : tie.Need-not-created-requires-2
 not-created-requires-2 c κs = search needs
 
--- src/lib.rt:656:13
 returns-2 : tie.Need-returns-2
 unfolding createdVersion
 returns-2 c = search cases
 
--- src/lib.rt:658:13
 at-requires : tie.Need-at-requires
 at-requires c κs = search needs
 
--- src/lib.rt:649:5
 returns-3 : tie.Need-returns-3
 unfolding createdVersion
 returns-3 c = rw (c .at .ensures) (search cases)

@@ -3,30 +3,20 @@ use Rattle.utils.specs.Cases.{cases}
 use borrow.Author.Needs.{needs}
 use Rattle.vioapic.proofs.IoApicState.end_of_interrupt.Statement.{statement}
 use Rattle.vioapic.proofs.IoApicState.end_of_interrupt.Tie as tie
-use Rattle.vioapic.proofs.IoApicState.end_of_interrupt.Reads as reads
-use Rattle.vioapic.proofs.IoApicState.end_of_interrupt.Lts as lts
-use Rattle.vioapic.proofs.IoApicState.end_every.Reads as end-every-reads
-use Rattle.vioapic.proofs.IoApicState.end_first.Reads as end-first-reads
-use Rattle.vioapic.proofs.IoApicState.is_new.Reads as is-new-reads
 
--- src/lib.rt:416:12
 is-new-requires : tie.Need-is-new-requires
 is-new-requires c κs = search needs
 
--- src/lib.rt:417:13
 end-every-requires : tie.Need-end-every-requires
 end-every-requires c κs = search needs
 
--- src/lib.rt:417:13
 returns : tie.Need-returns
 unfolding endOf
 returns c = search cases
 
--- src/lib.rt:419:9
 end-first-requires : tie.Need-end-first-requires
 end-first-requires c κs = search needs
 
--- src/lib.rt:413:5
 returns-2 : tie.Need-returns-2
 unfolding endOf
 returns-2 c = search cases

@@ -3,35 +3,25 @@ use Rattle.utils.specs.Cases.{cases}
 use borrow.Author.Needs.{needs}
 use Rattle.vioapic.proofs.IoApicState.write_at.Statement.{statement}
 use Rattle.vioapic.proofs.IoApicState.write_at.Tie as tie
-use Rattle.vioapic.proofs.IoApicState.write_at.Reads as reads
-use Rattle.vioapic.proofs.IoApicState.write_at.Lts as lts
-use Rattle.vioapic.proofs.IoApicState.write_eoi.Reads as write-eoi-reads
-use Rattle.vioapic.proofs.IoApicState.write_selected_register.Reads as write-selected-register-reads
 
--- src/lib.rt:480:13
 returns : tie.Need-returns
 unfolding writeAt
 returns c = search cases
 
--- src/lib.rt:490:13
 write-selected-register-requires : tie.Need-write-selected-register-requires
 write-selected-register-requires c κs = search needs
 
--- src/lib.rt:490:13
 returns-2 : tie.Need-returns-2
 unfolding writeAt
 returns-2 c = search cases
 
--- src/lib.rt:493:13
 write-eoi-requires : tie.Need-write-eoi-requires
 write-eoi-requires c κs = search needs
 
--- src/lib.rt:493:13
 returns-3 : tie.Need-returns-3
 unfolding writeAt
 returns-3 c = search cases
 
--- src/lib.rt:475:5
 returns-4 : tie.Need-returns-4
 unfolding writeAt
 returns-4 c = search cases
