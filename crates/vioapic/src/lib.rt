@@ -276,7 +276,7 @@ impl EveryEnd {
     }
 }
 
-fn every_answer(cleared: u32, sent: u32) -> Eoi
+pub fn every_answer(cleared: u32, sent: u32) -> Eoi
     ensures { λ r. ⌜ r ≡ everyAnswer cleared sent ⌝ }
 {
     if cleared == 0 {

@@ -8,6 +8,7 @@ use mathlib.Core.Path.{_≡_, refl}
 use borrow.Author.Tests.{ltb-true}
 use lib.Dec.{eqb, ltb, leb}
 use lib.ListN.{getD}
+use Rattle.utils.proofs.Laws.{setOf-lt}
 use Rattle.types.specs.Reply.{flag}
 use Rattle.types.specs.Counters.{entryIndex}
 use Rattle.types.specs.declared.Gsi.{Gsi}
@@ -15,18 +16,17 @@ use Rattle.types.specs.declared.Vector.{Vector}
 use Rattle.types.specs.declared.Reply.{Reply}
 use Rattle.boundary.specs.Lent.{Fits}
 use Rattle.vioapic.proofs.ChipLaws.{entry-word-range}
-use Rattle.vioapic.specs.Answers.{routedReply, pendingReply, writtenReply}
+use Rattle.vioapic.specs.Answers.{routedReply, pendingReply, eoiReply, writtenReply}
 use Rattle.vioapic.specs.IoApic.{goodWidth, assertGsi, setGsiLevel, endOfInterrupt, vectorForGsi, handleRead, handleWrite}
 use Rattle.vioapic.specs.Redirection.{isFit, isLevel, remoteIrr, sendEntry, raiseEntry, lowerEntry, moveLine, endEntry, withWord, withPending, withInput, withRemoteIrr, withoutRemoteIrr}
-use Rattle.vioapic.specs.Registers.{isEntryWord, entryOf, isLow, readFixed, readWord, readSelected, readAt, writeSelected, writeAt}
-use Rattle.vioapic.specs.Table.{entryAt, interruptForEntry, setLevel, firstAwaiting, endOfEntry, vectorFor}
+use Rattle.vioapic.specs.Registers.{isEntryWord, entryOf, isLow, readFixed, readWord, readSelected, readAt, writeSelected, writtenBy, writeEoi, writeAt}
+use Rattle.vioapic.specs.Table.{isNew, entryAt, interruptForEntry, setLevel, firstAwaiting, endOfEntry, clearedBy, sentBy, everyAnswer, endOfEvery, endOf, vectorFor}
 use Rattle.vioapic.specs.declared.redirection.Entry.{Entry}
 use Rattle.vioapic.specs.declared.redirection.EntryStep.{EntryStep}
 use Rattle.vioapic.specs.declared.redirection.Routed.{Routed}
 use Rattle.vioapic.specs.declared.redirection.Routed.the-variants.{NotRouted, Interrupt}
 use Rattle.vioapic.specs.declared.EmulatedIoApic.{EmulatedIoApic}
-use Rattle.vioapic.specs.declared.Written.{Written}
-use Rattle.vioapic.specs.declared.Written.the-variants.{Done, NotWritten}
+use Rattle.vioapic.specs.declared.Eoi.the-variants.{NotEnded, EndedAll}
 use Rattle.vioapic_c.proofs.View.{view-at}
 use Rattle.vioapic_c.specs.Words.{selectorIn, view}
 
@@ -47,9 +47,20 @@ pending-fits : (g : ℕ) (r : Routed) → g < 24 → Small r → Fits (pendingRe
 pending-fits g NotRouted h s = omega arith
 pending-fits g (Interrupt i) h s = (omega arith, omega (arith, s), omega (arith, flag-small (i .«level_triggered»)))
 
-written-fits : (w : Written) → Fits (writtenReply w)
-written-fits Done = tt
-written-fits (NotWritten why) = tt
+-- the sets of an EOI of version 0x20 have 24 bits each
+every-fits : (c s : ℕ) → c < 2 ^ 24 → s < 2 ^ 24 → Fits (eoiReply (everyAnswer c s))
+every-fits c s h k = go (eqb c 0)
+  where
+    go : (b : Bool) → Fits (eoiReply (cond b NotEnded (EndedAll (record { cleared = c; sent = s }))))
+    go true = tt
+    go false = (h, k)
+
+every-write-fits : (c s : ℕ) → c < 2 ^ 24 → s < 2 ^ 24 → Fits (writtenReply (writtenBy (everyAnswer c s)))
+every-write-fits c s h k = go (eqb c 0)
+  where
+    go : (b : Bool) → Fits (writtenReply (writtenBy (cond b NotEnded (EndedAll (record { cleared = c; sent = s })))))
+    go true = tt
+    go false = (h, k)
 
 -- of two steps whichever is taken
 either : (b : Bool) (x y : EntryStep) → Small (x .answer) → Small (y .answer) → Small (cond b x y .answer)
@@ -91,13 +102,25 @@ module _ (m : EmulatedIoApic) where
       go true p = rw p (routed-fits (moveLine (entryAt (m .state) (entryIndex gsi)) up .answer) (move-small (entryAt (m .state) (entryIndex gsi)) up))
       go false p = rw p tt
 
-  pub end-fits : (v : Vector) → Fits (endOfInterrupt m v .reply)
-  unfolding endOfInterrupt endOfEntry
-  end-fits v = go (ltb (firstAwaiting (m .state) v) 24) refl
+  first-end-fits : (v : Vector) → Fits (eoiReply (endOfEntry (m .state) v .answer))
+  unfolding endOfEntry
+  first-end-fits v = go (ltb (firstAwaiting (m .state) v) 24) refl
     where
-      go : (a : Bool) → ltb (firstAwaiting (m .state) v) 24 ≡ a → Fits (endOfInterrupt m v .reply)
+      go : (a : Bool) → ltb (firstAwaiting (m .state) v) 24 ≡ a → Fits (eoiReply (endOfEntry (m .state) v .answer))
       go true p = rw p (pending-fits (firstAwaiting (m .state) v) (endEntry (entryAt (m .state) (firstAwaiting (m .state) v)) .answer) (ltb-true _ 24 p) (end-small (entryAt (m .state) (firstAwaiting (m .state) v))))
       go false p = rw p tt
+
+  every-end-fits : (v : Vector) → Fits (eoiReply (endOfEvery (m .state) v .answer))
+  unfolding endOfEvery
+  every-end-fits v = every-fits _ _ (setOf-lt 24 (clearedBy v (m .state))) (setOf-lt 24 (sentBy v (m .state)))
+
+  pub end-fits : (v : Vector) → Fits (endOfInterrupt m v .reply)
+  unfolding endOfInterrupt endOf
+  end-fits v = go (isNew (m .state)) refl
+    where
+      go : (a : Bool) → isNew (m .state) ≡ a → Fits (endOfInterrupt m v .reply)
+      go true p = rw p (every-end-fits v)
+      go false p = rw p (first-end-fits v)
 
   pub vector-fits : (gsi : Gsi) → Fits (vectorForGsi m gsi)
   unfolding vectorForGsi vectorFor
@@ -108,13 +131,28 @@ module _ (m : EmulatedIoApic) where
       go true false p q = rw (p, q) tt
       go false b p q = rw p tt
 
-  -- a write answers nothing, or is refused
+  written-fits : (offset x : ℕ) → Fits (writtenReply (writeAt (m .state) offset x .answer))
+  unfolding writeAt writeSelected writeEoi endOfEvery
+  written-fits offset x = go (eqb offset 0) (eqb offset 0x10) (eqb offset 0x40) (isEntryWord (m .state .selector)) (isNew (m .state)) refl refl refl refl refl
+    where
+      v : Vector
+      v = record { 0 = x % 2 ^ 8 }
+
+      go : (a b c d n : Bool) → eqb offset 0 ≡ a → eqb offset 0x10 ≡ b → eqb offset 0x40 ≡ c → isEntryWord (m .state .selector) ≡ d → isNew (m .state) ≡ n
+          → Fits (writtenReply (writeAt (m .state) offset x .answer))
+      go true b c d n p q r t u = rw p tt
+      go false true c true n p q r t u = rw (p, q, t) tt
+      go false true c false n p q r t u = rw (p, q, t) tt
+      go false false true d true p q r t u = rw (p, q, r, u) (every-write-fits _ _ (setOf-lt 24 (clearedBy v (m .state))) (setOf-lt 24 (sentBy v (m .state))))
+      go false false true d false p q r t u = rw (p, q, r, u) tt
+      go false false false d n p q r t u = rw (p, q, r) tt
+
   pub write-fits : (addr width x : ℕ) → Fits (handleWrite m addr width x .reply)
   unfolding handleWrite
   write-fits addr width x = go (goodWidth width) (leb (m .base) addr) refl refl
     where
       go : (a b : Bool) → goodWidth width ≡ a → leb (m .base) addr ≡ b → Fits (handleWrite m addr width x .reply)
-      go true true p q = rw (p, q) (written-fits (writeAt (m .state) (addr - m .base) (x % 2 ^ 32) .answer))
+      go true true p q = rw (p, q) (written-fits (addr - m .base) (x % 2 ^ 32))
       go true false p q = rw (p, q) tt
       go false b p q = rw p tt
 
@@ -128,15 +166,16 @@ module _ (l : List ℕ) (words : (i : ℕ) → getD l i 0 < 2 ^ 64) where
       go true p = rw (p, view-at l g h) (omega arith)
       go false p = rw (p, view-at l g h) (omega (arith, words g))
 
-  fixed : (sel : ℕ) → readFixed sel < 2 ^ 32
+  fixed : (version sel : ℕ) → readFixed version sel < 2 ^ 32
   unfolding readFixed
-  fixed sel = go (eqb sel 0) (eqb sel 1) (eqb sel 2) refl refl refl
+  fixed version sel = go (eqb sel 0) (eqb sel 1) (eqb sel 2) (eqb version 0x20) refl refl refl refl
     where
-      go : (a b c : Bool) → eqb sel 0 ≡ a → eqb sel 1 ≡ b → eqb sel 2 ≡ c → readFixed sel < 2 ^ 32
-      go true b c p q r = rw p (omega arith)
-      go false true c p q r = rw (p, q) (omega arith)
-      go false false true p q r = rw (p, q, r) (omega arith)
-      go false false false p q r = rw (p, q, r) (omega arith)
+      go : (a b c d : Bool) → eqb sel 0 ≡ a → eqb sel 1 ≡ b → eqb sel 2 ≡ c → eqb version 0x20 ≡ d → readFixed version sel < 2 ^ 32
+      go true b c d p q r t = rw p (omega arith)
+      go false true c true p q r t = rw (p, q, t) (omega arith)
+      go false true c false p q r t = rw (p, q, t) (omega arith)
+      go false false true d p q r t = rw (p, q, r) (omega arith)
+      go false false false d p q r t = rw (p, q, r) (omega arith)
 
   selected : readSelected (view l .state) < 2 ^ 32
   unfolding readSelected
@@ -146,7 +185,7 @@ module _ (l : List ℕ) (words : (i : ℕ) → getD l i 0 < 2 ^ 64) where
       go true p =
           let k = entry-word-range (view l .state .selector) p in
           rw p (halves (view l .state .selector) (entryOf (view l .state .selector)) (omega (arith, k .0, k .1)))
-      go false p = rw p (fixed (view l .state .selector))
+      go false p = rw p (fixed (view l .state .version) (view l .state .selector))
 
   register : (offset : ℕ) → readAt (view l .state) offset < 2 ^ 32
   unfolding readAt view

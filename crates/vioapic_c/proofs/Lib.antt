@@ -1,4 +1,5 @@
 pub mod View
 pub mod WordLaws
+pub mod Turns
 pub mod Shown
 pub mod Fit

@@ -2,34 +2,51 @@
 use Prim.Native.Nat.{ℕ, zero, suc, _+_, _-_, _/_, _%_, _^_, _<_, _≤_}
 use native.Mathlib.Omega.{arith}
 use native.Mathlib.Nat.{mod-lt, mod-eq-of-lt}
-use mathlib.Core.Bool.{Bool, true, false}
-use mathlib.Core.List.{List, [], _∷_}
+use mathlib.Core.Bool.{Bool, true, false, cond, _&&_, true≢false}
+use mathlib.Core.List.{List, [], _∷_, map}
 use mathlib.Core.Path.{_≡_, refl, sym, _∙_, ap, ap₂}
-use borrow.Author.Tests.{ltb-true, lt-ltb}
+use borrow.Author.Tests.{ltb-true, lt-ltb, eqb-true}
 use lib.Dec.{eqb, ltb, leb}
 use lib.ListN.{length, getD, set, length-set}
 use lib.Seq.{getD-set-same, getD-set-other}
+use Rattle.utils.specs.Set.{setOf}
+use Rattle.utils.proofs.Laws.{setOf-same}
 use Rattle.utils.proofs.Search.{first-same}
 use Rattle.types.specs.declared.Vector.{Vector}
-use Rattle.types.specs.Reply.{flag}
+use Rattle.types.specs.Reply.{Outcome}
 use Rattle.boundary.specs.Lent.{replyCode, isUp, Shows}
 use Rattle.types.specs.declared.Reply.the-variants.{Nothing}
 use Rattle.vioapic.proofs.ChipLaws.{entry-word-range}
-use Rattle.vioapic.specs.Answers.{routedReply, writtenReply}
-use Rattle.vioapic.specs.IoApic.{goodWidth, chipAt, withState, assertGsi, setGsiLevel, endOfInterrupt, handleWrite}
-use Rattle.vioapic.specs.Redirection.{awaits, sendEntry, moveLine, endEntry}
-use Rattle.vioapic.specs.Registers.{isEntryWord, entryOf, writeWord, writeSelected, writeAt}
-use Rattle.vioapic.specs.Table.{entryAt, routeAt, interruptForEntry, setLevel, firstAwaiting, endOfEntry}
+use Rattle.vioapic.specs.Answers.{isRouted, routedReply, eoiReply, writtenReply}
+use Rattle.vioapic.specs.IoApic.{goodWidth, isVersion, chipOf, withState, assertGsi, setGsiLevel, endOfInterrupt, handleWrite}
+use Rattle.vioapic.specs.Redirection.{awaits, sendEntry, moveLine, endEntry, endEntry20}
+use Rattle.vioapic.specs.Registers.{isEntryWord, entryOf, writeWord, writeSelected, writtenBy, writeEoi, writeAt}
+use Rattle.vioapic.specs.Table.{isNew, entryAt, routeAt, withEntries, interruptForEntry, setLevel, firstAwaiting, endOfEntry, endEach, clearedBy, sentBy, everyAnswer, endOfEvery, endOf}
+use Rattle.vioapic.specs.declared.EmulatedIoApic.{EmulatedIoApic}
+use Rattle.vioapic.specs.declared.Eoi.the-variants.{NotEnded, EndedAll}
+use Rattle.vioapic.specs.declared.Writing.{Writing}
 use Rattle.vioapic.specs.declared.redirection.Entry.{Entry}
 use Rattle.vioapic.specs.declared.redirection.EntryStep.{EntryStep}
 use Rattle.vioapic_c.proofs.View.{view-at, view-put}
-use Rattle.vioapic_c.specs.Words.{entryIn, entriesFrom, selectorIn, view, putEntry, putSelector, newWords}
-use Rattle.vioapic_c.specs.Calls.{steppedWords, assertWords, setLevelWords, firstIn, endedWords, endWords, writeSelectedWords, writeAtWords, writeWords}
+use Rattle.vioapic_c.proofs.Turns.{ended-rest, ended-done}
+use Rattle.vioapic_c.specs.Words.{entryIn, entriesFrom, selectorIn, isNewIn, versionIn, view, putEntry, putSelector, newWords}
+use Rattle.vioapic_c.specs.Calls.{steppedWords, assertWords, setLevelWords, firstIn, endFirstWords, endedBelow, clearedIn, sentIn, endEveryWords, endWords, writeSelectedWords, writeEoiWords, writeAtWords, writeWords}
 
--- new words stand for a new chip
-pub new-shows : (base size : ℕ) → view (newWords base size) ≡ chipAt base size
+either : (a b : Bool) → cond a true b ≡ true → b ≡ false → a ≡ true
+either true b h e = refl
+either false b h e = absurd (true≢false (sym h ∙ e))
+
+-- new words stand for a new chip, of either version
+pub new-shows : (version base size : ℕ) → isVersion version ≡ true → view (newWords version base size) ≡ chipOf version base size
 unfolding view entriesFrom
-new-shows base size = refl
+new-shows version base size h = go (eqb version 0x20) refl
+  where
+    go : (b : Bool) → eqb version 0x20 ≡ b → view (newWords version base size) ≡ chipOf version base size
+    go true e = let v : 0x20 ≡ version = sym (eqb-true version 0x20 e) in rw e (λ i. chipOf (v i) base size)
+    go false e =
+        let k : eqb version 0x11 ≡ true = either (eqb version 0x11) (eqb version 0x20) h e in
+        let v : 0x11 ≡ version = sym (eqb-true version 0x11 k) in
+        rw e (λ i. chipOf (v i) base size)
 
 module _ (l : List ℕ) (long : length l ≡ 32) where
   -- a rule done to an entry in place
@@ -58,16 +75,55 @@ module _ (l : List ℕ) (long : length l ≡ 32) where
   unfolding firstIn firstAwaiting
   first-shows v = first-same 24 (λ g. awaits v (entryIn l g)) (λ g. awaits v (entryAt (view l .state) g)) (λ g h. ap (awaits v) (sym (view-at l g h)))
 
-  pub end-shows : (v : ℕ) → v < 256 → Shows view (endWords l v) (endOfInterrupt (view l) (record { 0 = v }))
-  unfolding endWords endOfInterrupt endOfEntry
-  end-shows v h = go (ltb (firstIn l (record { 0 = v })) 24) refl
+  -- version 0x11
+  first-end-shows : (v : Vector) → Shows view (endFirstWords l v) (record { state = withState (view l) (endOfEntry (view l .state) v .state); reply = eoiReply (endOfEntry (view l .state) v .answer) })
+  unfolding endFirstWords endOfEntry
+  first-end-shows v = go (ltb (firstIn l v) 24) refl
     where
-      go : (b : Bool) → ltb (firstIn l (record { 0 = v })) 24 ≡ b → Shows view (endWords l v) (endOfInterrupt (view l) (record { 0 = v }))
+      go : (b : Bool) → ltb (firstIn l v) 24 ≡ b → Shows view (endFirstWords l v) (record { state = withState (view l) (endOfEntry (view l .state) v .state); reply = eoiReply (endOfEntry (view l .state) v .answer) })
       go true q =
-          let k : firstIn l (record { 0 = v }) < 24 = ltb-true _ 24 q in
-          rw (lt-ltb _ _ h, ← first-shows (record { 0 = v }), q, view-at l (firstIn l (record { 0 = v })) k)
-          (view-put l (firstIn l (record { 0 = v })) (endEntry (entryIn l (firstIn l (record { 0 = v }))) .entry) long k, refl)
-      go false q = rw (lt-ltb _ _ h, ← first-shows (record { 0 = v }), q) (refl, refl)
+          let k : firstIn l v < 24 = ltb-true _ 24 q in
+          rw (← first-shows v, q, view-at l (firstIn l v) k) (view-put l (firstIn l v) (endEntry (entryIn l (firstIn l v)) .entry) long k, refl)
+      go false q = rw (← first-shows v, q) (refl, refl)
+
+  -- version 0x20
+  each-from : (w : List ℕ) (f : Entry → Entry) → ((i : ℕ) → i < 24 → entryIn w i ≡ f (entryIn l i)) → (i n : ℕ) → i + n ≤ 24 → entriesFrom w i n ≡ map f (entriesFrom l i n)
+  unfolding entriesFrom
+  each-from w f s i zero h = refl
+  each-from w f s i (suc n) h = ap₂ (λ (x : Entry) (xs : List Entry). x ∷ xs) (s i (omega arith)) (each-from w f s (suc i) n (omega arith))
+
+  every-words : (v : Vector) → view (endedBelow l v 24) ≡ withState (view l) (withEntries (view l .state) (map (endEach v) (view l .state .entries)))
+  unfolding view
+  every-words v =
+      let b = ended-rest l v long 24 27 (omega arith) (omega arith) in
+      let z = ended-rest l v long 24 28 (omega arith) (omega arith) in
+      let s = ap (λ (x : ℕ). x % 2 ^ 32) (ended-rest l v long 24 26 (omega arith) (omega arith)) in
+      let n : versionIn (endedBelow l v 24) ≡ versionIn l = rw (ended-rest l v long 24 29 (omega arith) (omega arith)) in
+      let t = each-from (endedBelow l v 24) (endEach v) (λ i h. ended-done l v long 24 i (omega arith) h) 0 24 (omega arith) in
+      λ i. record { base = b i; size = z i; state = record { version = n i; selector = s i; entries = t i } }
+
+  every-shows : (v : Vector) → Shows view (endEveryWords l v) (record { state = withState (view l) (endOfEvery (view l .state) v .state); reply = eoiReply (endOfEvery (view l .state) v .answer) })
+  unfolding endEveryWords endOfEvery
+  every-shows v =
+      let c : setOf 24 (clearedIn v l) ≡ setOf 24 (clearedBy v (view l .state)) =
+      setOf-same 24 (clearedIn v l) (clearedBy v (view l .state)) (λ g h. ap (awaits v) (sym (view-at l g h))) in
+      let s : setOf 24 (sentIn v l) ≡ setOf 24 (sentBy v (view l .state)) =
+      setOf-same 24 (sentIn v l) (sentBy v (view l .state)) (λ g h. ap (λ (e : Entry). awaits v e && isRouted (endEntry20 e .answer)) (sym (view-at l g h))) in
+      (every-words v, ap replyCode (ap eoiReply (ap₂ everyAnswer c s)))
+
+  -- the version that the words have
+  new-in : (b : Bool) → isNewIn l ≡ b → isNew (view l .state) ≡ b
+  unfolding view
+  new-in true h = rw h
+  new-in false h = rw h
+
+  pub end-shows : (v : ℕ) → v < 256 → Shows view (endWords l v) (endOfInterrupt (view l) (record { 0 = v }))
+  unfolding endWords endOfInterrupt endOf
+  end-shows v h = go (isNewIn l) refl
+    where
+      go : (b : Bool) → isNewIn l ≡ b → Shows view (endWords l v) (endOfInterrupt (view l) (record { 0 = v }))
+      go true q = rw (lt-ltb _ _ h, q, new-in true q) (every-shows (record { 0 = v }))
+      go false q = rw (lt-ltb _ _ h, q, new-in false q) (first-end-shows (record { 0 = v }))
 
   -- words that agree below the selector have the same entries
   same-entries : (w : List ℕ) → ((i : ℕ) → i < 26 → getD w i 0 ≡ getD l i 0) → (i n : ℕ) → i + n ≤ 24 → entriesFrom w i n ≡ entriesFrom l i n
@@ -76,14 +132,15 @@ module _ (l : List ℕ) (long : length l ≡ 32) where
   same-entries w s i (suc n) h =
       ap₂ (λ (x : Entry) (xs : List Entry). x ∷ xs) (rw (s i (omega arith), s 24 (omega arith), s 25 (omega arith))) (same-entries w s (suc i) n (omega arith))
 
-  select-shows : (x : ℕ) → x < 2 ^ 32 → view (putSelector l x) ≡ withState (view l) (record { selector = x; entries = view l .state .entries })
+  select-shows : (x : ℕ) → x < 2 ^ 32 → view (putSelector l x) ≡ withState (view l) (record { version = view l .state .version; selector = x; entries = view l .state .entries })
   unfolding view
   select-shows x h =
       let b = getD-set-other l 26 27 x 0 (omega arith) in
       let z = getD-set-other l 26 28 x 0 (omega arith) in
       let s = ap (λ (y : ℕ). y % 2 ^ 32) (getD-set-same l 26 x 0 (omega arith)) ∙ mod-eq-of-lt h in
       let t = same-entries (putSelector l x) (λ i k. getD-set-other l 26 i x 0 (omega arith)) 0 24 (omega arith) in
-      λ i. record { base = b i; size = z i; state = record { selector = s i; entries = t i } }
+      let n : versionIn (putSelector l x) ≡ versionIn l = rw (getD-set-other l 26 29 x 0 (omega arith)) in
+      λ i. record { base = b i; size = z i; state = record { version = n i; selector = s i; entries = t i } }
 
   -- the selected word's entry is one of the table's
   entry-there : (sel : ℕ) → isEntryWord sel ≡ true → entryOf sel < 24
@@ -99,25 +156,48 @@ module _ (l : List ℕ) (long : length l ≡ 32) where
           rw (q, view-at l (entryOf (selectorIn l)) k) (view-put l (entryOf (selectorIn l)) (writeWord (selectorIn l) (entryIn l (entryOf (selectorIn l))) x) long k)
       go false q = rw q
 
-  at-shows : (offset x : ℕ) → x < 2 ^ 32 → view (writeAtWords l offset x) ≡ withState (view l) (writeAt (view l .state) offset x .state)
-  unfolding writeAtWords writeAt
-  at-shows offset x h = go (eqb offset 0) (eqb offset 0x10) refl refl
+  window-says : (x : ℕ) → writtenReply (writeSelected (view l .state) x .answer) ≡ Nothing
+  unfolding writeSelected
+  window-says x = go (isEntryWord (view l .state .selector)) refl
     where
-      go : (a b : Bool) → eqb offset 0 ≡ a → eqb offset 0x10 ≡ b → view (writeAtWords l offset x) ≡ withState (view l) (writeAt (view l .state) offset x .state)
-      go true b p q = rw p (select-shows x h)
-      go false true p q = rw (p, q) (window-shows x)
-      go false false p q = rw (p, q)
+      go : (b : Bool) → isEntryWord (view l .state .selector) ≡ b → writtenReply (writeSelected (view l .state) x .answer) ≡ Nothing
+      go true q = rw q
+      go false q = rw q
 
-  -- a served write answers nothing
-  at-says : (offset x : ℕ) → writtenReply (writeAt (view l .state) offset x .answer) ≡ Nothing
-  unfolding writeAt writeSelected
-  at-says offset x = go (eqb offset 0) (eqb offset 0x10) (isEntryWord (view l .state .selector)) refl refl refl
+  -- what a write leaves
+  abbrev wrote : Writing → Outcome EmulatedIoApic
+  wrote r = record { state = withState (view l) (r .state); reply = writtenReply (r .answer) }
+
+  -- an EOI's answer is the same to a write
+  every-says : (c s : ℕ) → writtenReply (writtenBy (everyAnswer c s)) ≡ eoiReply (everyAnswer c s)
+  every-says c s = go (eqb c 0)
     where
-      go : (a b c : Bool) → eqb offset 0 ≡ a → eqb offset 0x10 ≡ b → isEntryWord (view l .state .selector) ≡ c → writtenReply (writeAt (view l .state) offset x .answer) ≡ Nothing
-      go true b c p q r = rw p
-      go false true true p q r = rw (p, q, r)
-      go false true false p q r = rw (p, q, r)
-      go false false c p q r = rw (p, q)
+      go : (b : Bool) → writtenReply (writtenBy (cond b NotEnded (EndedAll (record { cleared = c; sent = s })))) ≡ eoiReply (cond b NotEnded (EndedAll (record { cleared = c; sent = s })))
+      go true = refl
+      go false = refl
+
+  eoi-shows : (x : ℕ) → Shows view (writeEoiWords l x) (wrote (writeEoi (view l .state) x))
+  unfolding writeEoiWords writeEoi endOfEvery
+  eoi-shows x = go (isNewIn l) refl
+    where
+      v : Vector
+      v = record { 0 = x % 2 ^ 8 }
+
+      go : (b : Bool) → isNewIn l ≡ b → Shows view (writeEoiWords l x) (wrote (writeEoi (view l .state) x))
+      go true q =
+          let e = every-shows v in
+          rw (q, new-in true q) (e .0, e .1 ∙ sym (ap replyCode (every-says (setOf 24 (clearedBy v (view l .state))) (setOf 24 (sentBy v (view l .state))))))
+      go false q = rw (q, new-in false q) (refl, refl)
+
+  at-shows : (offset x : ℕ) → x < 2 ^ 32 → Shows view (writeAtWords l offset x) (wrote (writeAt (view l .state) offset x))
+  unfolding writeAtWords writeAt
+  at-shows offset x h = go (eqb offset 0) (eqb offset 0x10) (eqb offset 0x40) refl refl refl
+    where
+      go : (a b c : Bool) → eqb offset 0 ≡ a → eqb offset 0x10 ≡ b → eqb offset 0x40 ≡ c → Shows view (writeAtWords l offset x) (wrote (writeAt (view l .state) offset x))
+      go true b c p q r = rw p (select-shows x h, refl)
+      go false true c p q r = rw (p, q) (window-shows x, sym (ap replyCode (window-says x)))
+      go false false true p q r = rw (p, q, r) (eoi-shows x)
+      go false false false p q r = rw (p, q, r) (refl, refl)
 
   pub write-shows : (addr width x : ℕ) → Shows view (writeWords l addr width x) (handleWrite (view l) addr width x)
   unfolding writeWords handleWrite view
@@ -126,6 +206,6 @@ module _ (l : List ℕ) (long : length l ≡ 32) where
       go : (a b : Bool) → goodWidth width ≡ a → leb (getD l 27 0) addr ≡ b → Shows view (writeWords l addr width x) (handleWrite (view l) addr width x)
       go true true p q =
           let m : x % 2 ^ 32 < 2 ^ 32 = omega arith in
-          rw (p, q) (at-shows (addr - getD l 27 0) (x % 2 ^ 32) m, sym (ap replyCode (at-says (addr - getD l 27 0) (x % 2 ^ 32))))
+          rw (p, q) (at-shows (addr - getD l 27 0) (x % 2 ^ 32) m)
       go true false p q = rw (p, q) (refl, refl)
       go false b p q = rw p (refl, refl)

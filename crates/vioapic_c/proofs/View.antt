@@ -12,7 +12,7 @@ use Rattle.vioapic.specs.IoApic.{withState, chipAt}
 use Rattle.vioapic.specs.Table.{noEntry, entryAt, put}
 use Rattle.vioapic.specs.declared.redirection.Entry.{Entry}
 use Rattle.vioapic.specs.declared.EmulatedIoApic.{EmulatedIoApic}
-use Rattle.vioapic_c.specs.Words.{entryIn, entriesFrom, selectorIn, view, putFlag, putEntry, putSelector, newWords}
+use Rattle.vioapic_c.specs.Words.{entryIn, entriesFrom, selectorIn, versionIn, view, putFlag, putEntry, putSelector, newWords}
 
 at-from : (l : List ℕ) (i n k : ℕ) → k < n → getD (entriesFrom l i n) k noEntry ≡ entryIn l (i + k)
 unfolding entriesFrom
@@ -52,17 +52,17 @@ module _ (l : List ℕ) (g : ℕ) (e : Entry) (long : length l ≡ 32) (here : g
       (getD-set-other (set l g (e .word)) 24 25 _ 0 (omega arith) ∙ getD-set-other l g 25 (e .word) 0 (omega arith))
 
   -- what lies behind the flags stays
-  rest-kept : (i : ℕ) → 25 < i → getD (putEntry l g e) i 0 ≡ getD l i 0
+  pub rest-kept : (i : ℕ) → 25 < i → getD (putEntry l g e) i 0 ≡ getD l i 0
   rest-kept i h =
       getD-set-other (putFlag (set l g (e .word)) 24 g (e .«pending_level»)) 25 i _ 0 (omega arith)
       ∙ getD-set-other (set l g (e .word)) 24 i _ 0 (omega arith)
       ∙ getD-set-other l g i (e .word) 0 (omega arith)
 
-  put-here : entryIn (putEntry l g e) g ≡ e
+  pub put-here : entryIn (putEntry l g e) g ≡ e
   put-here =
       rw (word-same, put-pending, put-input, bit-marked-same (getD l 24 0) g (e .«pending_level»), bit-marked-same (getD l 25 0) g (e .«input_level»))
 
-  put-other : (i : ℕ) → i < 24 → (i ≡ g → ⊥) → entryIn (putEntry l g e) i ≡ entryIn l i
+  pub put-other : (i : ℕ) → i < 24 → (i ≡ g → ⊥) → entryIn (putEntry l g e) i ≡ entryIn l i
   put-other i h n =
       rw (word-other i h n, put-pending, put-input, bit-marked-other (getD l 24 0) g i (e .«pending_level») n, bit-marked-other (getD l 25 0) g i (e .«input_level») n)
 
@@ -89,4 +89,5 @@ module _ (l : List ℕ) (g : ℕ) (e : Entry) (long : length l ≡ 32) (here : g
       let z = rest-kept 28 (omega arith) in
       let s = ap (λ (x : ℕ). x % 2 ^ 32) (rest-kept 26 (omega arith)) in
       let t = within 0 24 g (omega arith) here (omega arith) in
-      λ i. record { base = b i; size = z i; state = record { selector = s i; entries = t i } }
+      let v : versionIn (putEntry l g e) ≡ versionIn l = rw (rest-kept 29 (omega arith)) in
+      λ i. record { base = b i; size = z i; state = record { version = v i; selector = s i; entries = t i } }

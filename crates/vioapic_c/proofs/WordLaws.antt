@@ -15,7 +15,7 @@ use Rattle.types.specs.declared.Reply.the-variants.{Refused, Nothing, One}
 use Rattle.boundary.proofs.Flags.{marked-kept}
 use Rattle.boundary.specs.Lent.{replyCode, marked, isUp, Lent}
 use Rattle.vioapic.specs.Answers.{routedReply, endedReply, gsiVectorReply}
-use Rattle.vioapic.specs.IoApic.{goodWidth, fits, addressRange, vectorForGsi, handleRead}
+use Rattle.vioapic.specs.IoApic.{goodWidth, fits, isVersion, addressRange, vectorForGsi, handleRead}
 use Rattle.vioapic.specs.Redirection.{awaits, sendEntry, moveLine, endEntry}
 use Rattle.vioapic.specs.Registers.{isEntryWord, entryOf, readFixed, readWord, writeWord, readSelected, readAt}
 use Rattle.vioapic.specs.Table.{vectorOfEntry, vectorFor}
@@ -23,8 +23,8 @@ use Rattle.vioapic.specs.declared.GsiVector.{GsiVector}
 use Rattle.vioapic.specs.declared.redirection.Entry.{Entry}
 use Rattle.vioapic.specs.declared.redirection.EntryStep.{EntryStep}
 use Rattle.vioapic_c.proofs.View.{view-at}
-use Rattle.vioapic_c.specs.Words.{entryIn, selectorIn, view, putFlag, putEntry, putSelector, newWords}
-use Rattle.vioapic_c.specs.Calls.{lent, steppedWords, assertWords, setLevelWords, firstIn, endedWords, endWords, createdWords, rangeWords, writeSelectedWords, writeAtWords, writeWords}
+use Rattle.vioapic_c.specs.Words.{entryIn, selectorIn, isNewIn, versionIn, view, putFlag, putEntry, putSelector, newWords}
+use Rattle.vioapic_c.specs.Calls.{lent, steppedWords, assertWords, setLevelWords, firstIn, endedWords, endFirstWords, endEveryWords, endWords, createdWords, rangeWords, writeSelectedWords, writeEoiWords, writeAtWords, writeWords}
 
 -- ---- entries and flags
 
@@ -93,18 +93,38 @@ module _ (l : List ℕ) (g : ℕ) where
   unfolding vectorForGsi vectorFor
   vector-out n h e = e ∙ rw (le-ltb _ _ h)
 
-module _ (l : List ℕ) (v : ℕ) where
-  pub end-in : (g n : ℕ) (w : List ℕ) → v < 256 → g ≡ firstIn l (record { 0 = v }) → g < 24 → lent w n ≡ endedWords l g (endEntry (entryIn l g)) → lent w n ≡ endWords l v
-  unfolding endWords
-  end-in g n w h p k e = e ∙ rw (lt-ltb _ _ h, ← p, lt-ltb _ _ k)
+-- version 0x11: the first of them
+module _ (l : List ℕ) (v : Vector) (g n : ℕ) (is : g ≡ firstIn l v) where
+  pub first-ended : (w : List ℕ) → g < 24 → lent w n ≡ endedWords l g (endEntry (entryIn l g)) → lent w n ≡ endFirstWords l v
+  unfolding endFirstWords
+  first-ended w k e = e ∙ rw (← is, lt-ltb _ _ k)
 
-  pub end-none : (g n : ℕ) → v < 256 → g ≡ firstIn l (record { 0 = v }) → 24 ≤ g → n ≡ replyCode Nothing → lent l n ≡ endWords l v
-  unfolding endWords
-  end-none g n h p k e = rw (lt-ltb _ _ h, ← p, le-ltb _ _ k) (ap (lent l) e)
+  pub first-none : 24 ≤ g → n ≡ replyCode Nothing → lent l n ≡ endFirstWords l v
+  unfolding endFirstWords
+  first-none k e = rw (← is, le-ltb _ _ k) (ap (lent l) e)
 
-  pub end-wide : (n : ℕ) → 256 ≤ v → n ≡ replyCode (Refused OutOfRange) → lent l n ≡ endWords l v
+-- the choice by version
+module _ (l : List ℕ) (v : ℕ) (a : Lent) where
+  pub end-new : v < 256 → isNewIn l ≡ true → a ≡ endEveryWords l (record { 0 = v }) → a ≡ endWords l v
   unfolding endWords
-  end-wide n h e = rw (le-ltb _ _ h) (ap (lent l) e)
+  end-new h n e = e ∙ rw (lt-ltb _ _ h, n)
+
+  pub end-old : v < 256 → isNewIn l ≡ false → a ≡ endFirstWords l (record { 0 = v }) → a ≡ endWords l v
+  unfolding endWords
+  end-old h n e = e ∙ rw (lt-ltb _ _ h, n)
+
+pub end-wide : (l : List ℕ) (v n : ℕ) → 256 ≤ v → n ≡ replyCode (Refused OutOfRange) → lent l n ≡ endWords l v
+unfolding endWords
+end-wide l v n h e = rw (le-ltb _ _ h) (ap (lent l) e)
+
+module _ (l : List ℕ) (x : ℕ) where
+  pub eoi-new : (a : Lent) → isNewIn l ≡ true → a ≡ endEveryWords l (record { 0 = x % 2 ^ 8 }) → a ≡ writeEoiWords l x
+  unfolding writeEoiWords
+  eoi-new a n e = e ∙ rw n
+
+  pub eoi-old : (n : ℕ) → isNewIn l ≡ false → n ≡ replyCode Nothing → lent l n ≡ writeEoiWords l x
+  unfolding writeEoiWords
+  eoi-old n h e = rw h (ap (lent l) e)
 
 -- ---- the base and the size
 
@@ -120,14 +140,21 @@ module _ (l range : List ℕ) (n : ℕ) where
   unfolding rangeWords addressRange view
   range-refused h e = rw h (ap (lent range) e)
 
-module _ (l : List ℕ) (base size n : ℕ) where
-  pub new-fits : (w : List ℕ) → fits base size ≡ true → w ≡ newWords base size → n ≡ replyCode Nothing → lent w n ≡ createdWords l base size
+module _ (l : List ℕ) (base size version n : ℕ) where
+  pub new-fits : (w : List ℕ) → isVersion version ≡ true → fits base size ≡ true → w ≡ newWords version base size → n ≡ replyCode Nothing → lent w n ≡ createdWords l base size version
   unfolding createdWords
-  new-fits w h p e = rw h (ap₂ lent p e)
+  new-fits w k h p e = rw (k, h) (ap₂ lent p e)
 
-  pub new-refused : fits base size ≡ false → n ≡ replyCode (Refused InvalidAddress) → lent l n ≡ createdWords l base size
+  pub new-refused : isVersion version ≡ true → fits base size ≡ false → n ≡ replyCode (Refused InvalidAddress) → lent l n ≡ createdWords l base size version
   unfolding createdWords
-  new-refused h e = rw h (ap (lent l) e)
+  new-refused k h e = rw (k, h) (ap (lent l) e)
+
+  pub new-unknown : isVersion version ≡ false → n ≡ replyCode (Refused Unsupported) → lent l n ≡ createdWords l base size version
+  unfolding createdWords
+  new-unknown k e = rw k (ap (lent l) e)
+
+pub wide-version : (version : ℕ) → 256 ≤ version → false ≡ isVersion version
+wide-version version h = rw (ne-eqb version 0x11 (λ e. absurd (omega (arith, e))), ne-eqb version 0x20 (λ e. absurd (omega (arith, e))))
 
 -- ---- the memory map
 
@@ -138,11 +165,11 @@ module _ (l : List ℕ) where
       let y : isEntryWord (selectorIn l) ≡ true = sym (ap isEntryWord p) ∙ h in
       z ∙ ap (readWord sel) (f ∙ sym (view-at l g k)) ∙ rw (q, p, y)
 
-  pub selected-fixed : (sel n : ℕ) → sel ≡ selectorIn l → isEntryWord sel ≡ false → n ≡ readFixed sel → n ≡ readSelected (view l .state)
+  pub selected-fixed : (ver sel n : ℕ) → sel ≡ selectorIn l → isEntryWord sel ≡ false → ver ≡ versionIn l → n ≡ readFixed ver sel → n ≡ readSelected (view l .state)
   unfolding readSelected readFixed view
-  selected-fixed sel n p h z =
+  selected-fixed ver sel n p h q z =
       let y : isEntryWord (selectorIn l) ≡ false = sym (ap isEntryWord p) ∙ h in
-      z ∙ rw (p, y)
+      z ∙ rw (q, p, y)
 
   pub write-in : (sel g x : ℕ) (e f : Entry) (w : List ℕ) → sel ≡ selectorIn l → isEntryWord sel ≡ true → g ≡ entryOf sel → e ≡ entryIn l g → f ≡ writeWord sel e x → w ≡ putEntry l g f → w ≡ writeSelectedWords l x
   unfolding writeSelectedWords
@@ -156,17 +183,21 @@ module _ (l : List ℕ) where
       let y : isEntryWord (selectorIn l) ≡ false = sym (ap isEntryWord p) ∙ h in
       rw y
 
-  pub at-select : (offset x : ℕ) → offset ≡ 0 → putSelector l x ≡ writeAtWords l offset x
+  pub at-select : (offset x n : ℕ) → offset ≡ 0 → n ≡ replyCode Nothing → lent (putSelector l x) n ≡ writeAtWords l offset x
   unfolding writeAtWords
-  at-select offset x h = rw (eq-eqb _ _ h)
+  at-select offset x n h e = rw (eq-eqb _ _ h) (ap (lent (putSelector l x)) e)
 
-  pub at-window : (offset x : ℕ) (w : List ℕ) → (offset ≡ 0 → ⊥) → offset ≡ 16 → w ≡ writeSelectedWords l x → w ≡ writeAtWords l offset x
+  pub at-window : (offset x n : ℕ) (w : List ℕ) → (offset ≡ 0 → ⊥) → offset ≡ 16 → w ≡ writeSelectedWords l x → n ≡ replyCode Nothing → lent w n ≡ writeAtWords l offset x
   unfolding writeAtWords
-  at-window offset x w a b p = p ∙ rw (ne-eqb _ _ a, eq-eqb _ _ b)
+  at-window offset x n w a b p e = ap₂ lent p e ∙ rw (ne-eqb _ _ a, eq-eqb _ _ b)
 
-  pub at-other : (offset x : ℕ) → (offset ≡ 0 → ⊥) → (offset ≡ 16 → ⊥) → l ≡ writeAtWords l offset x
+  pub at-eoi : (offset x : ℕ) (z : Lent) → (offset ≡ 0 → ⊥) → (offset ≡ 16 → ⊥) → offset ≡ 64 → z ≡ writeEoiWords l x → z ≡ writeAtWords l offset x
   unfolding writeAtWords
-  at-other offset x a b = rw (ne-eqb _ _ a, ne-eqb _ _ b)
+  at-eoi offset x z a b c p = p ∙ rw (ne-eqb _ _ a, ne-eqb _ _ b, eq-eqb _ _ c)
+
+  pub at-other : (offset x n : ℕ) → (offset ≡ 0 → ⊥) → (offset ≡ 16 → ⊥) → (offset ≡ 64 → ⊥) → n ≡ replyCode Nothing → lent l n ≡ writeAtWords l offset x
+  unfolding writeAtWords
+  at-other offset x n a b c e = rw (ne-eqb _ _ a, ne-eqb _ _ b, ne-eqb _ _ c) (ap (lent l) e)
 
   pub read-select : (offset n : ℕ) → offset ≡ 0 → n ≡ selectorIn l → n ≡ readAt (view l .state) offset
   unfolding readAt view
@@ -201,9 +232,9 @@ module _ (l : List ℕ) (addr width n : ℕ) where
   unfolding writeWords
   write-below x h k e = rw (h, lt-leb _ _ k) (ap (lent l) e)
 
-  pub write-done : (x : ℕ) (w : List ℕ) → goodWidth width ≡ true → getD l 27 0 ≤ addr → w ≡ writeAtWords l (addr - getD l 27 0) (x % 2 ^ 32) → n ≡ replyCode Nothing → lent w n ≡ writeWords l addr width x
+  pub write-done : (x : ℕ) (z : Lent) → goodWidth width ≡ true → getD l 27 0 ≤ addr → z ≡ writeAtWords l (addr - getD l 27 0) (x % 2 ^ 32) → z ≡ writeWords l addr width x
   unfolding writeWords
-  write-done x w h k p e = rw (h, le-leb _ _ k) (ap₂ lent p e)
+  write-done x z h k p = p ∙ rw (h, le-leb _ _ k)
 
 pub wide-bad : (width : ℕ) → 256 ≤ width → false ≡ goodWidth width
 wide-bad width h = rw (ne-eqb width 4 (λ e. absurd (omega (arith, e))), ne-eqb width 8 (λ e. absurd (omega (arith, e))))

@@ -1,9 +1,10 @@
 -- The I/O APIC in 32 lent words, and the chip that any words stand for (include/sillwander.h).
 -- 0 to 23 the redirection entries' registers; 24 a bit for each entry, put off; 25 a bit for each line, up; 26 the selector; 27 and 28 base and size;
--- 29 to 31 spare.
+-- 29 the version; 30 and 31 spare.
 use Prim.Native.Nat.{ℕ, zero, suc, _%_, _^_}
-use mathlib.Core.Bool.{Bool}
+use mathlib.Core.Bool.{Bool, cond}
 use mathlib.Core.List.{List, [], _∷_, _++_}
+use lib.Dec.{eqb}
 use lib.ListN.{getD, set, replicate}
 use Rattle.utils.specs.Set.{bit}
 use Rattle.boundary.specs.Lent.{marked}
@@ -22,12 +23,19 @@ entriesFrom l i (suc n) = entryIn l i ∷ entriesFrom l (suc i) n
 abbrev pub selectorIn : List ℕ → ℕ
 selectorIn l = getD l 26 0 % 2 ^ 32
 
+-- 0x20; any other number is 0x11
+abbrev pub isNewIn : List ℕ → Bool
+isNewIn l = eqb (getD l 29 0) 0x20
+
+abbrev pub versionIn : List ℕ → ℕ
+versionIn l = cond (isNewIn l) 0x20 0x11
+
 -- the chip that the words stand for: what no chip has, the upper bits of words 24 to 26 and the spare words, isn't looked at
 unfoldable pub view : List ℕ → EmulatedIoApic
 view l = record {
   base = getD l 27 0;
   size = getD l 28 0;
-  state = record { selector = selectorIn l; entries = entriesFrom l 0 24 };
+  state = record { version = versionIn l; selector = selectorIn l; entries = entriesFrom l 0 24 };
 }
 
 -- the words with a flag of entry g moved, in word `at`
@@ -43,5 +51,5 @@ abbrev pub putSelector : List ℕ → ℕ → List ℕ
 putSelector l x = set l 26 x
 
 -- a new chip: every entry masked, the lines down, nothing put off
-abbrev pub newWords : ℕ → ℕ → List ℕ
-newWords base size = replicate 24 0x10000 ++ (0 ∷ 0 ∷ 0 ∷ base ∷ size ∷ 0 ∷ 0 ∷ 0 ∷ [])
+abbrev pub newWords : ℕ → ℕ → ℕ → List ℕ
+newWords version base size = replicate 24 0x10000 ++ (0 ∷ 0 ∷ 0 ∷ base ∷ size ∷ version ∷ 0 ∷ 0 ∷ [])

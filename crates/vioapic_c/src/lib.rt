@@ -7,17 +7,18 @@ ghost use lib.ListN.{getD};
 ghost use Rattle.utils.specs.Set.{bit};
 ghost use Rattle.boundary.specs.Lent.{replyCode};
 ghost use Rattle.vioapic.specs.Answers.{interruptReply, routedReply};
-ghost use Rattle.vioapic.specs.IoApic.{goodWidth, vectorForGsi, handleRead};
+ghost use Rattle.vioapic.specs.IoApic.{goodWidth, isVersion, vectorForGsi, handleRead};
 ghost use Rattle.vioapic.specs.Redirection.{sendEntry, moveLine, endEntry};
 ghost use Rattle.vioapic.specs.Registers.{readSelected, readAt};
-ghost use Rattle.vioapic_c.specs.Words.{entryIn, selectorIn, putFlag, putEntry, newWords, view};
-ghost use Rattle.vioapic_c.specs.Calls.{firstIn, steppedWords, assertWords, setLevelWords, endedWords, endWords, createdWords, rangeWords, writeSelectedWords, writeAtWords, writeWords, lent};
+ghost use Rattle.vioapic_c.specs.Words.{entryIn, selectorIn, isNewIn, versionIn, putFlag, putEntry, newWords, view};
+ghost use Rattle.vioapic_c.specs.Calls.{firstIn, steppedWords, assertWords, setLevelWords, endedWords, endFirstWords, turnWords, turnEnds, endEveryWords, endWords, createdWords, rangeWords, writeSelectedWords, writeEoiWords, writeAtWords, writeWords, lent};
 use boundary::code;
 use boundary::is_up;
 use types::Gsi;
 use types::Refusal;
 use types::Reply;
 use types::Vector;
+use utils::set32;
 use utils::set64;
 use vioapic::IoApicEoi;
 use vioapic::redirection::Entry;
@@ -35,6 +36,8 @@ const SELECTOR: usize = 26;
 const BASE: usize = 27;
 
 const SIZE: usize = 28;
+
+const VERSION: usize = 29;
 
 // ---- The parts of the words
 
@@ -98,6 +101,15 @@ fn selector_in(words: &[u64; 32]) -> u32
     (words[SELECTOR] % 0x1_0000_0000) as u32
 }
 
+fn version_in(words: &[u64; 32]) -> u8
+    ensures { λ r. ⌜ r ≡ versionIn (now (words .entry)) ⌝ }
+{
+    if is_new(words) {
+        return vioapic::VERSION_20;
+    }
+    vioapic::VERSION_11
+}
+
 // The lowest entry that an EOI of the vector ends, or 24.
 fn first_awaiting(words: &[u64; 32], vector: Vector) -> usize
     ensures { λ r. ⌜ r ≡ firstIn (now (words .entry)) vector ⌝ }
@@ -119,8 +131,8 @@ fn first_awaiting(words: &[u64; 32], vector: Vector) -> usize
 
 // ---- New words
 
-fn put_new(words: &mut [u64; 32], base: u64, size: u64)
-    ensures { λ _. ⌜ now (words .exit) ≡ newWords base size ⌝ }
+fn put_new(words: &mut [u64; 32], version: u64, base: u64, size: u64)
+    ensures { λ _. ⌜ now (words .exit) ≡ newWords version base size ⌝ }
 {
     *words = [
         0x1_0000,
@@ -152,26 +164,50 @@ fn put_new(words: &mut [u64; 32], base: u64, size: u64)
         0,
         base,
         size,
-        0,
+        version,
         0,
         0,
     ];
 }
 
+fn is_version(version: u64) -> bool
+    ensures { λ r. ⌜ r ≡ isVersion version ⌝ }
+{
+    if version < 256 {
+        return vioapic::is_version(version as u8);
+    }
+    false
+}
+
+#[no_mangle]
+pub extern "C" fn sillwander_ioapic_new_version(
+    words: &mut [u64; 32],
+    base: u64,
+    size: u64,
+    version: u64,
+) -> u64
+    ensures { λ r. ⌜ lent (now (words .exit)) r ≡ createdWords (now (words .entry)) base size version ⌝ }
+{
+    if !is_version(version) {
+        return code(Reply::Refused(Refusal::Unsupported));
+    }
+    if !vioapic::fits(base, size) {
+        return code(Reply::Refused(Refusal::InvalidAddress));
+    }
+    put_new(&mut *words, version, base, size);
+    code(Reply::Nothing)
+}
+
 #[no_mangle]
 pub extern "C" fn sillwander_ioapic_new(words: &mut [u64; 32], base: u64, size: u64) -> u64
-    ensures { λ r. ⌜ lent (now (words .exit)) r ≡ createdWords (now (words .entry)) base size ⌝ }
+    ensures { λ r. ⌜ lent (now (words .exit)) r ≡ createdWords (now (words .entry)) base size 0x11 ⌝ }
 {
-    if vioapic::fits(base, size) {
-        put_new(&mut *words, base, size);
-        return code(Reply::Nothing);
-    }
-    code(Reply::Refused(Refusal::InvalidAddress))
+    sillwander_ioapic_new_version(&mut *words, base, size, vioapic::VERSION_11 as u64)
 }
 
 #[no_mangle]
 pub extern "C" fn sillwander_ioapic_new_default(words: &mut [u64; 32]) -> u64
-    ensures { λ r. ⌜ lent (now (words .exit)) r ≡ createdWords (now (words .entry)) 0xfec00000 0x1000 ⌝ }
+    ensures { λ r. ⌜ lent (now (words .exit)) r ≡ createdWords (now (words .entry)) 0xfec00000 0x1000 0x11 ⌝ }
 {
     sillwander_ioapic_new(&mut *words, vioapic::IOAPIC_BASE, vioapic::IOAPIC_SIZE)
 }
@@ -288,6 +324,75 @@ fn ended(words: &mut [u64; 32], g: usize) -> u64
     code(eoi.reply())
 }
 
+fn is_new(words: &[u64; 32]) -> bool
+    ensures { λ r. ⌜ r ≡ isNewIn (now (words .entry)) ⌝ }
+{
+    words[VERSION] == vioapic::VERSION_20 as u64
+}
+
+// Version 0x11: the lowest of the entries that await the EOI ends.
+fn end_first(words: &mut [u64; 32], vector: Vector) -> u64
+    ensures { λ r. ⌜ lent (now (words .exit)) r ≡ endFirstWords (now (words .entry)) vector ⌝ }
+{
+    let g = first_awaiting(&*words, vector);
+    if g < ENTRIES {
+        return ended(&mut *words, g);
+    }
+    code(Reply::Nothing)
+}
+
+// The lines that an EOI of version 0x20 has ended so far, and those of them that are sent again.
+struct Ends {
+    cleared: u32,
+    sent: u32,
+}
+
+// Entry g has its turn.
+fn end_at(words: &mut [u64; 32], g: usize, vector: Vector, ends: Ends) -> Ends
+    requires { ⌜ g < 24 ⌝ }
+    ensures { λ r. ⌜ (now (words .exit) ≡ turnWords (now (words .entry)) vector g) × (r ≡ turnEnds (now (words .entry)) vector g ends) ⌝ }
+{
+    let entry = entry_in(&*words, g);
+    if !entry.awaits(vector) {
+        return ends;
+    }
+    let step = entry.end20();
+    let after = step.entry;
+    let answer = step.answer;
+    put_entry(&mut *words, g, entry, after);
+    let cleared = set32::with(ends.cleared, g as u32);
+    if answer.is_routed() {
+        return Ends {
+            cleared,
+            sent: set32::with(ends.sent, g as u32),
+        };
+    }
+    Ends {
+        cleared,
+        sent: ends.sent,
+    }
+}
+
+// Nothing: lent as a slice, the words are known to be 32.
+fn seen(words: &[u64]) {}
+
+// Version 0x20: all of them end.
+fn end_every(words: &mut [u64; 32], vector: Vector) -> u64
+    ensures { λ r. ⌜ lent (now (words .exit)) r ≡ endEveryWords (now (words .entry)) vector ⌝ }
+{
+    seen(&*words);
+    let mut ends = Ends {
+        cleared: 0,
+        sent: 0,
+    };
+    let mut g: usize = 0;
+    while g < ENTRIES {
+        ends = end_at(&mut *words, g, vector, ends);
+        g += 1;
+    }
+    code(vioapic::every_answer(ends.cleared, ends.sent).reply())
+}
+
 #[no_mangle]
 pub extern "C" fn sillwander_ioapic_end_of_interrupt(words: &mut [u64; 32], vector: u64) -> u64
     ensures { λ r. ⌜ lent (now (words .exit)) r ≡ endWords (now (words .entry)) vector ⌝ }
@@ -295,11 +400,10 @@ pub extern "C" fn sillwander_ioapic_end_of_interrupt(words: &mut [u64; 32], vect
     if 256 <= vector {
         return code(Reply::Refused(Refusal::OutOfRange));
     }
-    let g = first_awaiting(&*words, Vector(vector as u8));
-    if g < ENTRIES {
-        return ended(&mut *words, g);
+    if is_new(&*words) {
+        return end_every(&mut *words, Vector(vector as u8));
     }
-    code(Reply::Nothing)
+    end_first(&mut *words, Vector(vector as u8))
 }
 
 // ---- The memory map
@@ -334,7 +438,7 @@ fn read_selected(words: &[u64; 32]) -> u64
         let entry = entry_in(words, vioapic::entry_of(selector));
         return vioapic::read_word(selector, entry);
     }
-    vioapic::read_fixed(selector)
+    vioapic::read_fixed(version_in(words), selector)
 }
 
 fn read_at(words: &[u64; 32], offset: u64) -> u64
@@ -379,16 +483,31 @@ fn write_selected(words: &mut [u64; 32], value: u32)
     }
 }
 
-fn write_at(words: &mut [u64; 32], offset: u64, value: u32)
-    ensures { λ _. ⌜ now (words .exit) ≡ writeAtWords (now (words .entry)) offset value ⌝ }
+// The EOI register, which version 0x20 alone has.
+fn write_eoi(words: &mut [u64; 32], value: u32) -> u64
+    ensures { λ r. ⌜ lent (now (words .exit)) r ≡ writeEoiWords (now (words .entry)) value ⌝ }
+{
+    if is_new(&*words) {
+        return end_every(&mut *words, Vector((value % 0x100) as u8));
+    }
+    code(Reply::Nothing)
+}
+
+fn write_at(words: &mut [u64; 32], offset: u64, value: u32) -> u64
+    ensures { λ r. ⌜ lent (now (words .exit)) r ≡ writeAtWords (now (words .entry)) offset value ⌝ }
 {
     if offset == vioapic::IOREGSEL {
         words[SELECTOR] = value as u64;
-        return;
+        return code(Reply::Nothing);
     }
     if offset == vioapic::IOWIN {
         write_selected(&mut *words, value);
+        return code(Reply::Nothing);
     }
+    if offset == vioapic::IOEOI {
+        return write_eoi(&mut *words, value);
+    }
+    code(Reply::Nothing)
 }
 
 #[no_mangle]
@@ -407,6 +526,5 @@ pub extern "C" fn sillwander_ioapic_handle_write(
     if addr < base {
         return code(Reply::Refused(Refusal::InvalidAddress));
     }
-    write_at(&mut *words, addr - base, (value % 0x1_0000_0000) as u32);
-    code(Reply::Nothing)
+    write_at(&mut *words, addr - base, (value % 0x1_0000_0000) as u32)
 }

@@ -23,6 +23,9 @@ read-word-requires c κs = search needs
 returns : tie.Need-returns
 returns c = search (selected-in, so)
 
+version-in-requires : tie.Need-version-in-requires
+version-in-requires c κs = search needs
+
 read-fixed-requires : tie.Need-read-fixed-requires
 read-fixed-requires c κs = search needs
 
@@ -39,5 +42,6 @@ read-selected-spec =
     entry-in-requires
     read-word-requires
     returns
+    version-in-requires
     read-fixed-requires
     returns-2)

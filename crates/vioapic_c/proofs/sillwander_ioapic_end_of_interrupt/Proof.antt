@@ -1,4 +1,5 @@
-use Rattle.vioapic_c.proofs.WordLaws.{end-in, end-none, end-wide}
+use Rattle.utils.specs.Cases.{so}
+use Rattle.vioapic_c.proofs.WordLaws.{end-new, end-old, end-wide}
 use borrow.Author.Needs.{needs}
 use Rattle.vioapic_c.proofs.sillwander_ioapic_end_of_interrupt.Statement.{statement}
 use Rattle.vioapic_c.proofs.sillwander_ioapic_end_of_interrupt.Tie as tie
@@ -9,23 +10,26 @@ code-requires c κs = search needs
 returns : tie.Need-returns
 returns c = search (end-wide)
 
-cast-t8 : tie.Need-cast-t8
-cast-t8 c = search needs
+is-new-requires : tie.Need-is-new-requires
+is-new-requires c κs = search needs
 
-first-awaiting-requires : tie.Need-first-awaiting-requires
-first-awaiting-requires c κs = search needs
+cast-t9 : tie.Need-cast-t9
+cast-t9 c = search needs
 
-ended-requires : tie.Need-ended-requires
-ended-requires c κs = search needs
+end-every-requires : tie.Need-end-every-requires
+end-every-requires c κs = search needs
 
 returns-2 : tie.Need-returns-2
-returns-2 c = search (end-in)
+returns-2 c = search (end-new, so)
 
-code-requires-2 : tie.Need-code-requires-2
-code-requires-2 c κs = search needs
+cast-t12 : tie.Need-cast-t12
+cast-t12 c = search needs
+
+end-first-requires : tie.Need-end-first-requires
+end-first-requires c κs = search needs
 
 returns-3 : tie.Need-returns-3
-returns-3 c = search (end-none)
+returns-3 c = search (end-old, so)
 
 pub sillwander-ioapic-end-of-interrupt-spec : {M : Type 1} → statement M
 sillwander-ioapic-end-of-interrupt-spec =
@@ -33,9 +37,10 @@ sillwander-ioapic-end-of-interrupt-spec =
     (tie.spec
     code-requires
     returns
-    cast-t8
-    first-awaiting-requires
-    ended-requires
+    is-new-requires
+    cast-t9
+    end-every-requires
     returns-2
-    code-requires-2
+    cast-t12
+    end-first-requires
     returns-3)

@@ -28,9 +28,6 @@ cast-write-at c = search needs
 write-at-requires : tie.Need-write-at-requires
 write-at-requires c κs = search needs
 
-code-requires-3 : tie.Need-code-requires-3
-code-requires-3 c κs = search needs
-
 returns-3 : tie.Need-returns-3
 returns-3 c = search (write-done, so)
 
@@ -46,5 +43,4 @@ sillwander-ioapic-handle-write-spec =
     returns-2
     cast-write-at
     write-at-requires
-    code-requires-3
     returns-3)

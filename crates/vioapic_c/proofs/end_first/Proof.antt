@@ -1,0 +1,23 @@
+use Rattle.vioapic_c.proofs.WordLaws.{first-ended, first-none}
+use borrow.Author.Needs.{needs}
+use Rattle.vioapic_c.proofs.end_first.Statement.{statement}
+use Rattle.vioapic_c.proofs.end_first.Tie as tie
+
+first-awaiting-requires : tie.Need-first-awaiting-requires
+first-awaiting-requires c κs = search needs
+
+ended-requires : tie.Need-ended-requires
+ended-requires c κs = search needs
+
+returns : tie.Need-returns
+returns c = search (first-ended)
+
+code-requires : tie.Need-code-requires
+code-requires c κs = search needs
+
+returns-2 : tie.Need-returns-2
+returns-2 c = search (first-none)
+
+pub end-first-spec : {M : Type 1} → statement M
+end-first-spec =
+    tie.close (tie.spec first-awaiting-requires ended-requires returns code-requires returns-2)
