@@ -98,7 +98,7 @@ uint64_t sillwander_ioapic_handle_write(uint64_t words[32], uint64_t addr, uint6
  *                                          bit  43      a command port reads the lines in service
  *    2, 3  spare: 0 in a new state, and no call reads or writes them
  *
- * Bits 63..44 of words 0 and 1 are ignored, and cleared by a call that is done and isn't a read.
+ * Bits 63..44 of words 0 and 1 are ignored; a new pair has them 0, and every other call keeps them.
  */
 #define SILLWANDER_PIC_WORDS 4
 
