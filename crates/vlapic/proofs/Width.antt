@@ -7,11 +7,7 @@ use Rattle.types.specs.declared.Refusal.the-variants.{InvalidRegister}
 use Rattle.types.specs.Reply.{Outcome}
 use Rattle.vlapic.specs.declared.VirtualApicRegs.{VirtualApicRegs}
 use Rattle.vlapic.specs.Answers.{refused}
-use Rattle.vlapic.specs.Calls.{icrWidth, writeIcr, writeIcrLow}
-
--- the high word that goes with it: the value's in x2APIC mode, else the one that stands there
-abbrev pub icrHigh : VirtualApicRegs → ℕ → ℕ
-icrHigh s val = cond (s .x2apic) (val / 0x100000000) (s .«icr_hi»)
+use Rattle.vlapic.specs.Calls.{icrWidth, icrHigh, writeIcr, writeIcrLow}
 
 module _ (s : VirtualApicRegs) (val width num active : ℕ) where
   abbrev chosen : Bool → Bool → Outcome VirtualApicRegs
@@ -20,7 +16,7 @@ module _ (s : VirtualApicRegs) (val width num active : ℕ) where
       (cond w (writeIcr s (val % 0x100000000) (val / 0x100000000) num active) (refused s InvalidRegister))
       (cond w (refused s InvalidRegister) (writeIcr s (val % 0x100000000) (s .«icr_hi») num active))
 
-  right : (x w : Bool) → cond x w (not w) ≡ true → chosen x w ≡ writeIcr s (val % 0x100000000) (cond x (val / 0x100000000) (s .«icr_hi»)) num active
+  right : (x w : Bool) → cond x w (not w) ≡ true → chosen x w ≡ writeIcr s (val % 0x100000000) (icrHigh x val (s .«icr_hi»)) num active
   right true true h = refl
   right true false h = absurd (true≢false (sym h))
   right false true h = absurd (true≢false (sym h))
@@ -32,7 +28,7 @@ module _ (s : VirtualApicRegs) (val width num active : ℕ) where
   wrong false true h = refl
   wrong false false h = absurd (true≢false h)
 
-  pub icr-right : icrWidth (s .x2apic) width ≡ true → writeIcrLow s val width num active ≡ writeIcr s (val % 0x100000000) (icrHigh s val) num active
+  pub icr-right : icrWidth (s .x2apic) width ≡ true → writeIcrLow s val width num active ≡ writeIcr s (val % 0x100000000) (icrHigh (s .x2apic) val (s .«icr_hi»)) num active
   unfolding writeIcrLow
   icr-right h = right (s .x2apic) (eqb width 8) h
 

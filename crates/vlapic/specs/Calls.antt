@@ -53,6 +53,9 @@ writeIcr s lo hi num active = answered (withCommand s (idle lo) hi) (command (co
 abbrev pub icrWidth : Bool → ℕ → Bool
 icrWidth x2apic width = cond x2apic (eqb width 8) (not (eqb width 8))
 
+abbrev pub icrHigh : Bool → ℕ → ℕ → ℕ
+icrHigh x2apic val hi = cond x2apic (val / 0x100000000) hi
+
 unfoldable pub writeIcrLow : VirtualApicRegs → ℕ → ℕ → ℕ → ℕ → Outcome VirtualApicRegs
 writeIcrLow s val width num active =
     cond (s .x2apic)

@@ -16,7 +16,7 @@ ghost use Rattle.vlapic.specs.Regs.{start, servicing, withError};
 ghost use Rattle.vlapic.specs.Answers.{eoiReply, readReply, writeReply, regsOutcome, eoiOutcome, writeOutcome, done, refused};
 ghost use Rattle.vlapic.specs.Priority.{findIsrv, priority, updatePpr, acceptInterrupt, broadcast, broadcasts, handleEoi};
 ghost use Rattle.vlapic.specs.Registers.{idWord, readable, wordAt, eightFrom, eightAt, handleRead, lvtEntries, listed, stored, writeStored};
-ghost use Rattle.vlapic.specs.Calls.{outOfRange, setup, answered, icrWidth, writeIcr, writeIcrLow, writeSelfIpi, handleWrite};
+ghost use Rattle.vlapic.specs.Calls.{outOfRange, setup, answered, icrWidth, icrHigh, writeIcr, writeIcrLow, writeSelfIpi, handleWrite};
 
 pub mod consts;
 
@@ -309,6 +309,16 @@ pub fn is_icr_width(x2apic: bool, width: u8) -> bool
     width != 8
 }
 
+// The ICR's high word after that: the value's in x2APIC mode, else the one that stands there.
+pub fn icr_high(x2apic: bool, val: u64, icr_hi: u32) -> u32
+    ensures { λ r. ⌜ r ≡ icrHigh x2apic val «icr_hi» ⌝ }
+{
+    if x2apic {
+        return (val / 0x100000000) as u32;
+    }
+    icr_hi
+}
+
 // One of eight words that stand 0x10 apart.
 fn is_eight_from(base: u64, offset: u64) -> bool
     requires { ⌜ base < 0x1000 ⌝ }
@@ -539,10 +549,8 @@ impl VirtualApicRegs {
     {
         if is_icr_width(self.x2apic, width) {
             let lo = (val % 0x100000000) as u32;
-            if self.x2apic {
-                return self.write_icr(lo, (val / 0x100000000) as u32, vcpu_num, active_vcpus);
-            }
-            return self.write_icr(lo, self.icr_hi, vcpu_num, active_vcpus);
+            let hi = icr_high(self.x2apic, val, self.icr_hi);
+            return self.write_icr(lo, hi, vcpu_num, active_vcpus);
         }
         self.refuse(Refusal::InvalidRegister)
     }
