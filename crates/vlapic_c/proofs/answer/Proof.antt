@@ -62,19 +62,19 @@ code-requires-2 c κs = search needs
 
 -- src/lib.rt:353:1
 returns : tie.Need-returns
-returns c = ?
+returns c = rw (c .enum-told .given .1)
 
 -- src/lib.rt:353:1
 returns-2 : tie.Need-returns-2
-returns-2 c = ?
+returns-2 c = rw (c .before .before .before .before .enum-told2 .given .1, c .wide .ensures, c .before .with .ensures, c .before .before .word .ensures)
 
 -- src/lib.rt:353:1
 returns-3 : tie.Need-returns-3
-returns-3 c = ?
+returns-3 c = rw (c .before .before .before .answer .given .1, c .code .ensures)
 
 -- src/lib.rt:353:1
 returns-4 : tie.Need-returns-4
-returns-4 c = ?
+returns-4 c = rw (c .before .before .answer2 .given .1, c .code2 .ensures)
 
 pub answer-spec : {M : Type 1} → statement M
 answer-spec =

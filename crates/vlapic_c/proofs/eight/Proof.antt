@@ -1,3 +1,4 @@
+use Rattle.vlapic_c.proofs.Runs.{eight-list}
 use borrow.Author.Needs.{needs}
 use Rattle.vlapic_c.proofs.eight.Statement.{statement}
 use Rattle.vlapic_c.proofs.eight.Tie as tie
@@ -67,7 +68,7 @@ word-requires-8 c κs = search needs
 
 -- src/lib.rt:40:1
 returns : tie.Need-returns
-returns c = ?
+returns c = rw (eight-list (c .before .before .before .before .before .before .before .before .args .words .now) (c .before .before .before .before .before .before .before .before .args .base), c .before .before .before .before .before .before .before .word .ensures, c .before .before .before .before .before .before .word2 .ensures, c .before .before .before .before .before .word3 .ensures, c .before .before .before .before .word4 .ensures, c .before .before .before .word5 .ensures, c .before .before .word6 .ensures, c .before .word7 .ensures, c .word8 .ensures)
 
 pub eight-spec : {M : Type 1} → statement M
 eight-spec =

@@ -1,3 +1,7 @@
+use Prim.Native.Nat.{_+_, _/_}
+use native.Mathlib.Omega.{arith}
+use mathlib.Core.Path.{refl}
+use Rattle.vlapic_c.proofs.Runs.{at-from}
 use borrow.Author.Needs.{needs}
 use Rattle.vlapic_c.proofs.has.Statement.{statement}
 use Rattle.vlapic_c.proofs.has.Tie as tie
@@ -25,7 +29,7 @@ has-requires c κs = search needs
 
 -- src/lib.rt:191:1
 returns : tie.Need-returns
-returns c = ?
+returns c = rw (at-from (c .before .before .before .before .args .words .now) (c .before .before .before .before .args .base) 8 (c .before .before .before .before .args .vector / 32) (c .before .before .before .before .args .base + c .before .before .before .before .args .vector / 32) refl (omega arith), ← c .before .before .before .extract-index-and-bitpos-u32 .ensures .0, ← c .before .before .before .extract-index-and-bitpos-u32 .ensures .1, ← c .before .word .ensures) (c .has .ensures)
 
 pub has-spec : {M : Type 1} → statement M
 has-spec =

@@ -41,7 +41,7 @@ element-write-words c = search needs
 
 -- src/lib.rt:181:1
 returns : tie.Need-returns
-returns c = ?
+returns c = rw (c .marked .ensures, c .before .before .word .ensures, c .before .before .before .before .before .extract-index-and-bitpos-u32 .ensures .0, c .before .before .before .before .before .extract-index-and-bitpos-u32 .ensures .1)
 
 pub mark-spec : {M : Type 1} → statement M
 mark-spec =

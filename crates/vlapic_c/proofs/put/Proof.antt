@@ -1,3 +1,4 @@
+use Rattle.vlapic_c.specs.Words.{putRegs}
 use borrow.Author.Needs.{needs}
 use Rattle.vlapic_c.proofs.put.Statement.{statement}
 use Rattle.vlapic_c.proofs.put.Tie as tie
@@ -24,7 +25,8 @@ put-eight-requires-3 c κs = search needs
 
 -- src/lib.rt:132:1
 returns : tie.Need-returns
-returns c = ?
+unfolding putRegs
+returns c = rw (c .put-eight3 .ensures, c .before .before .put-eight2 .ensures, c .before .before .before .before .put-eight .ensures, c .before .before .before .before .before .before .put-singles .ensures)
 
 pub put-spec : {M : Type 1} → statement M
 put-spec =

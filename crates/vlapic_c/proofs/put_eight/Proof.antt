@@ -1,3 +1,6 @@
+use Rattle.vlapic_c.proofs.Runs.{put-eight}
+use native.Mathlib.Omega.{arith}
+use mathlib.Core.Path.{sym}
 use borrow.Author.Needs.{needs}
 use Rattle.vlapic_c.proofs.put_eight.Statement.{statement}
 use Rattle.vlapic_c.proofs.put_eight.Tie as tie
@@ -162,7 +165,7 @@ element-write-words-8 c = search needs
 
 -- src/lib.rt:117:1
 returns : tie.Need-returns
-returns c = ?
+returns c = sym (put-eight (c .args .words .now) (c .args .base) (c .args .eight) (search needs))
 
 pub put-eight-spec : {M : Type 1} → statement M
 put-eight-spec =

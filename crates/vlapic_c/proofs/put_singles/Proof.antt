@@ -152,7 +152,7 @@ element-write-words-18 c = search needs
 
 -- src/lib.rt:94:1
 returns : tie.Need-returns
-returns c = ?
+returns c = rw (c .before .before .before .before .before .before .before .before .before .before .before .before .before .before .before .before .wide .ensures, c .before .before .before .before .before .before .before .before .before .before .before .before .before .before .before .wide2 .ensures, c .before .before .before .before .before .before .before .before .before .before .before .before .before .before .wide3 .ensures, c .before .before .before .before .before .before .before .before .before .before .before .before .before .wide4 .ensures, c .before .before .before .before .before .before .before .before .before .before .before .before .wide5 .ensures, c .before .before .before .before .before .before .before .before .before .before .before .wide6 .ensures, c .before .before .before .before .before .before .before .before .before .before .wide7 .ensures, c .before .before .before .before .before .before .before .before .before .wide8 .ensures, c .before .before .before .before .before .before .before .before .wide9 .ensures, c .before .before .before .before .before .before .before .wide10 .ensures, c .before .before .before .before .before .before .wide11 .ensures, c .before .before .before .before .before .wide12 .ensures, c .before .before .before .before .wide13 .ensures, c .before .before .before .wide14 .ensures, c .before .before .wide15 .ensures, c .before .wide16 .ensures, c .wide17 .ensures, c .before .before .before .before .before .before .before .before .before .before .before .before .before .before .before .before .before .flag .ensures)
 
 pub put-singles-spec : {M : Type 1} → statement M
 put-singles-spec =

@@ -27,15 +27,15 @@ enum-known-answer-2 c = search needs
 
 -- src/lib.rt:145:1
 returns : tie.Need-returns
-returns c = ?
+returns c = rw (c .before .before .enum-told .given .1) (c .put .ensures)
 
 -- src/lib.rt:145:1
 returns-2 : tie.Need-returns-2
-returns-2 c = ?
+returns-2 c = rw (c .before .before .before .answer .given .1) (c .put2 .ensures)
 
 -- src/lib.rt:145:1
 returns-3 : tie.Need-returns-3
-returns-3 c = ?
+returns-3 c = rw (c .before .answer2 .given .1)
 
 pub put-unless-spec : {M : Type 1} → statement M
 put-unless-spec =

@@ -24,7 +24,7 @@ element-write-words c = search needs
 
 -- src/lib.rt:200:1
 returns : tie.Need-returns
-returns c = ?
+returns c = rw (c .ppr-of .ensures, c .before .word .ensures)
 
 pub rank-spec : {M : Type 1} → statement M
 rank-spec =

@@ -1,3 +1,4 @@
+use mathlib.Core.Path.{refl}
 use borrow.Author.Needs.{needs}
 use Rattle.vlapic_c.proofs.sent.Statement.{statement}
 use Rattle.vlapic_c.proofs.sent.Tie as tie
@@ -43,11 +44,11 @@ returns c = search needs
 
 -- src/lib.rt:294:1
 returns-2 : tie.Need-returns-2
-returns-2 c = ?
+returns-2 c = rw (c .before .before .before .answer .given .1, c .code .ensures) (refl, refl)
 
 -- src/lib.rt:294:1
 returns-3 : tie.Need-returns-3
-returns-3 c = ?
+returns-3 c = rw (c .before .before .answer2 .given .1, c .code2 .ensures) (refl, refl)
 
 pub sent-spec : {M : Type 1} → statement M
 sent-spec =

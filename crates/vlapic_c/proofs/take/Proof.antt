@@ -1,3 +1,4 @@
+use Rattle.vlapic_c.specs.Words.{view}
 use borrow.Author.Needs.{needs}
 use Rattle.vlapic_c.proofs.take.Statement.{statement}
 use Rattle.vlapic_c.proofs.take.Tie as tie
@@ -97,7 +98,30 @@ word-requires-17 c κs = search needs
 
 -- src/lib.rt:57:1
 returns : tie.Need-returns
-returns c = ?
+unfolding view
+returns c = λ i. record {
+  x2apic = c .before .before .before .before .before .before .before .before .before .before .before .before .before .before .before .before .before .is-up .ensures i;
+  «vapic_id» = c .before .before .before .before .before .before .before .before .before .before .before .before .before .before .before .before .word .ensures i;
+  tpr = c .before .before .before .before .before .before .before .before .before .before .before .before .before .before .before .word2 .ensures i;
+  ppr = c .before .before .before .before .before .before .before .before .before .before .before .before .before .before .word3 .ensures i;
+  ldr = c .before .before .before .before .before .before .before .before .before .before .before .before .before .word4 .ensures i;
+  dfr = c .before .before .before .before .before .before .before .before .before .before .before .before .word5 .ensures i;
+  svr = c .before .before .before .before .before .before .before .before .before .before .before .word6 .ensures i;
+  esr = c .before .before .before .before .before .before .before .before .before .before .word7 .ensures i;
+  «esr_pending» = c .before .before .before .before .before .before .before .before .before .word8 .ensures i;
+  «icr_lo» = c .before .before .before .before .before .before .before .before .word9 .ensures i;
+  «icr_hi» = c .before .before .before .before .before .before .before .word10 .ensures i;
+  «lvt_cmci» = c .before .before .before .before .before .before .word11 .ensures i;
+  «lvt_timer» = c .before .before .before .before .before .word12 .ensures i;
+  «lvt_thermal» = c .before .before .before .before .word13 .ensures i;
+  «lvt_pmi» = c .before .before .before .word14 .ensures i;
+  «lvt_lint0» = c .before .before .word15 .ensures i;
+  «lvt_lint1» = c .before .word16 .ensures i;
+  «lvt_error» = c .word17 .ensures i;
+  isr = c .before .before .before .before .before .before .before .before .before .before .before .before .before .before .before .before .before .before .before .before .before .eight .ensures i;
+  tmr = c .before .before .before .before .before .before .before .before .before .before .before .before .before .before .before .before .before .before .before .before .eight2 .ensures i;
+  irr = c .before .before .before .before .before .before .before .before .before .before .before .before .before .before .before .before .before .before .before .eight3 .ensures i;
+}
 
 pub take-spec : {M : Type 1} → statement M
 take-spec =

@@ -1,0 +1,79 @@
+-- The search for the highest vector in service, word by word from the top, and that it may start at the word of a vector that was the highest. Assumes nothing.
+use Prim.Native.Nat.{ℕ, zero, suc, _+_, _*_, _/_, _%_, _^_, _≤_, _<_}
+use native.Mathlib.Nat.{mod-lt, pow-suc, div-eq-of-lt-le}
+use native.Mathlib.Omega.{arith}
+use native.Mathlib.Numerals.{add-one}
+use mathlib.Core.Bool.{Bool, true, false, _&&_}
+use mathlib.Core.List.{List}
+use mathlib.Core.Path.{_≡_, refl, sym, ap, _∙_}
+use lib.Count.{leading-top}
+use lib.Dec.{eqb, leb}
+use lib.ListN.{getD}
+use borrow.Author.Tests.{le-leb, lt-leb, ne-eqb, eqb-true, eqb-false}
+use Rattle.utils.specs.Set.{bit, last, highest, lastSet32}
+use Rattle.utils.proofs.Laws.{bit-above}
+use Rattle.utils.proofs.Search.{last-holds, last-after, last-lt, last-is, last-none}
+use Rattle.vlapic_regs.specs.Vectors.{inWords}
+use Rattle.vlapic_c.specs.Calls.{highestBelow}
+
+abbrev isServed : List ℕ → ℕ → Bool
+isServed words v = leb 32 v && inWords words v
+
+and-false : (b : Bool) → (b && false) ≡ false
+and-false true = refl
+and-false false = refl
+
+-- the last of more is the last of fewer, where the test fails between
+pub last-shrinks : (p : ℕ → Bool) (m n : ℕ) → n ≤ m → ((j : ℕ) → n ≤ j → j < m → p j ≡ false) → last m p ≡ last n p
+last-shrinks p zero zero h none = refl
+last-shrinks p zero (suc n) h none = absurd (omega arith)
+last-shrinks p (suc m) n h none = go (λ l. last-shrinks p m n l (λ j a b. none j a (omega arith))) (eqb n (suc m)) refl
+  where
+    go : (n ≤ m → last m p ≡ last n p) → (b : Bool) → eqb n (suc m) ≡ b → last (suc m) p ≡ last n p
+    go rest true e = ap (λ (k : ℕ). last k p) (sym (eqb-true n (suc m) e))
+    go rest false e =
+        let l : n ≤ m = omega (arith, eqb-false n (suc m) e) in
+        rw (none m l (omega arith)) (rest l)
+
+module _ (words : List ℕ) (w : ℕ) where
+  at : (j : ℕ) → w * 32 ≤ j → j < w * 32 + 32 → inWords words j ≡ bit (getD words w 0) (j % 32)
+  at j a b =
+      let q : j / 32 ≡ w = omega arith in
+      rw q
+
+  -- an empty word has none
+  pub passed : getD words w 0 ≡ 0 → highestBelow (w * 32 + 32) words ≡ highestBelow (w * 32) words
+  passed h =
+      last-shrinks (isServed words) (w * 32 + 32) (w * 32) (omega arith)
+      (λ j a b. rw (at j a b, h, bit-above 0 0 (j % 32) (omega arith) (omega arith)) (and-false (leb 32 j)))
+
+  -- of another the highest bit counts
+  top-bit : (n j : ℕ) → 2 ^ j ≤ n → n < 2 ^ suc j → bit n j ≡ true
+  top-bit n j l h =
+      let p : 2 ^ suc j ≡ 2 ^ j * 2 = pow-suc 2 j in
+      rw (div-eq-of-lt-le {k = 1} (2 ^ j) {m = n} (omega arith) (omega arith))
+
+  holds : (n : ℕ) → 0 < n → n < 2 ^ 32 → bit n (last 32 (bit n)) ≡ true
+  holds n p h =
+      let t = leading-top 32 n p h in
+      last-holds 32 (bit n) (t .0) (omega arith) (top-bit n (t .0) (t .2) (t .3))
+
+  pub found : 1 ≤ w → (getD words w 0 ≡ 0 → ⊥) → getD words w 0 < 2 ^ 32 → highestBelow (w * 32 + 32) words ≡ w * 32 + lastSet32 (getD words w 0)
+  unfolding lastSet32 highest
+  found l h b =
+      let n = getD words w 0 in
+      let k = last 32 (bit n) in
+      let s : k < 32 = last-lt 32 (bit n) (omega arith) in
+      let q : (w * 32 + k) % 32 ≡ k = omega arith in
+      rw (ne-eqb n 0 h)
+      (last-is (w * 32 + 32) (isServed words) (w * 32 + k) (omega arith)
+      (rw (le-leb 32 (w * 32 + k) (omega arith), at (w * 32 + k) (omega arith) (omega arith), q) (holds n (omega arith) b))
+      (λ j a c. rw (at j (omega arith) c, last-after 32 (bit n) (j % 32) (omega arith) (mod-lt j (omega arith))) (and-false (leb 32 j))))
+
+-- below 32 none counts
+pub none-low : (words : List ℕ) (n : ℕ) → n ≤ 32 → highestBelow n words ≡ 0
+none-low words n h = last-none n (isServed words) (λ j q. rw (lt-leb 32 j (omega arith)))
+
+pub small : (n : ℕ) → (n ≡ 0 → ⊥) → lastSet32 n < 32
+unfolding lastSet32 highest
+small n h = rw (ne-eqb n 0 h) (last-lt 32 (bit n) (omega arith))
