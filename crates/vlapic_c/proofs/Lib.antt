@@ -1,2 +1,4 @@
 pub mod Runs
 pub mod Search
+pub mod Steps
+pub mod View

@@ -9,12 +9,15 @@ use mathlib.Core.Path.{_≡_, refl, sym, ap, _∙_}
 use lib.Count.{leading-top}
 use lib.Dec.{eqb, leb}
 use lib.ListN.{getD}
+use lib.Seq.{getD-set-other}
 use borrow.Author.Tests.{le-leb, lt-leb, ne-eqb, eqb-true, eqb-false}
 use Rattle.utils.specs.Set.{bit, last, highest, lastSet32}
 use Rattle.utils.proofs.Laws.{bit-above}
 use Rattle.utils.proofs.Search.{last-holds, last-after, last-lt, last-is, last-none}
-use Rattle.vlapic_regs.specs.Vectors.{inWords}
-use Rattle.vlapic_c.specs.Calls.{highestBelow}
+use Rattle.vlapic_regs.specs.Vectors.{inWords, highestFrom}
+use Rattle.vlapic_c.specs.Words.{word, eight}
+use Rattle.vlapic_c.specs.Calls.{highestBelow, served, markedIn}
+use Rattle.vlapic_c.proofs.Runs.{at-from}
 
 abbrev isServed : List ℕ → ℕ → Bool
 isServed words v = leb 32 v && inWords words v
@@ -77,3 +80,24 @@ none-low words n h = last-none n (isServed words) (λ j q. rw (lt-leb 32 j (omeg
 pub small : (n : ℕ) → (n ≡ 0 → ⊥) → lastSet32 n < 32
 unfolding lastSet32 highest
 small n h = rw (ne-eqb n 0 h) (last-lt 32 (bit n) (omega arith))
+
+-- after the highest vector left, the next one stands in its word or below
+module _ (l : List ℕ) where
+  abbrev after : List ℕ
+  after = markedIn l 18 (served l) false
+
+  low : served l < 256
+  unfolding highestFrom
+  low = last-lt 256 (isServed (eight l 18)) (omega arith)
+
+  above : (j : ℕ) → (served l / 32 + 1) * 32 ≤ j → j < 256 → isServed (eight after 18) j ≡ false
+  unfolding highestFrom
+  above j a b =
+      let s = low in
+      let e : word after (18 + j / 32) ≡ word l (18 + j / 32) = ap (λ (x : ℕ). x % 2 ^ 32) (getD-set-other l (18 + served l / 32) (18 + j / 32) _ 0 (λ r. omega arith)) in
+      let p : getD (eight after 18) (j / 32) 0 ≡ getD (eight l 18) (j / 32) 0 = at-from after 18 8 (j / 32) (18 + j / 32) refl (omega arith) ∙ e ∙ sym (at-from l 18 8 (j / 32) (18 + j / 32) refl (omega arith)) in
+      rw p (last-after 256 (isServed (eight l 18)) j (omega arith) b)
+
+  pub next : highestBelow ((served l / 32 + 1) * 32) (eight after 18) ≡ served after
+  unfolding highestFrom
+  next = let s = low in sym (last-shrinks (isServed (eight after 18)) 256 ((served l / 32 + 1) * 32) (omega arith) above)

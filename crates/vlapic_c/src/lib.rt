@@ -114,18 +114,18 @@ fn put_singles(words: &mut [u64; 48], regs: VirtualApicRegs)
     words[17] = wide(regs.lvt_error);
 }
 
-fn put_eight(words: &mut [u64; 48], base: usize, eight: [u32; 8])
+fn put_eight(words: &mut [u64; 48], base: usize, run: [u32; 8])
     requires { ⌜ base < 41 ⌝ }
-    ensures { λ r. ⌜ now (words .exit) ≡ put (now (words .entry)) base eight ⌝ }
+    ensures { λ r. ⌜ now (words .exit) ≡ put (now (words .entry)) base run ⌝ }
 {
-    words[base] = eight[0] as u64;
-    words[base + 1] = eight[1] as u64;
-    words[base + 2] = eight[2] as u64;
-    words[base + 3] = eight[3] as u64;
-    words[base + 4] = eight[4] as u64;
-    words[base + 5] = eight[5] as u64;
-    words[base + 6] = eight[6] as u64;
-    words[base + 7] = eight[7] as u64;
+    words[base] = run[0] as u64;
+    words[base + 1] = run[1] as u64;
+    words[base + 2] = run[2] as u64;
+    words[base + 3] = run[3] as u64;
+    words[base + 4] = run[4] as u64;
+    words[base + 5] = run[5] as u64;
+    words[base + 6] = run[6] as u64;
+    words[base + 7] = run[7] as u64;
 }
 
 // Words 0 to 41 after the registers.

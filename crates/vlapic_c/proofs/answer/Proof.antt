@@ -1,78 +1,55 @@
 use borrow.Author.Needs.{needs}
 use Rattle.vlapic_c.proofs.answer.Statement.{statement}
 use Rattle.vlapic_c.proofs.answer.Tie as tie
-use Rattle.vlapic_c.proofs.answer.Reads as reads
-use Rattle.vlapic_c.proofs.answer.Lts as lts
-use Rattle.boundary.proofs.code.Reads as code-reads
-use Rattle.utils.proofs.set32.with.Reads as with-reads
-use Rattle.vlapic_c.proofs.wide.Reads as wide-reads
-use Rattle.vlapic_c.proofs.word.Reads as word-reads
 
--- src/lib.rt:357:31
 enum-told : tie.Need-enum-told
 enum-told c = search needs
 
--- src/lib.rt:359:51
 enum-told-2 : tie.Need-enum-told-2
 enum-told-2 c = search needs
 
--- src/lib.rt:359:46
 word-requires : tie.Need-word-requires
 word-requires c κs = search needs
 
--- src/lib.rt:359:17
 with-requires : tie.Need-with-requires
 with-requires c κs = search needs
 
--- src/lib.rt:360:24
 wide-requires : tie.Need-wide-requires
 wide-requires c κs = search needs
 
--- src/lib.rt:360:13
 element-write-words : tie.Need-element-write-words
 element-write-words c = search needs
 
--- src/lib.rt:363:26
 enum-known-answer : tie.Need-enum-known-answer
 enum-known-answer c = search needs
 
--- src/lib.rt:364:13
 element-write-ipi : tie.Need-element-write-ipi
 element-write-ipi c = search needs
 
--- src/lib.rt:365:39
 cast-t17 : tie.Need-cast-t17
 cast-t17 c = search needs
 
--- src/lib.rt:365:52
 cast-t18 : tie.Need-cast-t18
 cast-t18 c = search needs
 
--- src/lib.rt:365:13
 code-requires : tie.Need-code-requires
 code-requires c κs = search needs
 
--- src/lib.rt:367:28
 enum-known-answer-2 : tie.Need-enum-known-answer-2
 enum-known-answer-2 c = search needs
 
--- src/lib.rt:367:36
 code-requires-2 : tie.Need-code-requires-2
 code-requires-2 c κs = search needs
 
--- src/lib.rt:353:1
 returns : tie.Need-returns
 returns c = rw (c .enum-told .given .1)
 
--- src/lib.rt:353:1
 returns-2 : tie.Need-returns-2
 returns-2 c = rw (c .before .before .before .before .enum-told2 .given .1, c .wide .ensures, c .before .with .ensures, c .before .before .word .ensures)
 
--- src/lib.rt:353:1
 returns-3 : tie.Need-returns-3
 returns-3 c = rw (c .before .before .before .answer .given .1, c .code .ensures)
 
--- src/lib.rt:353:1
 returns-4 : tie.Need-returns-4
 returns-4 c = rw (c .before .before .answer2 .given .1, c .code2 .ensures)
 

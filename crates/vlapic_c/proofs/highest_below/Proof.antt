@@ -12,10 +12,6 @@ use native.Mathlib.Omega.{arith}
 use mathlib.Core.Path.{_≡_, refl, sym, ap, _∙_}
 use Rattle.vlapic_c.proofs.highest_below.Statement.{statement}
 use Rattle.vlapic_c.proofs.highest_below.Tie as tie
-use Rattle.vlapic_c.proofs.highest_below.Reads as reads
-use Rattle.vlapic_c.proofs.highest_below.Lts as lts
-use Rattle.utils.proofs.fls32.Reads as fls32-reads
-use Rattle.vlapic_c.proofs.word.Reads as word-reads
 
 -- the word below w is looked at
 module _ (l : List ℕ) (top w held : ℕ) (lo : 1 < w) (hi : w < 9) (inv : highestBelow (top * 32) (eight l 18) ≡ highestBelow (w * 32) (eight l 18)) (h : held ≡ word l (18 + (w - 1))) where
@@ -40,55 +36,42 @@ Inv-loop words top w₀ w = (w < 9) × (highestBelow (top * 32) (eight words 18)
 abbrev μ-loop : tie.MeasureT-loop
 μ-loop words top w₀ w = w
 
--- src/lib.rt:164:5
 loop-holds : tie.Need-loop-holds Inv-loop μ-loop
 loop-holds c = (omega arith, refl)
 
--- src/lib.rt:165:9
 sub-w : tie.Need-sub-w Inv-loop μ-loop
 sub-w c = omega arith
 
--- src/lib.rt:166:32
 add-word : tie.Need-add-word Inv-loop μ-loop
 add-word c = omega arith
 
--- src/lib.rt:166:13
 word-requires : tie.Need-word-requires Inv-loop μ-loop
 word-requires c κs = omega arith
 
--- src/lib.rt:168:21
 cast-result : tie.Need-cast-result Inv-loop μ-loop
 cast-result c = omega arith
 
--- src/lib.rt:168:20
 mul-result : tie.Need-mul-result Inv-loop μ-loop
 mul-result c = omega arith
 
--- src/lib.rt:168:37
 fls32-requires : tie.Need-fls32-requires Inv-loop μ-loop
 fls32-requires c κs = search needs
 
--- src/lib.rt:168:37
 cast-result-2 : tie.Need-cast-result-2 Inv-loop μ-loop
 cast-result-2 c = omega (arith, small _ (c .before .if1 .taken), c .fls32 .ensures)
 
--- src/lib.rt:168:20
 add-result : tie.Need-add-result Inv-loop μ-loop
 add-result c = omega (arith, small _ (c .before .if1 .taken), c .fls32 .ensures)
 
--- src/lib.rt:168:13
 returns : tie.Need-returns Inv-loop μ-loop
 returns c = hit (c .before .before .before .before .before .args .words .now) (c .before .before .before .before .before .args .top) (c .before .before .before .before .loop .w) (c .before .before .word .result) (omega arith) (omega arith) (c .before .before .before .before .loop .inv .1) (c .before .before .word .ensures) (c .fls32 .result) (c .before .if1 .taken) (c .fls32 .ensures)
 
--- src/lib.rt:164:5
 loop-less : tie.Need-loop-less Inv-loop μ-loop
 loop-less c = omega arith
 
--- src/lib.rt:164:5
 loop-again : tie.Need-loop-again Inv-loop μ-loop
 loop-again c = (omega arith, miss (c .before .before .before .before .args .words .now) (c .before .before .before .before .args .top) (c .before .before .before .loop .w) (c .before .word .result) (omega arith) (omega arith) (c .before .before .before .loop .inv .1) (c .before .word .ensures) (c .if1 .left))
 
--- src/lib.rt:159:1
 returns-2 : tie.Need-returns-2 Inv-loop μ-loop
 returns-2 c = sym (c .before .loop .inv .1 ∙ none-low (eight (c .before .before .args .words .now) 18) (c .before .loop .w * 32) (omega arith))
 

@@ -4,168 +4,126 @@ use mathlib.Core.Path.{sym}
 use borrow.Author.Needs.{needs}
 use Rattle.vlapic_c.proofs.put_eight.Statement.{statement}
 use Rattle.vlapic_c.proofs.put_eight.Tie as tie
-use Rattle.vlapic_c.proofs.put_eight.Reads as reads
-use Rattle.vlapic_c.proofs.put_eight.Lts as lts
 
--- src/lib.rt:121:19
 array-read-words : tie.Need-array-read-words
 array-read-words c = search needs
 
--- src/lib.rt:121:19
 cast-words : tie.Need-cast-words
 cast-words c = search needs
 
--- src/lib.rt:121:5
 mul-words : tie.Need-mul-words
 mul-words c = search needs
 
--- src/lib.rt:121:5
 element-write-words : tie.Need-element-write-words
 element-write-words c = search needs
 
--- src/lib.rt:122:23
 array-read-words-2 : tie.Need-array-read-words-2
 array-read-words-2 c = search needs
 
--- src/lib.rt:122:23
 cast-words-2 : tie.Need-cast-words-2
 cast-words-2 c = search needs
 
--- src/lib.rt:122:11
 add-words : tie.Need-add-words
 add-words c = search needs
 
--- src/lib.rt:122:5
 mul-words-2 : tie.Need-mul-words-2
 mul-words-2 c = search needs
 
--- src/lib.rt:122:5
 element-write-words-2 : tie.Need-element-write-words-2
 element-write-words-2 c = search needs
 
--- src/lib.rt:123:23
 array-read-words-3 : tie.Need-array-read-words-3
 array-read-words-3 c = search needs
 
--- src/lib.rt:123:23
 cast-words-3 : tie.Need-cast-words-3
 cast-words-3 c = search needs
 
--- src/lib.rt:123:11
 add-words-2 : tie.Need-add-words-2
 add-words-2 c = search needs
 
--- src/lib.rt:123:5
 mul-words-3 : tie.Need-mul-words-3
 mul-words-3 c = search needs
 
--- src/lib.rt:123:5
 element-write-words-3 : tie.Need-element-write-words-3
 element-write-words-3 c = search needs
 
--- src/lib.rt:124:23
 array-read-words-4 : tie.Need-array-read-words-4
 array-read-words-4 c = search needs
 
--- src/lib.rt:124:23
 cast-words-4 : tie.Need-cast-words-4
 cast-words-4 c = search needs
 
--- src/lib.rt:124:11
 add-words-3 : tie.Need-add-words-3
 add-words-3 c = search needs
 
--- src/lib.rt:124:5
 mul-words-4 : tie.Need-mul-words-4
 mul-words-4 c = search needs
 
--- src/lib.rt:124:5
 element-write-words-4 : tie.Need-element-write-words-4
 element-write-words-4 c = search needs
 
--- src/lib.rt:125:23
 array-read-words-5 : tie.Need-array-read-words-5
 array-read-words-5 c = search needs
 
--- src/lib.rt:125:23
 cast-words-5 : tie.Need-cast-words-5
 cast-words-5 c = search needs
 
--- src/lib.rt:125:11
 add-words-4 : tie.Need-add-words-4
 add-words-4 c = search needs
 
--- src/lib.rt:125:5
 mul-words-5 : tie.Need-mul-words-5
 mul-words-5 c = search needs
 
--- src/lib.rt:125:5
 element-write-words-5 : tie.Need-element-write-words-5
 element-write-words-5 c = search needs
 
--- src/lib.rt:126:23
 array-read-words-6 : tie.Need-array-read-words-6
 array-read-words-6 c = search needs
 
--- src/lib.rt:126:23
 cast-words-6 : tie.Need-cast-words-6
 cast-words-6 c = search needs
 
--- src/lib.rt:126:11
 add-words-5 : tie.Need-add-words-5
 add-words-5 c = search needs
 
--- src/lib.rt:126:5
 mul-words-6 : tie.Need-mul-words-6
 mul-words-6 c = search needs
 
--- src/lib.rt:126:5
 element-write-words-6 : tie.Need-element-write-words-6
 element-write-words-6 c = search needs
 
--- src/lib.rt:127:23
 array-read-words-7 : tie.Need-array-read-words-7
 array-read-words-7 c = search needs
 
--- src/lib.rt:127:23
 cast-words-7 : tie.Need-cast-words-7
 cast-words-7 c = search needs
 
--- src/lib.rt:127:11
 add-words-6 : tie.Need-add-words-6
 add-words-6 c = search needs
 
--- src/lib.rt:127:5
 mul-words-7 : tie.Need-mul-words-7
 mul-words-7 c = search needs
 
--- src/lib.rt:127:5
 element-write-words-7 : tie.Need-element-write-words-7
 element-write-words-7 c = search needs
 
--- src/lib.rt:128:23
 array-read-words-8 : tie.Need-array-read-words-8
 array-read-words-8 c = search needs
 
--- src/lib.rt:128:23
 cast-words-8 : tie.Need-cast-words-8
 cast-words-8 c = search needs
 
--- src/lib.rt:128:11
 add-words-7 : tie.Need-add-words-7
 add-words-7 c = search needs
 
--- src/lib.rt:128:5
 mul-words-8 : tie.Need-mul-words-8
 mul-words-8 c = search needs
 
--- src/lib.rt:128:5
 element-write-words-8 : tie.Need-element-write-words-8
 element-write-words-8 c = search needs
 
--- src/lib.rt:117:1
 returns : tie.Need-returns
-returns c = sym (put-eight (c .args .words .now) (c .args .base) (c .args .eight) (search needs))
+returns c = sym (put-eight (c .args .words .now) (c .args .base) (c .args .t3) (search needs))
 
 pub put-eight-spec : {M : Type 1} → statement M
 put-eight-spec =

@@ -1,39 +1,28 @@
 use borrow.Author.Needs.{needs}
 use Rattle.vlapic_c.proofs.put_unless.Statement.{statement}
 use Rattle.vlapic_c.proofs.put_unless.Tie as tie
-use Rattle.vlapic_c.proofs.put_unless.Reads as reads
-use Rattle.vlapic_c.proofs.put_unless.Lts as lts
-use Rattle.vlapic_c.proofs.put.Reads as put-reads
 
--- src/lib.rt:149:34
 enum-told : tie.Need-enum-told
 enum-told c = search needs
 
--- src/lib.rt:149:30
 put-requires : tie.Need-put-requires
 put-requires c κs = search needs
 
--- src/lib.rt:150:28
 enum-known-answer : tie.Need-enum-known-answer
 enum-known-answer c = search needs
 
--- src/lib.rt:150:52
 put-requires-2 : tie.Need-put-requires-2
 put-requires-2 c κs = search needs
 
--- src/lib.rt:151:30
 enum-known-answer-2 : tie.Need-enum-known-answer-2
 enum-known-answer-2 c = search needs
 
--- src/lib.rt:145:1
 returns : tie.Need-returns
 returns c = rw (c .before .before .enum-told .given .1) (c .put .ensures)
 
--- src/lib.rt:145:1
 returns-2 : tie.Need-returns-2
 returns-2 c = rw (c .before .before .before .answer .given .1) (c .put2 .ensures)
 
--- src/lib.rt:145:1
 returns-3 : tie.Need-returns-3
 returns-3 c = rw (c .before .answer2 .given .1)
 

@@ -2,51 +2,37 @@ use mathlib.Core.Path.{refl}
 use borrow.Author.Needs.{needs}
 use Rattle.vlapic_c.proofs.sent.Statement.{statement}
 use Rattle.vlapic_c.proofs.sent.Tie as tie
-use Rattle.vlapic_c.proofs.sent.Reads as reads
-use Rattle.vlapic_c.proofs.sent.Lts as lts
-use Rattle.boundary.proofs.code.Reads as code-reads
 
--- src/lib.rt:298:30
 enum-told : tie.Need-enum-told
 enum-told c = search needs
 
--- src/lib.rt:299:28
 enum-known-answer : tie.Need-enum-known-answer
 enum-known-answer c = search needs
 
--- src/lib.rt:300:13
 element-write-ipi : tie.Need-element-write-ipi
 element-write-ipi c = search needs
 
--- src/lib.rt:301:39
 cast-t10 : tie.Need-cast-t10
 cast-t10 c = search needs
 
--- src/lib.rt:301:52
 cast-t11 : tie.Need-cast-t11
 cast-t11 c = search needs
 
--- src/lib.rt:301:13
 code-requires : tie.Need-code-requires
 code-requires c κs = search needs
 
--- src/lib.rt:303:30
 enum-known-answer-2 : tie.Need-enum-known-answer-2
 enum-known-answer-2 c = search needs
 
--- src/lib.rt:303:38
 code-requires-2 : tie.Need-code-requires-2
 code-requires-2 c κs = search needs
 
--- src/lib.rt:294:1
 returns : tie.Need-returns
 returns c = search needs
 
--- src/lib.rt:294:1
 returns-2 : tie.Need-returns-2
 returns-2 c = rw (c .before .before .before .answer .given .1, c .code .ensures) (refl, refl)
 
--- src/lib.rt:294:1
 returns-3 : tie.Need-returns-3
 returns-3 c = rw (c .before .before .answer2 .given .1, c .code2 .ensures) (refl, refl)
 

@@ -2,101 +2,73 @@ use Rattle.vlapic_c.specs.Words.{view}
 use borrow.Author.Needs.{needs}
 use Rattle.vlapic_c.proofs.take.Statement.{statement}
 use Rattle.vlapic_c.proofs.take.Tie as tie
-use Rattle.vlapic_c.proofs.take.Reads as reads
-use Rattle.vlapic_c.proofs.take.Lts as lts
-use Rattle.boundary.proofs.is_up.Reads as is-up-reads
-use Rattle.vlapic_c.proofs.eight.Reads as eight-reads
-use Rattle.vlapic_c.proofs.word.Reads as word-reads
 
--- src/lib.rt:60:9
 eight-requires : tie.Need-eight-requires
 eight-requires c κs = search needs
 
--- src/lib.rt:61:9
 eight-requires-2 : tie.Need-eight-requires-2
 eight-requires-2 c κs = search needs
 
--- src/lib.rt:62:9
 eight-requires-3 : tie.Need-eight-requires-3
 eight-requires-3 c κs = search needs
 
--- src/lib.rt:64:33
 element-copy-out-is-up : tie.Need-element-copy-out-is-up
 element-copy-out-is-up c = search needs
 
--- src/lib.rt:64:17
 is-up-requires : tie.Need-is-up-requires
 is-up-requires c κs = search needs
 
--- src/lib.rt:65:19
 word-requires : tie.Need-word-requires
 word-requires c κs = search needs
 
--- src/lib.rt:66:14
 word-requires-2 : tie.Need-word-requires-2
 word-requires-2 c κs = search needs
 
--- src/lib.rt:67:14
 word-requires-3 : tie.Need-word-requires-3
 word-requires-3 c κs = search needs
 
--- src/lib.rt:68:14
 word-requires-4 : tie.Need-word-requires-4
 word-requires-4 c κs = search needs
 
--- src/lib.rt:69:14
 word-requires-5 : tie.Need-word-requires-5
 word-requires-5 c κs = search needs
 
--- src/lib.rt:70:14
 word-requires-6 : tie.Need-word-requires-6
 word-requires-6 c κs = search needs
 
--- src/lib.rt:71:14
 word-requires-7 : tie.Need-word-requires-7
 word-requires-7 c κs = search needs
 
--- src/lib.rt:72:22
 word-requires-8 : tie.Need-word-requires-8
 word-requires-8 c κs = search needs
 
--- src/lib.rt:73:17
 word-requires-9 : tie.Need-word-requires-9
 word-requires-9 c κs = search needs
 
--- src/lib.rt:74:17
 word-requires-10 : tie.Need-word-requires-10
 word-requires-10 c κs = search needs
 
--- src/lib.rt:75:19
 word-requires-11 : tie.Need-word-requires-11
 word-requires-11 c κs = search needs
 
--- src/lib.rt:76:20
 word-requires-12 : tie.Need-word-requires-12
 word-requires-12 c κs = search needs
 
--- src/lib.rt:77:22
 word-requires-13 : tie.Need-word-requires-13
 word-requires-13 c κs = search needs
 
--- src/lib.rt:78:18
 word-requires-14 : tie.Need-word-requires-14
 word-requires-14 c κs = search needs
 
--- src/lib.rt:79:20
 word-requires-15 : tie.Need-word-requires-15
 word-requires-15 c κs = search needs
 
--- src/lib.rt:80:20
 word-requires-16 : tie.Need-word-requires-16
 word-requires-16 c κs = search needs
 
--- src/lib.rt:81:20
 word-requires-17 : tie.Need-word-requires-17
 word-requires-17 c κs = search needs
 
--- src/lib.rt:57:1
 returns : tie.Need-returns
 unfolding view
 returns c = λ i. record {
