@@ -2,3 +2,4 @@ pub mod Runs
 pub mod Search
 pub mod Steps
 pub mod View
+pub mod Back

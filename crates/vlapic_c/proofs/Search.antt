@@ -86,18 +86,18 @@ module _ (l : List ℕ) where
   abbrev after : List ℕ
   after = markedIn l 18 (served l) false
 
-  low : served l < 256
+  pub served-small : served l < 256
   unfolding highestFrom
-  low = last-lt 256 (isServed (eight l 18)) (omega arith)
+  served-small = last-lt 256 (isServed (eight l 18)) (omega arith)
 
   above : (j : ℕ) → (served l / 32 + 1) * 32 ≤ j → j < 256 → isServed (eight after 18) j ≡ false
   unfolding highestFrom
   above j a b =
-      let s = low in
+      let s = served-small in
       let e : word after (18 + j / 32) ≡ word l (18 + j / 32) = ap (λ (x : ℕ). x % 2 ^ 32) (getD-set-other l (18 + served l / 32) (18 + j / 32) _ 0 (λ r. omega arith)) in
       let p : getD (eight after 18) (j / 32) 0 ≡ getD (eight l 18) (j / 32) 0 = at-from after 18 8 (j / 32) (18 + j / 32) refl (omega arith) ∙ e ∙ sym (at-from l 18 8 (j / 32) (18 + j / 32) refl (omega arith)) in
       rw p (last-after 256 (isServed (eight l 18)) j (omega arith) b)
 
   pub next : highestBelow ((served l / 32 + 1) * 32) (eight after 18) ≡ served after
   unfolding highestFrom
-  next = let s = low in sym (last-shrinks (isServed (eight after 18)) 256 ((served l / 32 + 1) * 32) (omega arith) above)
+  next = let s = served-small in sym (last-shrinks (isServed (eight after 18)) 256 ((served l / 32 + 1) * 32) (omega arith) above)

@@ -25,11 +25,12 @@ use Rattle.boundary.specs.Lent.{isUp, marked, Shows}
 use Rattle.vlapic_c.specs.Words.{word, wordsFrom, eight, view, put, putRegs, singles}
 use Rattle.vlapic_c.specs.Calls.{served, markedIn, ranked, acceptWords, endedWords, eoiWords}
 use Rattle.vlapic_c.proofs.Runs.{at-from, from-other, from-set}
+use Rattle.vlapic_c.proofs.Search.{served-small}
 
-abbrev cut : ℕ → ℕ
+abbrev pub cut : ℕ → ℕ
 cut x = x % 2 ^ 32
 
-cut-small : (x : ℕ) → cut x < 2 ^ 32
+pub cut-small : (x : ℕ) → cut x < 2 ^ 32
 cut-small x = mod-lt x (omega arith)
 
 -- ---- words of which some differ
@@ -124,3 +125,58 @@ ranked-view l m isr tmr n same p q r =
     (from-other m 18 8 3 x (inl (omega arith)) ∙ p)
     (from-other m 26 8 3 x (inl (omega arith)) ∙ q)
     (from-other m 34 8 3 x (inl (omega arith)) ∙ r)
+
+-- ---- acceptance and EOI
+
+module _ (l : List ℕ) (n : length l ≡ 48) where
+  two-marks : (v : ℕ) (up : Bool) → v < 256
+      → view (ranked (markedIn (markedIn l 18 v true) 26 v up))
+      ≡ servicing (view l) (priority (word l 2) (highestFrom 32 (withVector (eight l 18) v))) (withVector (eight l 18) v)
+      (set (eight l 26) (v / 32) (marked (getD (eight l 26) (v / 32) 0) (v % 32) up))
+  two-marks v up h =
+      let a = markedIn l 18 v true in
+      let x = marked (word l (18 + v / 32)) (v % 32) true in
+      let y = marked (word a (26 + v / 32)) (v % 32) up in
+      let t : eight a 26 ≡ eight l 26 = from-other l 26 8 (18 + v / 32) x (inl (omega arith)) in
+      let na : length a ≡ 48 = simp length-set n in
+      ranked-view l (markedIn a 26 v up) (withVector (eight l 18) v) (set (eight l 26) (v / 32) (marked (getD (eight l 26) (v / 32) 0) (v % 32) up))
+      (simp length-set n)
+      (λ j b. getD-set-other a (26 + v / 32) j y 0 (λ e. omega arith) ∙ getD-set-other l (18 + v / 32) j x 0 (λ e. omega arith))
+      (from-other a 18 8 (26 + v / 32) y (inr (omega arith)) ∙ mark-here l 18 v true (omega arith) h)
+      (mark-here a 26 v up (omega arith) h ∙ ap (λ (e : List ℕ). set e (v / 32) (marked (getD e (v / 32) 0) (v % 32) up)) t)
+      (from-other a 34 8 (26 + v / 32) y (inl (omega arith)) ∙ from-other l 34 8 (18 + v / 32) x (inl (omega arith)))
+
+  set-cond : (e : List ℕ) (v : ℕ) (up : Bool) → set e (v / 32) (marked (getD e (v / 32) 0) (v % 32) up) ≡ cond up (withVector e v) (withoutVector e v)
+  set-cond e v true = refl
+  set-cond e v false = refl
+
+  pub accept-shows : (v level : ℕ) → v < 256 → Shows view (acceptWords l v level) (acceptInterrupt (view l) (record { 0 = v }) (isUp level))
+  unfolding acceptWords acceptInterrupt updatePpr view
+  accept-shows v level h =
+      ( rw (le-ltb 255 v (omega arith)) (two-marks v (isUp level) h ∙ ap (λ (t : List ℕ). servicing (view l) (priority (word l 2) (highestFrom 32 (withVector (eight l 18) v))) (withVector (eight l 18) v) t) (set-cond (eight l 26) v (isUp level)))
+      , rw (le-ltb 255 v (omega arith)))
+
+  end-view : view (ranked (markedIn l 18 (served l) false))
+      ≡ servicing (view l) (priority (word l 2) (highestFrom 32 (withoutVector (eight l 18) (served l)))) (withoutVector (eight l 18) (served l)) (eight l 26)
+  end-view =
+      let v = served l in
+      let h = served-small l in
+      let x = marked (word l (18 + v / 32)) (v % 32) false in
+      ranked-view l (markedIn l 18 v false) (withoutVector (eight l 18) v) (eight l 26)
+      (simp length-set n)
+      (λ j b. getD-set-other l (18 + v / 32) j x 0 (λ e. omega arith))
+      (mark-here l 18 v false (omega arith) h)
+      (from-other l 26 8 (18 + v / 32) x (inl (omega arith)))
+      (from-other l 34 8 (18 + v / 32) x (inl (omega arith)))
+
+  pub ended-shows : view (endedWords l) ≡ handleEoi (view l) .state
+  unfolding handleEoi updatePpr view
+  ended-shows = go (eqb (served l) 0) refl
+    where
+      go : (b : Bool) → eqb (served l) 0 ≡ b → view (endedWords l) ≡ handleEoi (view l) .state
+      go true e = rw e
+      go false e = rw e end-view
+
+  pub eoi-shows : Shows view (eoiWords l) (handleEoi (view l))
+  unfolding eoiWords
+  eoi-shows = (ended-shows, refl)
