@@ -100,28 +100,28 @@ module _ (l : List ℕ) (s : VirtualApicRegs) (n : length l ≡ 48) (f : Fitting
       let et = f .tmr-eight in
       let er = f .irr-eight in
       λ i. record {
-      x2apic = (ap isUp (single 0 (omega arith)) ∙ flag-up (s .x2apic)) i;
-      «vapic_id» = (ap cut (single 1 (omega arith)) ∙ f .vapic-id-fits) i;
-      tpr = (ap cut (single 2 (omega arith)) ∙ f .tpr-fits) i;
-      ppr = (ap cut (single 3 (omega arith)) ∙ f .ppr-fits) i;
-      ldr = (ap cut (single 4 (omega arith)) ∙ f .ldr-fits) i;
-      dfr = (ap cut (single 5 (omega arith)) ∙ f .dfr-fits) i;
-      svr = (ap cut (single 6 (omega arith)) ∙ f .svr-fits) i;
-      esr = (ap cut (single 7 (omega arith)) ∙ f .esr-fits) i;
-      «esr_pending» = (ap cut (single 8 (omega arith)) ∙ f .esr-pending-fits) i;
-      «icr_lo» = (ap cut (single 9 (omega arith)) ∙ f .icr-lo-fits) i;
-      «icr_hi» = (ap cut (single 10 (omega arith)) ∙ f .icr-hi-fits) i;
-      «lvt_cmci» = (ap cut (single 11 (omega arith)) ∙ f .lvt-cmci-fits) i;
-      «lvt_timer» = (ap cut (single 12 (omega arith)) ∙ f .lvt-timer-fits) i;
-      «lvt_thermal» = (ap cut (single 13 (omega arith)) ∙ f .lvt-thermal-fits) i;
-      «lvt_pmi» = (ap cut (single 14 (omega arith)) ∙ f .lvt-pmi-fits) i;
-      «lvt_lint0» = (ap cut (single 15 (omega arith)) ∙ f .lvt-lint0-fits) i;
-      «lvt_lint1» = (ap cut (single 16 (omega arith)) ∙ f .lvt-lint1-fits) i;
-      «lvt_error» = (ap cut (single 17 (omega arith)) ∙ f .lvt-error-fits) i;
-      isr = (from-beside c 34 18 8 (s .irr) (inl (omega arith)) ∙ from-beside b 26 18 8 (s .tmr) (inl (omega arith)) ∙ from-put a 18 0 18 8 (s .isr) refl (omega arith) (omega arith) ∙ f .isr-fits) i;
-      tmr = (from-beside c 34 26 8 (s .irr) (inl (omega arith)) ∙ from-put b 26 0 26 8 (s .tmr) refl (omega arith) (omega arith) ∙ f .tmr-fits) i;
-      irr = (from-put c 34 0 34 8 (s .irr) refl (omega arith) (omega arith) ∙ f .irr-fits) i;
-    }
+        x2apic = (ap isUp (single 0 (omega arith)) ∙ flag-up (s .x2apic)) i;
+        «vapic_id» = (ap cut (single 1 (omega arith)) ∙ f .vapic-id-fits) i;
+        tpr = (ap cut (single 2 (omega arith)) ∙ f .tpr-fits) i;
+        ppr = (ap cut (single 3 (omega arith)) ∙ f .ppr-fits) i;
+        ldr = (ap cut (single 4 (omega arith)) ∙ f .ldr-fits) i;
+        dfr = (ap cut (single 5 (omega arith)) ∙ f .dfr-fits) i;
+        svr = (ap cut (single 6 (omega arith)) ∙ f .svr-fits) i;
+        esr = (ap cut (single 7 (omega arith)) ∙ f .esr-fits) i;
+        «esr_pending» = (ap cut (single 8 (omega arith)) ∙ f .esr-pending-fits) i;
+        «icr_lo» = (ap cut (single 9 (omega arith)) ∙ f .icr-lo-fits) i;
+        «icr_hi» = (ap cut (single 10 (omega arith)) ∙ f .icr-hi-fits) i;
+        «lvt_cmci» = (ap cut (single 11 (omega arith)) ∙ f .lvt-cmci-fits) i;
+        «lvt_timer» = (ap cut (single 12 (omega arith)) ∙ f .lvt-timer-fits) i;
+        «lvt_thermal» = (ap cut (single 13 (omega arith)) ∙ f .lvt-thermal-fits) i;
+        «lvt_pmi» = (ap cut (single 14 (omega arith)) ∙ f .lvt-pmi-fits) i;
+        «lvt_lint0» = (ap cut (single 15 (omega arith)) ∙ f .lvt-lint0-fits) i;
+        «lvt_lint1» = (ap cut (single 16 (omega arith)) ∙ f .lvt-lint1-fits) i;
+        «lvt_error» = (ap cut (single 17 (omega arith)) ∙ f .lvt-error-fits) i;
+        isr = (from-beside c 34 18 8 (s .irr) (inl (omega arith)) ∙ from-beside b 26 18 8 (s .tmr) (inl (omega arith)) ∙ from-put a 18 0 18 8 (s .isr) refl (omega arith) (omega arith) ∙ f .isr-fits) i;
+        tmr = (from-beside c 34 26 8 (s .irr) (inl (omega arith)) ∙ from-put b 26 0 26 8 (s .tmr) refl (omega arith) (omega arith) ∙ f .tmr-fits) i;
+        irr = (from-put c 34 0 34 8 (s .irr) refl (omega arith) (omega arith) ∙ f .irr-fits) i;
+      }
 
 -- ---- which do
 

@@ -3,3 +3,4 @@ pub mod Search
 pub mod Steps
 pub mod View
 pub mod Back
+pub mod Shown

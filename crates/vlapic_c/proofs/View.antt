@@ -63,28 +63,28 @@ module _ (l m : List ℕ) where
     irr = irr-is i;
   }
 
-  pub view-commanding : (pending lo hi : ℕ) → ((j : ℕ) → (j ≡ 8 → ⊥) → (j ≡ 9 → ⊥) → (j ≡ 10 → ⊥) → getD m j 0 ≡ getD l j 0) → word m 8 ≡ pending → word m 9 ≡ lo → word m 10 ≡ hi
+  pub view-commanding : (pending lo hi : ℕ) → ((j : ℕ) → (j ≡ 8 → ⊥) → (j ≡ 9 → ⊥) → (j ≡ 10 → ⊥) → j < 18 → getD m j 0 ≡ getD l j 0) → word m 8 ≡ pending → word m 9 ≡ lo → word m 10 ≡ hi
       → eight m 18 ≡ eight l 18 → eight m 26 ≡ eight l 26 → eight m 34 ≡ eight l 34 → view m ≡ commanding (view l) pending lo hi
   unfolding view
   view-commanding pending lo hi same p q r isr-is tmr-is irr-is = λ i. record {
-    x2apic = ap isUp (same 0 (omega arith) (omega arith) (omega arith)) i;
-    «vapic_id» = ap cut (same 1 (omega arith) (omega arith) (omega arith)) i;
-    tpr = ap cut (same 2 (omega arith) (omega arith) (omega arith)) i;
-    ppr = ap cut (same 3 (omega arith) (omega arith) (omega arith)) i;
-    ldr = ap cut (same 4 (omega arith) (omega arith) (omega arith)) i;
-    dfr = ap cut (same 5 (omega arith) (omega arith) (omega arith)) i;
-    svr = ap cut (same 6 (omega arith) (omega arith) (omega arith)) i;
-    esr = ap cut (same 7 (omega arith) (omega arith) (omega arith)) i;
+    x2apic = ap isUp (same 0 (omega arith) (omega arith) (omega arith) (omega arith)) i;
+    «vapic_id» = ap cut (same 1 (omega arith) (omega arith) (omega arith) (omega arith)) i;
+    tpr = ap cut (same 2 (omega arith) (omega arith) (omega arith) (omega arith)) i;
+    ppr = ap cut (same 3 (omega arith) (omega arith) (omega arith) (omega arith)) i;
+    ldr = ap cut (same 4 (omega arith) (omega arith) (omega arith) (omega arith)) i;
+    dfr = ap cut (same 5 (omega arith) (omega arith) (omega arith) (omega arith)) i;
+    svr = ap cut (same 6 (omega arith) (omega arith) (omega arith) (omega arith)) i;
+    esr = ap cut (same 7 (omega arith) (omega arith) (omega arith) (omega arith)) i;
     «esr_pending» = p i;
     «icr_lo» = q i;
     «icr_hi» = r i;
-    «lvt_cmci» = ap cut (same 11 (omega arith) (omega arith) (omega arith)) i;
-    «lvt_timer» = ap cut (same 12 (omega arith) (omega arith) (omega arith)) i;
-    «lvt_thermal» = ap cut (same 13 (omega arith) (omega arith) (omega arith)) i;
-    «lvt_pmi» = ap cut (same 14 (omega arith) (omega arith) (omega arith)) i;
-    «lvt_lint0» = ap cut (same 15 (omega arith) (omega arith) (omega arith)) i;
-    «lvt_lint1» = ap cut (same 16 (omega arith) (omega arith) (omega arith)) i;
-    «lvt_error» = ap cut (same 17 (omega arith) (omega arith) (omega arith)) i;
+    «lvt_cmci» = ap cut (same 11 (omega arith) (omega arith) (omega arith) (omega arith)) i;
+    «lvt_timer» = ap cut (same 12 (omega arith) (omega arith) (omega arith) (omega arith)) i;
+    «lvt_thermal» = ap cut (same 13 (omega arith) (omega arith) (omega arith) (omega arith)) i;
+    «lvt_pmi» = ap cut (same 14 (omega arith) (omega arith) (omega arith) (omega arith)) i;
+    «lvt_lint0» = ap cut (same 15 (omega arith) (omega arith) (omega arith) (omega arith)) i;
+    «lvt_lint1» = ap cut (same 16 (omega arith) (omega arith) (omega arith) (omega arith)) i;
+    «lvt_error» = ap cut (same 17 (omega arith) (omega arith) (omega arith) (omega arith)) i;
     isr = isr-is i;
     tmr = tmr-is i;
     irr = irr-is i;
@@ -152,9 +152,10 @@ module _ (l : List ℕ) (n : length l ≡ 48) where
 
   pub accept-shows : (v level : ℕ) → v < 256 → Shows view (acceptWords l v level) (acceptInterrupt (view l) (record { 0 = v }) (isUp level))
   unfolding acceptWords acceptInterrupt updatePpr view
-  accept-shows v level h =
-      ( rw (le-ltb 255 v (omega arith)) (two-marks v (isUp level) h ∙ ap (λ (t : List ℕ). servicing (view l) (priority (word l 2) (highestFrom 32 (withVector (eight l 18) v))) (withVector (eight l 18) v) t) (set-cond (eight l 26) v (isUp level)))
-      , rw (le-ltb 255 v (omega arith)))
+  accept-shows v level h = (
+    rw (le-ltb 255 v (omega arith)) (two-marks v (isUp level) h ∙ ap (λ (t : List ℕ). servicing (view l) (priority (word l 2) (highestFrom 32 (withVector (eight l 18) v))) (withVector (eight l 18) v) t) (set-cond (eight l 26) v (isUp level))),
+    rw (le-ltb 255 v (omega arith)),
+  )
 
   end-view : view (ranked (markedIn l 18 (served l) false))
       ≡ servicing (view l) (priority (word l 2) (highestFrom 32 (withoutVector (eight l 18) (served l)))) (withoutVector (eight l 18) (served l)) (eight l 26)

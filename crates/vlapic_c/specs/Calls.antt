@@ -3,6 +3,7 @@
 use Prim.Native.Nat.{ℕ, _+_, _%_, _^_}
 use mathlib.Core.Bool.{Bool, true, false, cond, _&&_}
 use mathlib.Core.List.{List, [], _∷_}
+use mathlib.Core.Path.{_≡_}
 use lib.Dec.{eqb, leb, ltb}
 use lib.ListN.{getD, set}
 use Rattle.utils.specs.Set.{with, last}
@@ -109,6 +110,10 @@ sentMask ipi Nothing = ipi
 sentMask ipi (One a) = ipi
 sentMask ipi (Two a b) = ipi
 sentMask ipi (Three kind vector mask) = set ipi 0 mask
+
+-- the words after a write, viewed as registers, the mask's word and the code are those of an outcome
+abbrev pub ShowsSent : List ℕ → Sent → Outcome VirtualApicRegs → Type 0
+ShowsSent ipi c o = (view (c .words) ≡ o .state) × (c .ipi ≡ sentMask ipi (o .reply)) × (c .code ≡ sentCode (o .reply))
 
 abbrev pub sentBy : List ℕ → List ℕ → Reply → Sent
 sentBy l ipi r = sending l (sentMask ipi r) (sentCode r)
