@@ -4,3 +4,4 @@ pub mod Steps
 pub mod View
 pub mod Back
 pub mod Shown
+pub mod Same
