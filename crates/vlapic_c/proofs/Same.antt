@@ -23,11 +23,12 @@ use Rattle.vlapic_icr.specs.declared.Dest.{Dest}
 use Rattle.vlapic_icr.specs.declared.Dest.the-variants.{Mask, NoMask}
 use Rattle.vlapic_icr.specs.declared.IcrAnswer.{IcrAnswer}
 use Rattle.vlapic_icr.specs.declared.IcrAnswer.the-variants as icr
-use Rattle.vlapic_icr.specs.Fields.{vectorField, deliveryMode, isReservedMode, isIllegalVector, isInvalidShorthand, isUnsent}
+use Rattle.vlapic_icr.specs.Fields.{vectorField, deliveryMode, idle, isReservedMode, isIllegalVector, isInvalidShorthand, isUnsent}
 use Rattle.vlapic_icr.specs.Icr.{deliver, calculateDest, command, selfIpi}
 use Rattle.vlapic.specs.declared.VirtualApicRegs.{VirtualApicRegs}
+use Rattle.vlapic.specs.Regs.{withCommand}
 use Rattle.vlapic.specs.Answers.{done}
-use Rattle.vlapic.specs.Calls.{outOfRange, answered, writeIcr, writeIcrLow, writeSelfIpi, handleWrite}
+use Rattle.vlapic.specs.Calls.{outOfRange, answered, commandOf, writeIcr, writeIcrLow, writeSelfIpi, handleWrite}
 use Rattle.vlapic.specs.Priority.{broadcasts, endOf, handleEoi}
 use Rattle.vlapic.specs.Registers.{wordAt, readable, eightFrom, handleRead, isStored, writeStored}
 use Rattle.vlapic_c.specs.Words.{word, eight, view}
@@ -192,6 +193,11 @@ answered-fits s icr.SendIllegalVector h = tt
 answered-fits s (icr.Ipi kind vector mask) h = h
 answered-fits s (icr.Refused why) h = tt
 
+icr-fits : (s : VirtualApicRegs) (lo hi num active : ℕ) → SentFits (writeIcr s lo hi num active .reply)
+unfolding writeIcr
+icr-fits s lo hi num active =
+    answered-fits (withCommand s (idle lo) hi) (command (commandOf (withCommand s (idle lo) hi)) num active) (command-fits (commandOf (withCommand s (idle lo) hi)) num active)
+
 abbrev OutcomeFits : Outcome VirtualApicRegs → Type 0
 OutcomeFits o = SentFits (o .reply)
 
@@ -208,14 +214,14 @@ self-fits id v h = go (ltb (v .0) 16)
     go false = (omega arith, h)
 
 pub write-fits : (s : VirtualApicRegs) (offset val width num active : ℕ) → SentFits (handleWrite s offset val width num active .reply)
-unfolding handleWrite writeIcrLow writeIcr writeSelfIpi writeStored
+unfolding handleWrite writeIcrLow writeSelfIpi writeStored
 write-fits s offset val width num active =
     either (outOfRange num (s .«vapic_id»)) _ _ tt
     (either (eqb offset 0xb0) _ _ tt
     (either (eqb offset 0x300) _ _
     (either (s .x2apic) _ _
-    (either (eqb width 8) _ _ (answered-fits _ _ (command-fits _ num active)) tt)
-    (either (eqb width 8) _ _ tt (answered-fits _ _ (command-fits _ num active))))
+    (either (eqb width 8) _ _ (icr-fits s (val % 0x100000000) (val / 0x100000000) num active) tt)
+    (either (eqb width 8) _ _ tt (icr-fits s (val % 0x100000000) (s .«icr_hi») num active)))
     (either (eqb offset 0x3f0) _ _
-    (either (s .x2apic) _ _ (answered-fits s _ (self-fits (record { 0 = s .«vapic_id» }) (record { 0 = val % 256 }) (mod-lt val (omega arith)))) tt)
+    (either (s .x2apic) _ _ (answered-fits s (selfIpi (record { 0 = s .«vapic_id» }) (record { 0 = val % 256 })) (self-fits (record { 0 = s .«vapic_id» }) (record { 0 = val % 256 }) (mod-lt val (omega arith)))) tt)
     (either (isStored s offset) _ _ tt tt))))
