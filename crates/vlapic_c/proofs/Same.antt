@@ -117,7 +117,7 @@ coded-fits (Refused why) h = tt
 coded-fits Nothing h = tt
 coded-fits (One a) h = absurd h
 coded-fits (Two a b) h = absurd h
-coded-fits (Three kind vector mask) h = h
+coded-fits (Three kind vector mask) h = let a = h .0 in let b = h .1 in (omega arith, omega arith)
 
 apart : (a b : ℕ) (r : Reply) → Two a b ≡ r → r ≡ Nothing → _≡_ {A = ℕ} 0 1
 apart a b r p q = cc

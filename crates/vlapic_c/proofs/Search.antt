@@ -6,6 +6,7 @@ use native.Mathlib.Numerals.{add-one}
 use mathlib.Core.Bool.{Bool, true, false, _&&_}
 use mathlib.Core.List.{List}
 use mathlib.Core.Path.{_≡_, refl, sym, ap, _∙_}
+use lib.Bits.{bitAnd, bitOr, and-zero-r, or-add-and, and-le-l}
 use lib.Count.{leading-top}
 use lib.Dec.{eqb, leb}
 use lib.ListN.{getD}
@@ -80,6 +81,43 @@ none-low words n h = last-none n (isServed words) (λ j q. rw (lt-leb 32 j (omeg
 pub small : (n : ℕ) → (n ≡ 0 → ⊥) → lastSet32 n < 32
 unfolding lastSet32 highest
 small n h = rw (ne-eqb n 0 h) (last-lt 32 (bit n) (omega arith))
+
+-- ---- several words at once
+
+pub or-none : (x y : ℕ) → bitOr x y ≡ 0 → (x ≡ 0) × (y ≡ 0)
+or-none x y e =
+    let z : y ≡ 0 = omega (arith, or-add-and x y, and-le-l x y) in
+    let k : bitAnd x y ≡ 0 = rw z (and-zero-r x) in
+    (omega (arith, or-add-and x y, k), z)
+
+pub no-word-7 : (l : List ℕ) → word l 25 ≡ 0 → highestBelow (7 * 32) (eight l 18) ≡ served l
+unfolding highestFrom
+no-word-7 l h = sym (passed (eight l 18) 7 h)
+
+pub no-word-above-3 : (l : List ℕ) (a b c : ℕ) → a ≡ word l 22 → b ≡ word l 23 → c ≡ word l 24 → word l 25 ≡ 0 → bitOr (bitOr a b) c ≡ 0 → highestBelow (4 * 32) (eight l 18) ≡ served l
+no-word-above-3 l a b c p q r h e =
+    let x = or-none (bitOr a b) c e in
+    let y = or-none a b (x .0) in
+    sym (passed (eight l 18) 6 (sym r ∙ x .1) ∙ passed (eight l 18) 5 (sym q ∙ y .1) ∙ passed (eight l 18) 4 (sym p ∙ y .0)) ∙ no-word-7 l h
+
+pub none-at-all : (l : List ℕ) (n a b c d e f g : ℕ) → n ≤ 256 → a ≡ word l 19 → b ≡ word l 20 → c ≡ word l 21 → d ≡ word l 22 → e ≡ word l 23 → f ≡ word l 24 → g ≡ word l 25
+    → bitOr (bitOr (bitOr (bitOr (bitOr (bitOr a b) c) d) e) f) g ≡ 0 → 0 ≡ highestBelow n (eight l 18)
+none-at-all l n a b c d e f g h pa pb pc pd pe pf pg z =
+    let x₁ = or-none (bitOr (bitOr (bitOr (bitOr (bitOr a b) c) d) e) f) g z in
+    let x₂ = or-none (bitOr (bitOr (bitOr (bitOr a b) c) d) e) f (x₁ .0) in
+    let x₃ = or-none (bitOr (bitOr (bitOr a b) c) d) e (x₂ .0) in
+    let x₄ = or-none (bitOr (bitOr a b) c) d (x₃ .0) in
+    let x₅ = or-none (bitOr a b) c (x₄ .0) in
+    let x₆ = or-none a b (x₅ .0) in
+    let w = eight l 18 in
+    let all : highestBelow 256 w ≡ 0 =
+    passed w 7 (sym pg ∙ x₁ .1) ∙ passed w 6 (sym pf ∙ x₂ .1) ∙ passed w 5 (sym pe ∙ x₃ .1) ∙ passed w 4 (sym pd ∙ x₄ .1)
+    ∙ passed w 3 (sym pc ∙ x₅ .1) ∙ passed w 2 (sym pb ∙ x₆ .1) ∙ passed w 1 (sym pa ∙ x₆ .0) ∙ none-low w 32 (omega arith) in
+    sym (last-none n (isServed w) (none all))
+  where
+    none : highestBelow 256 (eight l 18) ≡ 0 → (j : ℕ) → j < n → isServed (eight l 18) j ≡ false
+    none all zero q = refl
+    none all (suc j) q = last-after 256 (isServed (eight l 18)) (suc j) (omega arith) (omega arith)
 
 -- after the highest vector left, the next one stands in its word or below
 module _ (l : List ℕ) where

@@ -171,10 +171,29 @@ fn highest_below(words: &[u64; 48], top: usize) -> u8
     0
 }
 
+// All of it, where word 7 and after it words 4 to 6 together are looked at first.
 fn find_isrv(words: &[u64; 48]) -> u8
     ensures { λ r. ⌜ r ≡ served (now (words .entry)) ⌝ }
 {
-    highest_below(words, 8)
+    if word(words, 25) != 0 {
+        return highest_below(words, 8);
+    }
+    if word(words, 22) | word(words, 23) | word(words, 24) != 0 {
+        return highest_below(words, 7);
+    }
+    highest_below(words, 4)
+}
+
+// The same up to a word, where it is most often the case that nothing is in service.
+fn find_up_to(words: &[u64; 48], at: usize) -> u8
+    requires { ⌜ at < 8 ⌝ }
+    ensures { λ r. ⌜ r ≡ highestBelow ((at + 1) * 32) (eight (now (words .entry)) 18) ⌝ }
+{
+    let low = word(words, 19) | word(words, 20) | word(words, 21) | word(words, 22);
+    if low | word(words, 23) | word(words, 24) | word(words, 25) == 0 {
+        return 0;
+    }
+    highest_below(words, at + 1)
 }
 
 // A vector up or down in the eight words from `base` on.
@@ -210,7 +229,7 @@ fn end(words: &mut [u64; 48], vector: u8)
     ensures { λ r. ⌜ now (words .exit) ≡ ranked (markedIn (now (words .entry)) 18 vector false) ⌝ }
 {
     mark(&mut *words, ISR, vector, false);
-    let isrv = highest_below(&*words, (vector / 32) as usize + 1);
+    let isrv = find_up_to(&*words, (vector / 32) as usize);
     rank(&mut *words, isrv);
 }
 
