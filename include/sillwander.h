@@ -10,7 +10,8 @@
  *   bits 63..56   why the call was refused (the numbers below), or 0: done
  *   bits 55..48   how many values it answers: 0, 1, 2 or 3
  *   one value     bits 31..0
- *   two or three  a byte each, from bit 0 up
+ *   two values    24 bits each: bits 23..0 and 47..24
+ *   three values  16 bits each: bits 15..0, 31..16 and 47..32
  *
  * so that 0 is "done, and nothing to say". A refused call leaves all lent words as they were, but for an interrupt command that is refused for its kind
  * or destination, which has stored its command words.
@@ -32,8 +33,9 @@ extern "C" {
 
 #define SILLWANDER_REFUSAL(code) ((unsigned)((uint64_t)(code) >> 56))
 #define SILLWANDER_COUNT(code) ((unsigned)((uint64_t)(code) >> 48 & 0xff))
-#define SILLWANDER_VALUE(code) ((uint32_t)(code))                                   /* the one value */
-#define SILLWANDER_BYTE(code, k) ((uint8_t)((uint64_t)(code) >> (8 * (k))))         /* value k, from 0, of two or three */
+#define SILLWANDER_VALUE(code) ((uint32_t)(code))                                           /* the one value */
+#define SILLWANDER_OF_TWO(code, k) ((uint32_t)((uint64_t)(code) >> (24 * (k)) & 0xffffff))  /* value k, from 0, of two */
+#define SILLWANDER_OF_THREE(code, k) ((uint32_t)((uint64_t)(code) >> (16 * (k)) & 0xffff))  /* value k, from 0, of three */
 
 /* The numbers of refusals. */
 #define SILLWANDER_UNSUPPORTED 1      /* an access width, or a port that the PIC doesn't have */

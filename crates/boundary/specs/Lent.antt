@@ -10,13 +10,13 @@ use Rattle.types.specs.declared.Refusal.{Refusal}
 use Rattle.types.specs.declared.Reply.{Reply}
 use Rattle.types.specs.declared.Reply.the-variants.{Refused, Nothing, One, Two, Three}
 
--- the refusal's number from bit 56, the count of values from bit 48; one value in 32 bits, or two or three in a byte each, the first lowest
+-- the refusal's number from bit 56, the count of values from bit 48; one value in 32 bits, two in 24 bits each or three in 16 bits each, the first lowest
 abbrev pub replyCode : Reply → ℕ
 replyCode (Refused why) = refusalNumber why * 2 ^ 56
 replyCode Nothing = 0
 replyCode (One a) = 1 * 2 ^ 48 + a % 2 ^ 32
-replyCode (Two a b) = 2 * 2 ^ 48 + b % 2 ^ 8 * 2 ^ 8 + a % 2 ^ 8
-replyCode (Three a b c) = 3 * 2 ^ 48 + c % 2 ^ 8 * 2 ^ 16 + b % 2 ^ 8 * 2 ^ 8 + a % 2 ^ 8
+replyCode (Two a b) = 2 * 2 ^ 48 + b % 2 ^ 24 * 2 ^ 24 + a % 2 ^ 24
+replyCode (Three a b c) = 3 * 2 ^ 48 + c % 2 ^ 16 * 2 ^ 32 + b % 2 ^ 16 * 2 ^ 16 + a % 2 ^ 16
 
 -- how a caller reads a code: 0 where the call was done or the number of its refusal, and the values
 abbrev pub codeNumber : ℕ → ℕ
@@ -28,8 +28,8 @@ codeCount c = c / 2 ^ 48 % 2 ^ 8
 abbrev pub codeValues : ℕ → List ℕ
 codeValues c =
     cond (eqb (codeCount c) 1) (c % 2 ^ 32 ∷ [])
-    (cond (eqb (codeCount c) 2) (c % 2 ^ 8 ∷ c / 2 ^ 8 % 2 ^ 8 ∷ [])
-    (cond (eqb (codeCount c) 3) (c % 2 ^ 8 ∷ c / 2 ^ 8 % 2 ^ 8 ∷ c / 2 ^ 16 % 2 ^ 8 ∷ [])
+    (cond (eqb (codeCount c) 2) (c % 2 ^ 24 ∷ c / 2 ^ 24 % 2 ^ 24 ∷ [])
+    (cond (eqb (codeCount c) 3) (c % 2 ^ 16 ∷ c / 2 ^ 16 % 2 ^ 16 ∷ c / 2 ^ 32 % 2 ^ 16 ∷ [])
     []))
 
 -- a reply that its code holds whole
@@ -37,8 +37,8 @@ abbrev pub Fits : Reply → Type 0
 Fits (Refused why) = Unit
 Fits Nothing = Unit
 Fits (One a) = a < 2 ^ 32
-Fits (Two a b) = (a < 2 ^ 8) × (b < 2 ^ 8)
-Fits (Three a b c) = (a < 2 ^ 8) × (b < 2 ^ 8) × (c < 2 ^ 8)
+Fits (Two a b) = (a < 2 ^ 24) × (b < 2 ^ 24)
+Fits (Three a b c) = (a < 2 ^ 16) × (b < 2 ^ 16) × (c < 2 ^ 16)
 
 -- a flag that comes in as a number: any number but 0 is up
 abbrev pub isUp : ℕ → Bool

@@ -1,8 +1,7 @@
 // What the boundaries of the three chips share: what a caller in C is answered, and what it hands in as a flag.
 
 ghost use mathlib.Core.Path.{_≡_};
-ghost use Rattle.boundary.specs.Lent.{replyCode, isUp, marked};
-ghost use Prim.Native.Nat.{_<_};
+ghost use Rattle.boundary.specs.Lent.{replyCode, isUp};
 use types::Reply;
 
 // A reply as one number: from bit 56 the refusal's number, from bit 48 how many values there are, and the values below that.
@@ -13,9 +12,12 @@ pub fn code(reply: Reply) -> u64
         Reply::Refused(why) => why.number() as u64 * 0x100_0000_0000_0000,
         Reply::Nothing => 0,
         Reply::One(a) => 0x1_0000_0000_0000 + a % 0x1_0000_0000,
-        Reply::Two(a, b) => 0x2_0000_0000_0000 + b % 0x100 * 0x100 + a % 0x100,
+        Reply::Two(a, b) => 0x2_0000_0000_0000 + b % 0x100_0000 * 0x100_0000 + a % 0x100_0000,
         Reply::Three(a, b, c) => {
-            0x3_0000_0000_0000 + c % 0x100 * 0x1_0000 + b % 0x100 * 0x100 + a % 0x100
+            0x3_0000_0000_0000
+                + c % 0x1_0000 * 0x1_0000_0000
+                + b % 0x1_0000 * 0x1_0000
+                + a % 0x1_0000
         }
     }
 }
@@ -25,15 +27,4 @@ pub fn is_up(number: u64) -> bool
     ensures { λ r. ⌜ r ≡ isUp number ⌝ }
 {
     number != 0
-}
-
-// A set of flags with one of them up or down.
-pub fn marked(set: u64, k: u64, up: bool) -> u64
-    requires { ⌜ k < 64 ⌝ }
-    ensures { λ r. ⌜ r ≡ marked set k up ⌝ }
-{
-    if up {
-        return utils::set64::with(set, k);
-    }
-    utils::set64::without(set, k)
 }

@@ -4,16 +4,14 @@ use native.Mathlib.Omega.{arith}
 use mathlib.Core.Bool.{Bool, true, false, cond}
 use mathlib.Core.Path.{_≡_, refl, sym, _∙_, ap}
 use borrow.Author.Tests.{lt-ltb, le-ltb, le-leb, lt-leb, leb-true, leb-false}
-use borrow.Author.Count.{below-more}
 use lib.Dec.{leb}
-use Rattle.utils.proofs.Search.{first-is, first-none}
 use Rattle.types.specs.Reply.{Outcome}
 use Rattle.types.specs.Counters.{entryIndex}
 use Rattle.types.specs.declared.Gsi.{Gsi}
 use Rattle.types.specs.declared.Vector.{Vector}
 use Rattle.vioapic.specs.Answers.{routedReply, eoiReply, writtenReply}
 use Rattle.vioapic.specs.Redirection.{vectorOf, isFit, awaits, sendEntry, moveLine, endEntry}
-use Rattle.vioapic.specs.Table.{entryAt, put, routeAt, unrouted, interruptForEntry, setLevel, firstAwaiting, endOfEntry, vectorFor}
+use Rattle.vioapic.specs.Table.{entryAt, put, routeAt, unrouted, interruptForEntry, setLevel, firstAwaiting, endOfEntry, vectorOfEntry, vectorFor}
 use Rattle.vioapic.specs.Registers.{isEntryWord, entryOf, readWord, readSelected, writeWord, writeSelected, done}
 use Rattle.vioapic.specs.IoApic.{fits, withState}
 use Rattle.vioapic.specs.declared.redirection.Entry.{Entry}
@@ -24,6 +22,7 @@ use Rattle.vioapic.specs.declared.Routing.{Routing}
 use Rattle.vioapic.specs.declared.Ending.{Ending}
 use Rattle.vioapic.specs.declared.Writing.{Writing}
 use Rattle.vioapic.specs.declared.Eoi.the-variants.{NotEnded, Ended}
+use Rattle.vioapic.specs.declared.GsiVector.{GsiVector}
 use Rattle.vioapic.specs.declared.GsiVector.the-variants.{NoVector, Programmed}
 
 -- ---- the entry of a GSI
@@ -45,38 +44,21 @@ module _ (s : IoApicState) (gsi : Gsi) (i : ℕ) (at : i ≡ entryIndex gsi) whe
   unfolding setLevel
   level-out up h = rw (← at, le-ltb _ _ h)
 
-  pub vector-in : (v : Vector) → i < 24 → isFit (entryAt s i .word) ≡ true → v ≡ vectorOf (entryAt s i .word) → Programmed v ≡ vectorFor s gsi
+  pub vector-in : (r : GsiVector) → i < 24 → r ≡ vectorOfEntry (entryAt s i .word) → r ≡ vectorFor s gsi
   unfolding vectorFor
-  vector-in v h f q = rw (← at, lt-ltb _ _ h, f) (ap Programmed q)
-
-  pub vector-unfit : i < 24 → isFit (entryAt s i .word) ≡ false → NoVector ≡ vectorFor s gsi
-  unfolding vectorFor
-  vector-unfit h f = rw (← at, lt-ltb _ _ h, f)
+  vector-in r h q = q ∙ rw (← at, lt-ltb _ _ h)
 
   pub vector-out : 24 ≤ i → NoVector ≡ vectorFor s gsi
   unfolding vectorFor
   vector-out h = rw (← at, le-ltb _ _ h)
 
--- ---- the search for the entry that an EOI ends
+pub vector-fit : (w : ℕ) (v : Vector) → isFit w ≡ true → v ≡ vectorOf w → Programmed v ≡ vectorOfEntry w
+vector-fit w v f q = rw f (ap Programmed q)
 
--- no entry below i awaits the EOI
-pub record NoneBelow (v : Vector) (s : IoApicState) (i : ℕ) : Type 0 where
-  pub all : (j : ℕ) → j < i → awaits v (entryAt s j) ≡ false
+pub vector-unfit : (w : ℕ) → isFit w ≡ false → NoVector ≡ vectorOfEntry w
+vector-unfit w f = rw f
 
-module _ (v : Vector) (s : IoApicState) where
-  pub none-first : NoneBelow v s 0
-  none-first = record { all = λ j h. absurd (omega arith) }
-
-  pub none-next : (i : ℕ) → NoneBelow v s i → awaits v (entryAt s i) ≡ false → NoneBelow v s (i + 1)
-  none-next i n h = record { all = below-more _ i (n .all) h }
-
-  pub none-found : (i : ℕ) → NoneBelow v s i → i < 24 → awaits v (entryAt s i) ≡ true → i ≡ firstAwaiting s v
-  unfolding firstAwaiting
-  none-found i n h y = sym (first-is 24 (λ g. awaits v (entryAt s g)) i h y (n .all))
-
-  pub none-left : (i : ℕ) → NoneBelow v s i → i ≤ 24 → 24 ≤ i → i ≡ firstAwaiting s v
-  unfolding firstAwaiting
-  none-left i n p q = let e : i ≡ 24 = omega arith in e ∙ sym (first-none 24 (λ g. awaits v (entryAt s g)) (λ j h. n .all j (omega arith)))
+-- ---- the entry that an EOI ends
 
 module _ (s : IoApicState) (v : Vector) (g : ℕ) (at : g ≡ firstAwaiting s v) where
   pub eoi-in : (r : EntryStep) (a : Routing) → g < 24 → r ≡ endEntry (entryAt s g) → a ≡ routeAt s g r

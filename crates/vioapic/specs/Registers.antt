@@ -23,15 +23,15 @@ abbrev pub isLow : ℕ → Bool
 isLow sel = eqb (sel % 2) 0
 
 -- IOAPICVER: 24 entries, version 0x11
-abbrev pub versionWord : IoApicState → ℕ
-versionWord s = 0x00170011
+abbrev pub versionWord : ℕ
+versionWord = 0x00170011
 
 -- IOAPICID and IOAPICARB (D-36, D-37: fixed), IOAPICVER; any other register reads 0
-unfoldable pub readFixed : IoApicState → ℕ
-readFixed s =
-    cond (eqb (s .selector) 0) 0x01000000
-    (cond (eqb (s .selector) 1) (versionWord s)
-    (cond (eqb (s .selector) 2) 0x01000000
+unfoldable pub readFixed : ℕ → ℕ
+readFixed sel =
+    cond (eqb sel 0) 0x01000000
+    (cond (eqb sel 1) versionWord
+    (cond (eqb sel 2) 0x01000000
     0))
 
 unfoldable pub readWord : ℕ → Entry → ℕ
@@ -40,7 +40,7 @@ readWord sel e = cond (isLow sel) (e .word % 2 ^ 32) (e .word / 2 ^ 32)
 -- IOWIN is read
 unfoldable pub readSelected : IoApicState → ℕ
 readSelected s =
-    cond (isEntryWord (s .selector)) (readWord (s .selector) (entryAt s (entryOf (s .selector)))) (readFixed s)
+    cond (isEntryWord (s .selector)) (readWord (s .selector) (entryAt s (entryOf (s .selector)))) (readFixed (s .selector))
 
 unfoldable pub writeWord : ℕ → Entry → ℕ → Entry
 writeWord sel e x = cond (isLow sel) (writeLow e x) (writeHigh e x)

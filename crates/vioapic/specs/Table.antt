@@ -72,9 +72,10 @@ unfoldable pub endOfEntry : IoApicState → Vector → Ending
 endOfEntry s v =
     cond (ltb (firstAwaiting s v) 24) (endAt s (firstAwaiting s v)) (record { state = s; answer = NotEnded })
 
--- the vector of a GSI whose entry is fit to be sent
+-- the vector of an entry that is fit to be sent
+abbrev pub vectorOfEntry : ℕ → GsiVector
+vectorOfEntry w = cond (isFit w) (Programmed (vectorOf w)) NoVector
+
+-- the vector programmed for a GSI
 unfoldable pub vectorFor : IoApicState → Gsi → GsiVector
-vectorFor s gsi =
-    cond (ltb (entryIndex gsi) 24)
-    (cond (isFit (entryAt s (entryIndex gsi) .word)) (Programmed (vectorOf (entryAt s (entryIndex gsi) .word))) NoVector)
-    NoVector
+vectorFor s gsi = cond (ltb (entryIndex gsi) 24) (vectorOfEntry (entryAt s (entryIndex gsi) .word)) NoVector

@@ -16,19 +16,19 @@ ghost use mathlib.Core.Path.{_≡_};
 ghost use mathlib.Core.Bool.{true};
 ghost use Prim.Native.Nat.{_<_};
 ghost use Rattle.vioapic.specs.Answers.{eoiReply, gsiVectorReply, readReply, writtenReply, rangeReply, endedReply, routingOutcome, endingOutcome, writingOutcome};
-ghost use Rattle.vioapic.specs.Table.{newState, put, routeAt, interruptForEntry, setLevel, firstAwaiting, endOfEntry, vectorFor};
+ghost use Rattle.vioapic.specs.Table.{newState, put, routeAt, interruptForEntry, setLevel, firstAwaiting, endOfEntry, vectorOfEntry, vectorFor};
 ghost use Rattle.vioapic.specs.Registers.{isEntryWord, isLow, entryOf, versionWord, readFixed, readWord, readSelected, writeWord, writeSelected, readAt, writeAt};
 ghost use Rattle.vioapic.specs.IoApic.{goodWidth, fits, chipAt, created, newDefault, withState, vectorForGsi, assertGsi, setGsiLevel, endOfInterrupt, addressRange, handleRead, handleWrite};
 
 pub mod redirection;
 
-const IOAPIC_BASE: u64 = 0xfec0_0000;
+pub const IOAPIC_BASE: u64 = 0xfec0_0000;
 
-const IOAPIC_SIZE: u64 = 0x1000;
+pub const IOAPIC_SIZE: u64 = 0x1000;
 
-const IOREGSEL: u64 = 0x00;
+pub const IOREGSEL: u64 = 0x00;
 
-const IOWIN: u64 = 0x10;
+pub const IOWIN: u64 = 0x10;
 
 const IOAPIC_ID: u32 = 0x00;
 
@@ -298,35 +298,9 @@ impl IoApicState {
         let index = gsi.entry_index();
         if index < REDIRECTION_ENTRY_COUNT {
             let entry = self.entries[index];
-            if redirection::is_fit(entry.word) {
-                return GsiVector::Programmed(redirection::vector_of(entry.word));
-            }
-            return GsiVector::NoVector;
+            return vector_of_entry(entry.word);
         }
         GsiVector::NoVector
-    }
-
-    // IOAPICVER.
-    fn version_word(self) -> u64
-        ensures { λ r. ⌜ r ≡ versionWord self ⌝ }
-    {
-        IOAPIC_VERSION_VALUE
-    }
-
-    fn read_fixed(self) -> u64
-        ensures { λ r. ⌜ r ≡ readFixed self ⌝ }
-    {
-        let selector = self.selector;
-        if selector == IOAPIC_ID {
-            return IOAPIC_ID_VALUE;
-        }
-        if selector == IOAPIC_VER {
-            return self.version_word();
-        }
-        if selector == IOAPIC_ARB {
-            return IOAPIC_ID_VALUE;
-        }
-        0
     }
 
     pub fn read_selected_register(self) -> u64
@@ -337,7 +311,7 @@ impl IoApicState {
             let index = entry_of(selector);
             return read_word(selector, self.entries[index]);
         }
-        self.read_fixed()
+        read_fixed(selector)
     }
 
     pub fn write_selected_register(self, value: u32) -> Writing
@@ -394,7 +368,40 @@ impl IoApicState {
     }
 }
 
-fn is_entry_word(selector: u32) -> bool
+// IOAPICVER.
+fn version_word() -> u64
+    ensures { λ r. ⌜ r ≡ versionWord ⌝ }
+{
+    IOAPIC_VERSION_VALUE
+}
+
+// The registers that can't be written.
+pub fn read_fixed(selector: u32) -> u64
+    ensures { λ r. ⌜ r ≡ readFixed selector ⌝ }
+{
+    if selector == IOAPIC_ID {
+        return IOAPIC_ID_VALUE;
+    }
+    if selector == IOAPIC_VER {
+        return version_word();
+    }
+    if selector == IOAPIC_ARB {
+        return IOAPIC_ID_VALUE;
+    }
+    0
+}
+
+// The vector that an entry's register gives its line.
+pub fn vector_of_entry(word: u64) -> GsiVector
+    ensures { λ r. ⌜ r ≡ vectorOfEntry word ⌝ }
+{
+    if redirection::is_fit(word) {
+        return GsiVector::Programmed(redirection::vector_of(word));
+    }
+    GsiVector::NoVector
+}
+
+pub fn is_entry_word(selector: u32) -> bool
     ensures { λ r. ⌜ r ≡ isEntryWord selector ⌝ }
 {
     if IOREDTBL_BASE <= selector {
@@ -404,7 +411,7 @@ fn is_entry_word(selector: u32) -> bool
 }
 
 // Which entry the selector names: always one of the table's, so that the Rust's `InvalidInput` can't occur.
-fn entry_of(selector: u32) -> usize
+pub fn entry_of(selector: u32) -> usize
     requires { ⌜ isEntryWord selector ≡ true ⌝ }
     ensures { λ r. ⌜ (r ≡ entryOf selector) × (r < 24) ⌝ }
 {
@@ -417,7 +424,7 @@ fn is_low(selector: u32) -> bool
     selector % 2 == 0
 }
 
-fn read_word(selector: u32, entry: Entry) -> u64
+pub fn read_word(selector: u32, entry: Entry) -> u64
     ensures { λ r. ⌜ r ≡ readWord selector entry ⌝ }
 {
     if is_low(selector) {
@@ -426,7 +433,7 @@ fn read_word(selector: u32, entry: Entry) -> u64
     entry.word / 0x1_0000_0000
 }
 
-fn write_word(selector: u32, entry: Entry, value: u32) -> Entry
+pub fn write_word(selector: u32, entry: Entry, value: u32) -> Entry
     ensures { λ r. ⌜ r ≡ writeWord selector entry value ⌝ }
 {
     if is_low(selector) {
@@ -435,7 +442,7 @@ fn write_word(selector: u32, entry: Entry, value: u32) -> Entry
     entry.write_high(value)
 }
 
-fn good_width(width: u8) -> bool
+pub fn good_width(width: u8) -> bool
     ensures { λ r. ⌜ r ≡ goodWidth width ⌝ }
 {
     if width == 4 {
@@ -445,7 +452,7 @@ fn good_width(width: u8) -> bool
 }
 
 // base + size is at most 2^64 - 1.
-fn fits(base: u64, size: u64) -> bool
+pub fn fits(base: u64, size: u64) -> bool
     ensures { λ r. ⌜ r ≡ fits base size ⌝ }
 {
     size <= 0xffff_ffff_ffff_ffff - base

@@ -3,18 +3,20 @@ use borrow.Author.Needs.{needs}
 use native.Mathlib.Omega.{arith}
 use Prim.Native.Nat.{_≤_, _-_}
 use Rattle.utils.specs.Cases.{so}
-use Rattle.vioapic.proofs.ChipLaws.{NoneBelow, none-first, none-next, none-found, none-left}
+use Rattle.utils.proofs.Search.{NoneBelow, none-first, none-next, none-found, none-left}
+use Rattle.vioapic.specs.Redirection.{awaits}
+use Rattle.vioapic.specs.Table.{entryAt, firstAwaiting}
 use Rattle.vioapic.proofs.IoApicState.first_awaiting.Statement.{statement}
 use Rattle.vioapic.proofs.IoApicState.first_awaiting.Tie as tie
 
 abbrev Inv-loop : tie.InvT-loop
-Inv-loop vector self index₀ index = (index ≤ 24) × NoneBelow vector self index
+Inv-loop vector self index₀ index = (index ≤ 24) × NoneBelow (λ g. awaits vector (entryAt self g)) index
 
 abbrev μ-loop : tie.MeasureT-loop
 μ-loop vector self index₀ index = 24 - index
 
 loop-holds : tie.Need-loop-holds Inv-loop μ-loop
-loop-holds c = (omega arith, none-first _ _)
+loop-holds c = (omega arith, none-first _)
 
 mul-awaits : tie.Need-mul-awaits Inv-loop μ-loop
 mul-awaits c = search needs
@@ -26,6 +28,7 @@ awaits-requires : tie.Need-awaits-requires Inv-loop μ-loop
 awaits-requires c κs = search needs
 
 returns : tie.Need-returns Inv-loop μ-loop
+unfolding firstAwaiting
 returns c = search (none-found, so)
 
 add-index : tie.Need-add-index Inv-loop μ-loop
@@ -38,6 +41,7 @@ loop-again : tie.Need-loop-again Inv-loop μ-loop
 loop-again c = (omega arith, search (none-next, so))
 
 returns-2 : tie.Need-returns-2 Inv-loop μ-loop
+unfolding firstAwaiting
 returns-2 c = search (none-left)
 
 pub first-awaiting-spec : {M : Type 1} → statement M

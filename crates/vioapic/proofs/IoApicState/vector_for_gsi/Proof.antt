@@ -1,5 +1,4 @@
-use Rattle.utils.specs.Cases.{so}
-use Rattle.vioapic.proofs.ChipLaws.{vector-in, vector-unfit, vector-out}
+use Rattle.vioapic.proofs.ChipLaws.{vector-in, vector-out}
 use borrow.Author.Needs.{needs}
 use Rattle.vioapic.proofs.IoApicState.vector_for_gsi.Statement.{statement}
 use Rattle.vioapic.proofs.IoApicState.vector_for_gsi.Tie as tie
@@ -13,20 +12,14 @@ mul-entry c = search needs
 element-copy-out-entry : tie.Need-element-copy-out-entry
 element-copy-out-entry c = search needs
 
-is-fit-requires : tie.Need-is-fit-requires
-is-fit-requires c κs = search needs
-
-vector-of-requires : tie.Need-vector-of-requires
-vector-of-requires c κs = search needs
+vector-of-entry-requires : tie.Need-vector-of-entry-requires
+vector-of-entry-requires c κs = search needs
 
 returns : tie.Need-returns
-returns c = search (vector-in, so)
+returns c = search (vector-in)
 
 returns-2 : tie.Need-returns-2
-returns-2 c = search (vector-unfit, so)
-
-returns-3 : tie.Need-returns-3
-returns-3 c = search (vector-out)
+returns-2 c = search (vector-out)
 
 pub vector-for-gsi-spec : {M : Type 1} → statement M
 vector-for-gsi-spec =
@@ -35,8 +28,6 @@ vector-for-gsi-spec =
     entry-index-requires
     mul-entry
     element-copy-out-entry
-    is-fit-requires
-    vector-of-requires
+    vector-of-entry-requires
     returns
-    returns-2
-    returns-3)
+    returns-2)

@@ -1,0 +1,167 @@
+-- Every reply of the I/O APIC that a code stands for fits it, so that equal codes and words come from equal outcomes (`shown-same` of `boundary`).
+-- Assumes nothing but that words are below 2^64.
+use Prim.Native.Nat.{ℕ, _-_, _/_, _%_, _^_, _<_}
+use native.Mathlib.Omega.{arith}
+use mathlib.Core.Bool.{Bool, true, false, cond, _&&_}
+use mathlib.Core.List.{List}
+use mathlib.Core.Path.{_≡_, refl}
+use borrow.Author.Tests.{ltb-true}
+use lib.Dec.{eqb, ltb, leb}
+use lib.ListN.{getD}
+use Rattle.types.specs.Reply.{flag}
+use Rattle.types.specs.Counters.{entryIndex}
+use Rattle.types.specs.declared.Gsi.{Gsi}
+use Rattle.types.specs.declared.Vector.{Vector}
+use Rattle.types.specs.declared.Reply.{Reply}
+use Rattle.boundary.specs.Lent.{Fits}
+use Rattle.vioapic.proofs.ChipLaws.{entry-word-range}
+use Rattle.vioapic.specs.Answers.{routedReply, pendingReply, writtenReply}
+use Rattle.vioapic.specs.IoApic.{goodWidth, assertGsi, setGsiLevel, endOfInterrupt, vectorForGsi, handleRead, handleWrite}
+use Rattle.vioapic.specs.Redirection.{isFit, isLevel, remoteIrr, sendEntry, raiseEntry, lowerEntry, moveLine, endEntry, withWord, withPending, withInput, withRemoteIrr, withoutRemoteIrr}
+use Rattle.vioapic.specs.Registers.{isEntryWord, entryOf, isLow, readFixed, readWord, readSelected, readAt, writeSelected, writeAt}
+use Rattle.vioapic.specs.Table.{entryAt, interruptForEntry, setLevel, firstAwaiting, endOfEntry, vectorFor}
+use Rattle.vioapic.specs.declared.redirection.Entry.{Entry}
+use Rattle.vioapic.specs.declared.redirection.EntryStep.{EntryStep}
+use Rattle.vioapic.specs.declared.redirection.Routed.{Routed}
+use Rattle.vioapic.specs.declared.redirection.Routed.the-variants.{NotRouted, Interrupt}
+use Rattle.vioapic.specs.declared.EmulatedIoApic.{EmulatedIoApic}
+use Rattle.vioapic.specs.declared.Written.{Written}
+use Rattle.vioapic.specs.declared.Written.the-variants.{Done, NotWritten}
+use Rattle.vioapic_c.proofs.View.{view-at}
+use Rattle.vioapic_c.specs.Words.{selectorIn, view}
+
+-- an interrupt whose vector is a byte
+abbrev Small : Routed → Type 0
+Small NotRouted = Unit
+Small (Interrupt i) = i .vector .0 < 2 ^ 8
+
+flag-small : (b : Bool) → flag b < 2
+flag-small true = omega arith
+flag-small false = omega arith
+
+routed-fits : (r : Routed) → Small r → Fits (routedReply r)
+routed-fits NotRouted s = tt
+routed-fits (Interrupt i) s = (omega (arith, s), omega (arith, flag-small (i .«level_triggered»)))
+
+pending-fits : (g : ℕ) (r : Routed) → g < 24 → Small r → Fits (pendingReply g r)
+pending-fits g NotRouted h s = omega arith
+pending-fits g (Interrupt i) h s = (omega arith, omega (arith, s), omega (arith, flag-small (i .«level_triggered»)))
+
+written-fits : (w : Written) → Fits (writtenReply w)
+written-fits Done = tt
+written-fits (NotWritten why) = tt
+
+-- of two steps whichever is taken
+either : (b : Bool) (x y : EntryStep) → Small (x .answer) → Small (y .answer) → Small (cond b x y .answer)
+either true x y p q = p
+either false x y p q = q
+
+send-small : (e : Entry) → Small (sendEntry e .answer)
+unfolding sendEntry
+send-small e =
+    let byte : e .word % 2 ^ 8 < 2 ^ 8 = omega arith in
+    let flown : withRemoteIrr (e .word) % 2 ^ 8 < 2 ^ 8 = omega arith in
+    either (isFit (e .word)) _ _ (either (isLevel (e .word)) _ _ (either (remoteIrr (e .word)) _ _ tt flown) byte) tt
+
+move-small : (e : Entry) (up : Bool) → Small (moveLine e up .answer)
+unfolding raiseEntry lowerEntry
+move-small e true = either (e .«input_level» && remoteIrr (e .word)) _ _ tt (send-small (withInput e true))
+move-small e false = tt
+
+end-small : (e : Entry) → Small (endEntry e .answer)
+unfolding endEntry
+end-small e =
+    either (e .«input_level») _ _ (send-small (withWord e (withoutRemoteIrr (e .word))))
+    (either (e .«pending_level») _ _ (send-small (withPending (withWord e (withoutRemoteIrr (e .word))) false)) tt)
+
+module _ (m : EmulatedIoApic) where
+  pub assert-fits : (gsi : Gsi) → Fits (assertGsi m gsi .reply)
+  unfolding assertGsi interruptForEntry
+  assert-fits gsi = go (ltb (entryIndex gsi) 24) refl
+    where
+      go : (a : Bool) → ltb (entryIndex gsi) 24 ≡ a → Fits (assertGsi m gsi .reply)
+      go true p = rw p (routed-fits (sendEntry (entryAt (m .state) (entryIndex gsi)) .answer) (send-small (entryAt (m .state) (entryIndex gsi))))
+      go false p = rw p tt
+
+  pub level-fits : (gsi : Gsi) (up : Bool) → Fits (setGsiLevel m gsi up .reply)
+  unfolding setGsiLevel setLevel
+  level-fits gsi up = go (ltb (entryIndex gsi) 24) refl
+    where
+      go : (a : Bool) → ltb (entryIndex gsi) 24 ≡ a → Fits (setGsiLevel m gsi up .reply)
+      go true p = rw p (routed-fits (moveLine (entryAt (m .state) (entryIndex gsi)) up .answer) (move-small (entryAt (m .state) (entryIndex gsi)) up))
+      go false p = rw p tt
+
+  pub end-fits : (v : Vector) → Fits (endOfInterrupt m v .reply)
+  unfolding endOfInterrupt endOfEntry
+  end-fits v = go (ltb (firstAwaiting (m .state) v) 24) refl
+    where
+      go : (a : Bool) → ltb (firstAwaiting (m .state) v) 24 ≡ a → Fits (endOfInterrupt m v .reply)
+      go true p = rw p (pending-fits (firstAwaiting (m .state) v) (endEntry (entryAt (m .state) (firstAwaiting (m .state) v)) .answer) (ltb-true _ 24 p) (end-small (entryAt (m .state) (firstAwaiting (m .state) v))))
+      go false p = rw p tt
+
+  pub vector-fits : (gsi : Gsi) → Fits (vectorForGsi m gsi)
+  unfolding vectorForGsi vectorFor
+  vector-fits gsi = go (ltb (entryIndex gsi) 24) (isFit (entryAt (m .state) (entryIndex gsi) .word)) refl refl
+    where
+      go : (a b : Bool) → ltb (entryIndex gsi) 24 ≡ a → isFit (entryAt (m .state) (entryIndex gsi) .word) ≡ b → Fits (vectorForGsi m gsi)
+      go true true p q = rw (p, q) (omega arith)
+      go true false p q = rw (p, q) tt
+      go false b p q = rw p tt
+
+  -- a write answers nothing, or is refused
+  pub write-fits : (addr width x : ℕ) → Fits (handleWrite m addr width x .reply)
+  unfolding handleWrite
+  write-fits addr width x = go (goodWidth width) (leb (m .base) addr) refl refl
+    where
+      go : (a b : Bool) → goodWidth width ≡ a → leb (m .base) addr ≡ b → Fits (handleWrite m addr width x .reply)
+      go true true p q = rw (p, q) (written-fits (writeAt (m .state) (addr - m .base) (x % 2 ^ 32) .answer))
+      go true false p q = rw (p, q) tt
+      go false b p q = rw p tt
+
+-- a read's value has 32 bits
+module _ (l : List ℕ) (words : (i : ℕ) → getD l i 0 < 2 ^ 64) where
+  halves : (sel g : ℕ) → g < 24 → readWord sel (entryAt (view l .state) g) < 2 ^ 32
+  unfolding readWord
+  halves sel g h = go (isLow sel) refl
+    where
+      go : (a : Bool) → isLow sel ≡ a → readWord sel (entryAt (view l .state) g) < 2 ^ 32
+      go true p = rw (p, view-at l g h) (omega arith)
+      go false p = rw (p, view-at l g h) (omega (arith, words g))
+
+  fixed : (sel : ℕ) → readFixed sel < 2 ^ 32
+  unfolding readFixed
+  fixed sel = go (eqb sel 0) (eqb sel 1) (eqb sel 2) refl refl refl
+    where
+      go : (a b c : Bool) → eqb sel 0 ≡ a → eqb sel 1 ≡ b → eqb sel 2 ≡ c → readFixed sel < 2 ^ 32
+      go true b c p q r = rw p (omega arith)
+      go false true c p q r = rw (p, q) (omega arith)
+      go false false true p q r = rw (p, q, r) (omega arith)
+      go false false false p q r = rw (p, q, r) (omega arith)
+
+  selected : readSelected (view l .state) < 2 ^ 32
+  unfolding readSelected
+  selected = go (isEntryWord (view l .state .selector)) refl
+    where
+      go : (a : Bool) → isEntryWord (view l .state .selector) ≡ a → readSelected (view l .state) < 2 ^ 32
+      go true p =
+          let k = entry-word-range (view l .state .selector) p in
+          rw p (halves (view l .state .selector) (entryOf (view l .state .selector)) (omega (arith, k .0, k .1)))
+      go false p = rw p (fixed (view l .state .selector))
+
+  register : (offset : ℕ) → readAt (view l .state) offset < 2 ^ 32
+  unfolding readAt view
+  register offset = go (eqb offset 0) (eqb offset 0x10) refl refl
+    where
+      go : (a b : Bool) → eqb offset 0 ≡ a → eqb offset 0x10 ≡ b → readAt (view l .state) offset < 2 ^ 32
+      go true b p q = rw p (omega arith)
+      go false true p q = rw (p, q) selected
+      go false false p q = rw (p, q) (omega arith)
+
+  pub read-fits : (addr width : ℕ) → Fits (handleRead (view l) addr width)
+  unfolding handleRead
+  read-fits addr width = go (goodWidth width) (leb (view l .base) addr) refl refl
+    where
+      go : (a b : Bool) → goodWidth width ≡ a → leb (view l .base) addr ≡ b → Fits (handleRead (view l) addr width)
+      go true true p q = rw (p, q) (register (addr - view l .base))
+      go true false p q = rw (p, q) tt
+      go false b p q = rw p tt

@@ -1,0 +1,4 @@
+pub mod View
+pub mod WordLaws
+pub mod Shown
+pub mod Fit

@@ -1,0 +1,50 @@
+use Rattle.utils.specs.Cases.{so}
+use Rattle.vioapic_c.proofs.WordLaws.{write-width, write-below, write-done}
+use borrow.Author.Needs.{needs}
+use Rattle.vioapic_c.proofs.sillwander_ioapic_handle_write.Statement.{statement}
+use Rattle.vioapic_c.proofs.sillwander_ioapic_handle_write.Tie as tie
+
+is-good-width-requires : tie.Need-is-good-width-requires
+is-good-width-requires c κs = search needs
+
+code-requires : tie.Need-code-requires
+code-requires c κs = search needs
+
+returns : tie.Need-returns
+returns c = search (write-width, so)
+
+element-copy-out-base : tie.Need-element-copy-out-base
+element-copy-out-base c = search needs
+
+code-requires-2 : tie.Need-code-requires-2
+code-requires-2 c κs = search needs
+
+returns-2 : tie.Need-returns-2
+returns-2 c = search (write-below, so)
+
+cast-write-at : tie.Need-cast-write-at
+cast-write-at c = search needs
+
+write-at-requires : tie.Need-write-at-requires
+write-at-requires c κs = search needs
+
+code-requires-3 : tie.Need-code-requires-3
+code-requires-3 c κs = search needs
+
+returns-3 : tie.Need-returns-3
+returns-3 c = search (write-done, so)
+
+pub sillwander-ioapic-handle-write-spec : {M : Type 1} → statement M
+sillwander-ioapic-handle-write-spec =
+    tie.close
+    (tie.spec
+    is-good-width-requires
+    code-requires
+    returns
+    element-copy-out-base
+    code-requires-2
+    returns-2
+    cast-write-at
+    write-at-requires
+    code-requires-3
+    returns-3)
