@@ -7,6 +7,7 @@ ghost use mathlib.Core.Bool.{false};
 ghost use mathlib.Core.List.{[], _∷_};
 ghost use lib.ListN.{set};
 ghost use Rattle.vlapic_regs.specs.Vectors.{inWords};
+ghost use Rattle.boundary.specs.Lent.{marked};
 ghost use Rattle.vlapic.specs.Answers.{writeReply};
 ghost use Rattle.vlapic.specs.Priority.{priority};
 ghost use Rattle.vlapic.specs.Calls.{handleWrite};
@@ -196,6 +197,16 @@ fn find_up_to(words: &[u64; 48], at: usize) -> u8
     highest_below(words, at + 1)
 }
 
+fn marked(set: u32, k: u32, up: bool) -> u32
+    requires { ⌜ k < 32 ⌝ }
+    ensures { λ r. ⌜ r ≡ marked set k up ⌝ }
+{
+    if up {
+        return utils::set32::with(set, k);
+    }
+    utils::set32::without(set, k)
+}
+
 // A vector up or down in the eight words from `base` on.
 fn mark(words: &mut [u64; 48], base: usize, vector: u8, up: bool)
     requires { ⌜ base < 41 ⌝ }
@@ -204,7 +215,7 @@ fn mark(words: &mut [u64; 48], base: usize, vector: u8, up: bool)
     let at = utils::extract_index_and_bitpos_u32(vector as u32);
     let k = base + at.index;
     let held = word(&*words, k);
-    words[k] = boundary::marked(held as u64, at.bitpos as u64, up);
+    words[k] = wide(marked(held, at.bitpos, up));
 }
 
 fn has(words: &[u64; 48], base: usize, vector: u8) -> bool

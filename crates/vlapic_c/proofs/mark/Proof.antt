@@ -11,14 +11,11 @@ add-k c = search needs
 word-requires : tie.Need-word-requires
 word-requires c κs = search needs
 
-cast-marked : tie.Need-cast-marked
-cast-marked c = search needs
-
-cast-marked-2 : tie.Need-cast-marked-2
-cast-marked-2 c = search needs
-
 marked-requires : tie.Need-marked-requires
 marked-requires c κs = search needs
+
+wide-requires : tie.Need-wide-requires
+wide-requires c κs = search needs
 
 mul-words : tie.Need-mul-words
 mul-words c = search needs
@@ -27,7 +24,7 @@ element-write-words : tie.Need-element-write-words
 element-write-words c = search needs
 
 returns : tie.Need-returns
-returns c = rw (c .marked .ensures, c .before .before .word .ensures, c .before .before .before .before .before .extract-index-and-bitpos-u32 .ensures .0, c .before .before .before .before .before .extract-index-and-bitpos-u32 .ensures .1)
+returns c = rw (c .wide .ensures, c .before .marked .ensures, c .before .before .word .ensures, c .before .before .before .before .before .extract-index-and-bitpos-u32 .ensures .0, c .before .before .before .before .before .extract-index-and-bitpos-u32 .ensures .1)
 
 pub mark-spec : {M : Type 1} → statement M
 mark-spec =
@@ -36,9 +33,8 @@ mark-spec =
     extract-index-and-bitpos-u32-requires
     add-k
     word-requires
-    cast-marked
-    cast-marked-2
     marked-requires
+    wide-requires
     mul-words
     element-write-words
     returns)
