@@ -216,7 +216,7 @@ outcome-known l a b h p q f g e =
     λ i. record { state = s i; reply = r i }
 
 -- the pair's replies fit
-flags-lt : (m s : Bool) → flag m + 2 * flag s < 256
+flags-lt : (m s : Bool) → flag m + 2 * flag s < 2 ^ 16
 flags-lt true true = omega arith
 flags-lt true false = omega arith
 flags-lt false true = omega arith

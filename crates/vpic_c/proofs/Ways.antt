@@ -213,11 +213,12 @@ claim-fits p (Master k) = omega arith
 claim-fits p (Slave k) = omega arith
 claim-fits p Nowhere = tt
 
-alone-of : (c v i f : ℕ) → v < 256 → c ≡ 3 * 2 ^ 48 + f % 2 ^ 8 * 2 ^ 16 + i % 2 ^ 8 * 2 ^ 8 + v % 2 ^ 8 → c / 2 ^ 48 % 2 * 2 ^ 48 + c % 2 ^ 8 ≡ 1 * 2 ^ 48 + v % 2 ^ 32
+alone-of : (c v i f : ℕ) → v < 256 → c ≡ 3 * 2 ^ 48 + f % 2 ^ 16 * 2 ^ 32 + i % 2 ^ 16 * 2 ^ 16 + v % 2 ^ 16 → c / 2 ^ 48 % 2 * 2 ^ 48 + c % 2 ^ 8 ≡ 1 * 2 ^ 48 + v % 2 ^ 32
 alone-of c v i f h e =
     let q : c / 2 ^ 48 ≡ 3 = omega arith in
     let a : c / 2 ^ 48 % 2 ≡ 1 = rw q in
-    let b : c % 2 ^ 8 ≡ v = omega arith in
+    let m : c / 2 ^ 8 ≡ 3 * 2 ^ 40 + f % 2 ^ 16 * 2 ^ 24 + i % 2 ^ 16 * 2 ^ 8 = omega arith in
+    let b : c % 2 ^ 8 ≡ v = omega (arith, m) in
     let d : v % 2 ^ 32 ≡ v = omega arith in
     rw (a, b, d)
 
