@@ -2,7 +2,7 @@
 use mathlib.Core.Path.{_≡_, refl, sym, ap, _∙_}
 use mathlib.Core.Bool.{Bool, true, false, cond}
 use mathlib.Core.List.{List, [], _∷_}
-use Prim.Native.Nat.{ℕ, _+_, _*_, _%_, _^_, _<_, _≤_}
+use Prim.Native.Nat.{ℕ, _+_, _*_, _%_, _^_, _<_, _≤_, _/_}
 use native.Mathlib.Omega.{arith}
 use lib.Dec.{eqb, ltb}
 use lib.ListN.{length}
@@ -30,7 +30,7 @@ use Rattle.vpic.proofs.PairLaws.{Ready, pending-ready}
 use Rattle.boundary.specs.Lent.{Lent, replyCode, refusing, Shows, Fits}
 use Rattle.boundary.proofs.Codes.{code-same}
 use Rattle.vpic_c.specs.Words.{view}
-use Rattle.vpic_c.specs.Calls.{line, after, newWords, claimWith, claimIrqWords, claimPendingWords, pulseIrqWords, nextInterruptWords, restoreWords, readWords, writeWords}
+use Rattle.vpic_c.specs.Calls.{line, after, newWords, claimWith, isClaim, claimIrqWords, claimPendingWords, pulseIrqWords, nextInterruptWords, restoreWords, readWords, writeWords}
 use Rattle.vpic_c.proofs.Packing.{Bytes}
 use Rattle.vpic_c.proofs.InPlace.{bytes-request, bytes-service}
 use Rattle.vpic_c.proofs.Ways.{Both, both-in, view-put, put-same, bytes-pulsed, both-latched}
@@ -159,12 +159,15 @@ module _ (l : List ℕ) (h : length l ≡ 4) where
   unfolding nextInterruptWords
   view-next-interrupt = shows l (withVector (claimPending (view l .state))) h (both-claimed (view l .state) (both-in l))
 
-  pub view-restore : (v irq f : ℕ) → v < 256 → f < 4 → Shows view (restoreWords l v irq f) (restoreInterrupt (view l) (claimWith v irq f))
+  pub view-restore : (c : ℕ) → isClaim c ≡ true → Shows view (restoreWords l c) (restoreInterrupt (view l) (claimWith (c % 2 ^ 16) (c / 2 ^ 16 % 2 ^ 16) (c / 2 ^ 32 % 2 ^ 16)))
   unfolding restoreWords
-  view-restore v irq f a b = rw (lt-ltb v 256 a, lt-ltb f 4 b) (shows l (restoreInterrupt (view l) (claimWith v irq f)) h (go (ltb irq 16)))
+  view-restore c a = rw a (shows l (restoreInterrupt (view l) claim) h (go (ltb (c / 2 ^ 16 % 2 ^ 16) 16)))
     where
-      go : (b : Bool) → Both (cond b (record { state = pic (restored (view l .state) (claimWith v irq f)); reply = reply.Nothing }) (refused (view l) OutOfRange) .state .state)
-      go true = both-restored (view l .state) (claimWith v irq f) (both-in l)
+      claim : PicInterruptClaim
+      claim = claimWith (c % 2 ^ 16) (c / 2 ^ 16 % 2 ^ 16) (c / 2 ^ 32 % 2 ^ 16)
+
+      go : (b : Bool) → Both (cond b (record { state = pic (restored (view l .state) claim); reply = reply.Nothing }) (refused (view l) OutOfRange) .state .state)
+      go true = both-restored (view l .state) claim (both-in l)
       go false = both-in l
 
   pub view-read : (port width : ℕ) → Shows view (readWords l port width) (handleRead (view l) port width)
@@ -193,17 +196,9 @@ module _ (l : List ℕ) (h : length l ≡ 4) where
 pub refused-keeps : (l : List ℕ) (why : Refusal) → after l (refused (view l) why) ≡ refusing l why
 refused-keeps l why = λ i. record { words = put-same l i; code = replyCode (reply.Refused why) }
 
-pub restore-vector-out : (l : List ℕ) (v irq f : ℕ) → 256 ≤ v → restoreWords l v irq f ≡ refusing l OutOfRange
+pub restore-out : (l : List ℕ) (c : ℕ) → isClaim c ≡ false → restoreWords l c ≡ refusing l OutOfRange
 unfolding restoreWords
-restore-vector-out l v irq f h = rw (le-ltb v 256 h)
-
-pub restore-flags-out : (l : List ℕ) (v irq f : ℕ) → v < 256 → 4 ≤ f → restoreWords l v irq f ≡ refusing l OutOfRange
-unfolding restoreWords
-restore-flags-out l v irq f h g = rw (lt-ltb v 256 h, le-ltb f 4 g)
-
-pub restore-line-out : (l : List ℕ) (v irq f : ℕ) → v < 256 → f < 4 → 16 ≤ irq → restoreWords l v irq f ≡ refusing l OutOfRange
-unfolding restoreWords
-restore-line-out l v irq f h g k = rw (lt-ltb v 256 h, lt-ltb f 4 g, le-ltb irq 16 k) (refused-keeps l OutOfRange)
+restore-out l c h = rw h
 
 -- ---- equal words and codes come from equal outcomes
 

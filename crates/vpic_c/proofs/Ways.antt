@@ -1,6 +1,6 @@
 -- What each way out of the boundary's calls leaves in the words and answers, in the core's terms. Assumes nothing.
 use mathlib.Core.Path.{_≡_, refl, sym, ap, ap₂, _∙_}
-use mathlib.Core.Bool.{Bool, true, false, cond, not}
+use mathlib.Core.Bool.{Bool, true, false, cond, not, _&&_, true≢false}
 use mathlib.Core.List.{List, [], _∷_}
 use Prim.Native.Nat.{ℕ, _+_, _*_, _-_, _/_, _%_, _^_, _<_, _≤_}
 use native.Mathlib.Omega.{arith}
@@ -8,7 +8,7 @@ use lib.Dec.{eqb, ltb}
 use lib.ListN.{getD, set, length}
 use lib.Pow.{pow-pos}
 use lib.Seq.{getD-set-other, set-getD}
-use borrow.Author.Tests.{ltb-true, lt-ltb, le-ltb, eq-eqb, ne-eqb}
+use borrow.Author.Tests.{ltb-true, lt-ltb, le-ltb, eq-eqb, ne-eqb, eqb-true, eqb-false}
 use Rattle.utils.specs.Set.{bit, with}
 use Rattle.utils.proofs.Laws.{with-lt}
 use Rattle.types.specs.declared.PicLine.{PicLine}
@@ -33,7 +33,7 @@ use Rattle.vpic.proofs.ChipLaws.{Pending}
 use Rattle.vpic.proofs.PairLaws.{ready-master, ready-slave}
 use Rattle.boundary.specs.Lent.{Lent, replyCode}
 use Rattle.vpic_c.specs.Words.{chipIn, wordOf, withChip, view, put}
-use Rattle.vpic_c.specs.Calls.{lent, line, after, newWords, rangeWords, claimIrqWords, claimPendingWords, pulseIrqWords, nextInterruptWords, restoreWords, readWords, writeWords}
+use Rattle.vpic_c.specs.Calls.{lent, line, after, newWords, rangeWords, claimIrqWords, claimPendingWords, pulseIrqWords, nextInterruptWords, claimWith, isClaim, restoreWords, readWords, writeWords}
 use Rattle.vpic_c.proofs.Packing.{Bytes, bytes-in, chip-back, with-with, with-same}
 use Rattle.vpic_c.proofs.InPlace.{bytes-request}
 
@@ -251,38 +251,109 @@ pulse-some l m n k c r h g e q f =
 
 -- ---- a claim taken back
 
-pub restore-vector : (l : List ℕ) (v k f r : ℕ) → 255 < v → r ≡ replyCode (reply.Refused OutOfRange) → lent l r ≡ restoreWords l v k f
-unfolding restoreWords
-restore-vector l v k f r h e = rw (le-ltb v 256 (omega arith)) (lent-same refl e)
+pub restore-low : (l : List ℕ) (k f a : ℕ) → k < 8 → a ≡ withChip (getD l 0 0) (unacknowledged (chipIn (getD l 0 0)) (line k) (eqb (f % 2) 1))
+    → set l 0 a ≡ put l (restored (view l .state) (claimWith 0 k f))
+unfolding restored view
+restore-low l k f a j e =
+    rw (lt-ltb k 8 j) (ap (set l 0) e ∙ put-master l (unacknowledged (chipIn (getD l 0 0)) (line k) (eqb (f % 2) 1)))
 
-pub restore-line : (l : List ℕ) (v k f r : ℕ) → v ≤ 255 → 16 ≤ k → r ≡ replyCode (reply.Refused OutOfRange) → lent l r ≡ restoreWords l v k f
-unfolding restoreWords
-restore-line l v k f r h g e = rw (lt-ltb v 256 (omega arith), le-ltb k 16 g) (go (ltb f 4))
-  where
-    go : (b : Bool) → lent l r ≡ cond b (lent (put l (view l .state)) (replyCode (reply.Refused OutOfRange))) (lent l (replyCode (reply.Refused OutOfRange)))
-    go true = lent-same (sym (put-same l)) e
-    go false = lent-same refl e
-
-pub restore-flags : (l : List ℕ) (v k f r : ℕ) → v ≤ 255 → 3 < f → r ≡ replyCode (reply.Refused OutOfRange) → lent l r ≡ restoreWords l v k f
-unfolding restoreWords
-restore-flags l v k f r h g e = rw (lt-ltb v 256 (omega arith), le-ltb f 4 (omega arith)) (lent-same refl e)
-
-pub restore-low : (l : List ℕ) (v k f a r : ℕ) → v ≤ 255 → f ≤ 3 → k < 8 → a ≡ withChip (getD l 0 0) (unacknowledged (chipIn (getD l 0 0)) (line k) (eqb (f % 2) 1))
-    → r ≡ replyCode reply.Nothing → lent (set l 0 a) r ≡ restoreWords l v k f
-unfolding restoreWords restored view
-restore-low l v k f a r h g j e q =
-    rw (lt-ltb v 256 (omega arith), lt-ltb f 4 (omega arith), lt-ltb k 16 (omega arith), lt-ltb k 8 j)
-    (lent-same (ap (set l 0) e ∙ put-master l (unacknowledged (chipIn (getD l 0 0)) (line k) (eqb (f % 2) 1))) q)
-
-pub restore-high : (l : List ℕ) (v k f a b w r : ℕ) → v ≤ 255 → f ≤ 3 → 8 ≤ k → k < 16 → a ≡ withChip (getD l 0 0) (unacknowledged (chipIn (getD l 0 0)) cascadeIrq (eqb (f % 2) 1))
-    → w ≡ getD (set l 0 a) 1 0 → b ≡ withChip w (unacknowledged (chipIn w) (line (k - 8)) (eqb (f / 2) 1)) → r ≡ replyCode reply.Nothing
-    → lent (set (set l 0 a) 1 b) r ≡ restoreWords l v k f
-unfolding restoreWords restored view
-restore-high l v k f a b w r h g i j e d x q =
+pub restore-high : (l : List ℕ) (k f a b w : ℕ) → 8 ≤ k → k < 16 → a ≡ withChip (getD l 0 0) (unacknowledged (chipIn (getD l 0 0)) cascadeIrq (eqb (f % 2) 1))
+    → w ≡ getD (set l 0 a) 1 0 → b ≡ withChip w (unacknowledged (chipIn w) (line (k - 8)) (eqb (f / 2) 1))
+    → set (set l 0 a) 1 b ≡ put l (restored (view l .state) (claimWith 0 k f))
+unfolding restored view
+restore-high l k f a b w i j e d x =
     let s : w ≡ getD l 1 0 = d ∙ getD-set-other l 0 1 a 0 one-not-zero in
-    rw (lt-ltb v 256 (omega arith), lt-ltb f 4 (omega arith), lt-ltb k 16 j, le-ltb k 8 i)
-    (lent-same (put-both l a b w (unacknowledged (chipIn (getD l 0 0)) cascadeIrq (eqb (f % 2) 1)) (unacknowledged (chipIn (getD l 1 0)) (line (k - 8)) (eqb (f / 2) 1)) e d
-    (x ∙ ap (λ (y : ℕ). withChip w (unacknowledged (chipIn y) (line (k - 8)) (eqb (f / 2) 1))) s)) q)
+    rw (le-ltb k 8 i, lt-ltb k 16 j)
+    (put-both l a b w (unacknowledged (chipIn (getD l 0 0)) cascadeIrq (eqb (f % 2) 1)) (unacknowledged (chipIn (getD l 1 0)) (line (k - 8)) (eqb (f / 2) 1)) e d
+    (x ∙ ap (λ (y : ℕ). withChip w (unacknowledged (chipIn y) (line (k - 8)) (eqb (f / 2) 1))) s))
+
+-- what a claim's code holds
+both-true : (a b : Bool) → (a && b) ≡ true → (a ≡ true) × (b ≡ true)
+both-true true b e = (refl, e)
+both-true false b e = absurd (true≢false (sym e))
+
+pub record Claim (c : ℕ) : Type 0 where
+  pub three : c / 2 ^ 48 ≡ 3
+  pub vector : c % 2 ^ 16 < 256
+  pub irq : c / 2 ^ 16 % 2 ^ 16 < 16
+  pub flags : c / 2 ^ 32 % 2 ^ 16 < 4
+
+pub claim-holds : (c : ℕ) → isClaim c ≡ true → Claim c
+claim-holds c e =
+    let p = both-true (eqb (c / 2 ^ 48) 3) (ltb (c % 2 ^ 16) 256 && (ltb (c / 2 ^ 16 % 2 ^ 16) 16 && ltb (c / 2 ^ 32 % 2 ^ 16) 4)) e in
+    let q = both-true (ltb (c % 2 ^ 16) 256) (ltb (c / 2 ^ 16 % 2 ^ 16) 16 && ltb (c / 2 ^ 32 % 2 ^ 16) 4) (p .1) in
+    let r = both-true (ltb (c / 2 ^ 16 % 2 ^ 16) 16) (ltb (c / 2 ^ 32 % 2 ^ 16) 4) (q .1) in
+    record { three = eqb-true (c / 2 ^ 48) 3 (p .0); vector = ltb-true (c % 2 ^ 16) 256 (q .0); irq = ltb-true (c / 2 ^ 16 % 2 ^ 16) 16 (r .0); flags = ltb-true (c / 2 ^ 32 % 2 ^ 16) 4 (r .1) }
+
+-- in one number: what lies outside the three values and their ranges
+abbrev outer : ℕ → ℕ
+outer c = c / 2 ^ 34 * 2 ^ 34 + c / 2 ^ 20 % 2 ^ 12 * 2 ^ 20 + c / 2 ^ 8 % 2 ^ 8 * 2 ^ 8
+
+-- the upper part of each value
+low-part : (x : ℕ) → x % 2 ^ 16 ≡ x / 2 ^ 8 % 2 ^ 8 * 2 ^ 8 + x % 2 ^ 8
+low-part x = let e : x / 2 ^ 8 / 2 ^ 8 ≡ x / 2 ^ 16 = omega arith in omega (arith, e)
+
+mid-part : (x : ℕ) → x / 2 ^ 16 % 2 ^ 16 ≡ x / 2 ^ 20 % 2 ^ 12 * 2 ^ 4 + x / 2 ^ 16 % 2 ^ 4
+mid-part x =
+    let d : x / 2 ^ 16 / 2 ^ 4 ≡ x / 2 ^ 20 = omega arith in
+    let e : x / 2 ^ 20 / 2 ^ 12 ≡ x / 2 ^ 16 / 2 ^ 16 = omega (arith, d) in
+    omega (arith, d, e)
+
+top-part : (x : ℕ) → x / 2 ^ 32 % 2 ^ 16 ≡ x / 2 ^ 34 % 2 ^ 14 * 2 ^ 2 + x / 2 ^ 32 % 2 ^ 2
+top-part x =
+    let d : x / 2 ^ 32 / 2 ^ 2 ≡ x / 2 ^ 34 = omega arith in
+    let e : x / 2 ^ 34 / 2 ^ 14 ≡ x / 2 ^ 32 / 2 ^ 16 = omega (arith, d) in
+    omega (arith, d, e)
+
+count-part : (x : ℕ) → x / 2 ^ 34 / 2 ^ 14 ≡ x / 2 ^ 48
+count-part x = omega arith
+
+outer-is : (c : ℕ) → Claim c → outer c ≡ 3 * 2 ^ 48
+outer-is c h =
+    let a : c / 2 ^ 8 % 2 ^ 8 ≡ 0 = omega (arith, h .vector, low-part c) in
+    let b : c / 2 ^ 20 % 2 ^ 12 ≡ 0 = omega (arith, h .irq, mid-part c) in
+    let f : c / 2 ^ 34 % 2 ^ 14 ≡ 0 = omega (arith, h .flags, top-part c) in
+    let t : c / 2 ^ 34 / 2 ^ 14 ≡ 3 = count-part c ∙ h .three in
+    let d : c / 2 ^ 34 ≡ 3 * 2 ^ 14 = omega (arith, f, t) in
+    rw (a, b, d)
+
+outer-claim : (c : ℕ) → outer c ≡ 3 * 2 ^ 48 → Claim c
+outer-claim c e =
+    let d : c / 2 ^ 34 ≡ 3 * 2 ^ 14 = omega (arith, e) in
+    let b : c / 2 ^ 20 % 2 ^ 12 ≡ 0 = omega (arith, e, d) in
+    let a : c / 2 ^ 8 % 2 ^ 8 ≡ 0 = omega (arith, e, d, b) in
+    let f : c / 2 ^ 34 % 2 ^ 14 ≡ 0 = rw d in
+    let t : c / 2 ^ 34 / 2 ^ 14 ≡ 3 = rw d in
+    record { three = sym (count-part c) ∙ t; vector = omega (arith, a, low-part c); irq = omega (arith, b, mid-part c); flags = omega (arith, f, top-part c) }
+
+pub claim-test : (c : ℕ) → eqb (outer c) 0x3000000000000 ≡ isClaim c
+claim-test c = go (eqb (outer c) 0x3000000000000) refl (isClaim c) refl
+  where
+    go : (x : Bool) → eqb (outer c) 0x3000000000000 ≡ x → (y : Bool) → isClaim c ≡ y → x ≡ y
+    go true p true q = refl
+    go false p false q = refl
+    go false p true q = absurd (eqb-false (outer c) 0x3000000000000 p (outer-is c (claim-holds c q)))
+    go true p false q =
+        let h = outer-claim c (eqb-true (outer c) 0x3000000000000 p) in
+        let z : isClaim c ≡ true = rw (eq-eqb (c / 2 ^ 48) 3 (h .three), lt-ltb (c % 2 ^ 16) 256 (h .vector), lt-ltb (c / 2 ^ 16 % 2 ^ 16) 16 (h .irq), lt-ltb (c / 2 ^ 32 % 2 ^ 16) 4 (h .flags)) in
+        sym z ∙ q
+
+-- the vector is no matter
+vector-unasked : (p : PicState) (v k f : ℕ) → restored p (claimWith 0 k f) ≡ restored p (claimWith v k f)
+unfolding restored
+vector-unasked p v k f = refl
+
+pub restore-done : (l w : List ℕ) (c r : ℕ) → isClaim c ≡ true → w ≡ put l (restored (view l .state) (claimWith 0 (c / 2 ^ 16 % 2 ^ 16) (c / 2 ^ 32 % 2 ^ 16))) → r ≡ replyCode reply.Nothing
+    → lent w r ≡ restoreWords l c
+unfolding restoreWords
+restore-done l w c r h e q =
+    let k = claim-holds c h .irq in
+    rw (h, lt-ltb (c / 2 ^ 16 % 2 ^ 16) 16 k)
+    (lent-same (e ∙ ap (put l) (vector-unasked (view l .state) (c % 2 ^ 16) (c / 2 ^ 16 % 2 ^ 16) (c / 2 ^ 32 % 2 ^ 16))) q)
+
+pub restore-other : (l : List ℕ) (c r : ℕ) → isClaim c ≡ false → r ≡ replyCode (reply.Refused OutOfRange) → lent l r ≡ restoreWords l c
+unfolding restoreWords
+restore-other l c r h e = rw h (lent-same refl e)
 
 -- ---- the ports
 

@@ -1,6 +1,6 @@
 -- Each call of the pair on lent words: what it leaves in them, and its code. All but the making of a new pair are the core's outcome of the pair that the words stand for.
-use Prim.Native.Nat.{ℕ, _/_, _%_}
-use mathlib.Core.Bool.{cond}
+use Prim.Native.Nat.{ℕ, _^_, _/_, _%_}
+use mathlib.Core.Bool.{Bool, cond, _&&_}
 use mathlib.Core.List.{List}
 use lib.Dec.{ltb, eqb}
 use lib.ListN.{set}
@@ -53,11 +53,14 @@ claimWith vector irq flags = record {
   «slave_in_service» = eqb (flags / 2) 1;
 }
 
-unfoldable pub restoreWords : List ℕ → ℕ → ℕ → ℕ → Lent
-restoreWords l vector irq flags =
-    cond (ltb vector 256)
-    (cond (ltb flags 4) (after l (restoreInterrupt (view l) (claimWith vector irq flags))) (refusing l OutOfRange))
-    (refusing l OutOfRange)
+-- a number that a claim answers: of three values, in their ranges
+abbrev pub isClaim : ℕ → Bool
+isClaim c = eqb (c / 2 ^ 48) 3 && (ltb (c % 2 ^ 16) 256 && (ltb (c / 2 ^ 16 % 2 ^ 16) 16 && ltb (c / 2 ^ 32 % 2 ^ 16) 4))
+
+-- restore_interrupt takes the code that a claim answered, and no other number
+unfoldable pub restoreWords : List ℕ → ℕ → Lent
+restoreWords l c =
+    cond (isClaim c) (after l (restoreInterrupt (view l) (claimWith (c % 2 ^ 16) (c / 2 ^ 16 % 2 ^ 16) (c / 2 ^ 32 % 2 ^ 16)))) (refusing l OutOfRange)
 
 unfoldable pub readWords : List ℕ → ℕ → ℕ → Lent
 readWords l port width = answering l (handleRead (view l) port width .reply)

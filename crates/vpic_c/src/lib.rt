@@ -13,9 +13,9 @@ ghost use Rattle.types.specs.declared.PicPlace.the-variants as place;
 ghost use Rattle.vpic.specs.declared.pair.PicClaim.the-variants as claim;
 ghost use Rattle.boundary.specs.Lent.{replyCode};
 ghost use Rattle.vpic.specs.Chip.{pulsed, acknowledged, unacknowledged, commanded, fed};
-ghost use Rattle.vpic.specs.Pair.{claimReply, latched, pendingPlace};
+ghost use Rattle.vpic.specs.Pair.{claimReply, latched, pendingPlace, restored};
 ghost use Rattle.vpic_c.specs.Words.{chipIn, wordOf, withChip, view, put};
-ghost use Rattle.vpic_c.specs.Calls.{lent, line, newWords, rangeWords, claimIrqWords, claimPendingWords, pulseIrqWords, nextInterruptWords, restoreWords, readWords, writeWords};
+ghost use Rattle.vpic_c.specs.Calls.{lent, line, newWords, rangeWords, claimIrqWords, claimPendingWords, pulseIrqWords, nextInterruptWords, claimWith, isClaim, restoreWords, readWords, writeWords};
 use boundary::code;
 use types::PicLine;
 use types::PicPlace;
@@ -191,7 +191,7 @@ fn claimed(vector: Vector, irq: PicLine, master_in_service: bool, slave_in_servi
 }
 
 // The master answers for one of its lines.
-fn claim_master(words: &mut [u64; 4], line: PicLine) -> u64
+fn take_master(words: &mut [u64; 4], line: PicLine) -> u64
     requires { ⌜ pendingPlace (view (now words) .state) ≡ place.Master line ⌝ }
     ensures { λ r. ⌜ lent (now (words .exit)) r ≡ claimPendingWords (now (words .entry)) ⌝ }
 {
@@ -202,7 +202,7 @@ fn claim_master(words: &mut [u64; 4], line: PicLine) -> u64
 }
 
 // The slave answers for one of its lines, through the master's line 2.
-fn claim_slave(words: &mut [u64; 4], line: PicLine) -> u64
+fn take_slave(words: &mut [u64; 4], line: PicLine) -> u64
     requires { ⌜ pendingPlace (view (now words) .state) ≡ place.Slave line ⌝ }
     ensures { λ r. ⌜ lent (now (words .exit)) r ≡ claimPendingWords (now (words .entry)) ⌝ }
 {
@@ -217,6 +217,29 @@ fn claim_slave(words: &mut [u64; 4], line: PicLine) -> u64
         serves(master),
         serves(slave),
     )
+}
+
+// The same with the usual mode apart, in which a line taken is in service.
+fn claim_master(words: &mut [u64; 4], line: PicLine) -> u64
+    requires { ⌜ pendingPlace (view (now words) .state) ≡ place.Master line ⌝ }
+    ensures { λ r. ⌜ lent (now (words .exit)) r ≡ claimPendingWords (now (words .entry)) ⌝ }
+{
+    if serves(words[0]) {
+        return take_master(&mut *words, line);
+    }
+    take_master(&mut *words, line)
+}
+
+fn claim_slave(words: &mut [u64; 4], line: PicLine) -> u64
+    requires { ⌜ pendingPlace (view (now words) .state) ≡ place.Slave line ⌝ }
+    ensures { λ r. ⌜ lent (now (words .exit)) r ≡ claimPendingWords (now (words .entry)) ⌝ }
+{
+    if serves(words[0]) {
+        if serves(words[1]) {
+            return take_slave(&mut *words, line);
+        }
+    }
+    take_slave(&mut *words, line)
 }
 
 // What can be delivered is claimed.
@@ -315,32 +338,44 @@ pub extern "C" fn sillwander_pic_next_interrupt(words: &mut [u64; 4]) -> u64
     vector_alone(claim(&mut *words))
 }
 
-#[no_mangle]
-pub extern "C" fn sillwander_pic_restore_interrupt(
-    words: &mut [u64; 4],
-    vector: u64,
-    irq: u64,
-    flags: u64,
-) -> u64
-    ensures { λ r. ⌜ lent (now (words .exit)) r ≡ restoreWords (now (words .entry)) vector irq flags ⌝ }
+// Whether a number is what a claim answers: three values, the vector below 256, the line below 16, the flags below 4. All in one comparison: no bit but theirs.
+fn is_claim(claim: u64) -> bool
+    ensures { λ r. ⌜ r ≡ isClaim claim ⌝ }
 {
-    if vector > 255 {
-        return refused(Refusal::OutOfRange);
-    }
-    if irq >= 16 {
-        return refused(Refusal::OutOfRange);
-    }
-    if flags > 3 {
-        return refused(Refusal::OutOfRange);
-    }
+    claim / 0x4_0000_0000 * 0x4_0000_0000
+        + claim / 0x10_0000 % 0x1000 * 0x10_0000
+        + claim / 0x100 % 0x100 * 0x100
+        == 0x3_0000_0000_0000
+}
+
+// A claim of a line with these flags is taken back.
+fn restore(words: &mut [u64; 4], irq: u64, flags: u64)
+    requires { ⌜ (irq < 16) × (flags < 4) ⌝ }
+    ensures { λ _. ⌜ now (words .exit) ≡ put (now (words .entry)) (restored (view (now (words .entry)) .state) (claimWith 0 irq flags)) ⌝ }
+{
     let master_in_service = flags % 2 == 1;
     let slave_in_service = flags / 2 == 1;
     if irq < 8 {
         words[0] = unacknowledge(words[0], PicLine(irq as u8), master_in_service);
-        return code(Reply::Nothing);
+        return;
     }
     words[0] = unacknowledge(words[0], PicLine(CASCADE_IRQ), master_in_service);
     words[1] = unacknowledge(words[1], PicLine(irq as u8 - 8), slave_in_service);
+}
+
+// The claim is the code that a claim answered.
+#[no_mangle]
+pub extern "C" fn sillwander_pic_restore_interrupt(words: &mut [u64; 4], claim: u64) -> u64
+    ensures { λ r. ⌜ lent (now (words .exit)) r ≡ restoreWords (now (words .entry)) claim ⌝ }
+{
+    if !is_claim(claim) {
+        return refused(Refusal::OutOfRange);
+    }
+    restore(
+        &mut *words,
+        claim / 0x1_0000 % 0x1_0000,
+        claim / 0x1_0000_0000 % 0x1_0000,
+    );
     code(Reply::Nothing)
 }
 

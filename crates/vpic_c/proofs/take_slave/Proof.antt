@@ -1,8 +1,8 @@
 use Rattle.vpic_c.proofs.Ways.{line-slave, slave-way}
 use native.Mathlib.Omega.{arith}
 use borrow.Author.Needs.{needs}
-use Rattle.vpic_c.proofs.claim_slave.Statement.{statement}
-use Rattle.vpic_c.proofs.claim_slave.Tie as tie
+use Rattle.vpic_c.proofs.take_slave.Statement.{statement}
+use Rattle.vpic_c.proofs.take_slave.Tie as tie
 
 element-copy-out-master : tie.Need-element-copy-out-master
 element-copy-out-master c = search needs
@@ -43,8 +43,8 @@ claimed-requires c κs = search needs
 returns : tie.Need-returns
 returns c = slave-way _ _ _ _ _ _ _ _ _ (c .before .before .before .before .before .before .before .before .before .before .pre) (c .before .before .before .before .before .before .before .chip-of .ensures) (c .before .before .before .before .before .before .acknowledge .ensures) (c .before .before .before .before .before .acknowledge2 .ensures) (c .before .before .before .before .vector .ensures) (c .before .before .serves .ensures) (c .before .serves2 .ensures) (c .claimed .ensures)
 
-pub claim-slave-spec : {M : Type 1} → statement M
-claim-slave-spec =
+pub take-slave-spec : {M : Type 1} → statement M
+take-slave-spec =
     tie.close
     (tie.spec
     element-copy-out-master

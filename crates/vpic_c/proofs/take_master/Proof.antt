@@ -1,7 +1,7 @@
 use Rattle.vpic_c.proofs.Ways.{line-master, master-way}
 use borrow.Author.Needs.{needs}
-use Rattle.vpic_c.proofs.claim_master.Statement.{statement}
-use Rattle.vpic_c.proofs.claim_master.Tie as tie
+use Rattle.vpic_c.proofs.take_master.Statement.{statement}
+use Rattle.vpic_c.proofs.take_master.Tie as tie
 
 element-copy-out-master : tie.Need-element-copy-out-master
 element-copy-out-master c = search needs
@@ -27,8 +27,8 @@ claimed-requires c κs = search needs
 returns : tie.Need-returns
 returns c = search master-way
 
-pub claim-master-spec : {M : Type 1} → statement M
-claim-master-spec =
+pub take-master-spec : {M : Type 1} → statement M
+take-master-spec =
     tie.close
     (tie.spec
     element-copy-out-master
