@@ -392,7 +392,7 @@ row! {
         let code = sillwander_pic_claim_irq(words, irq);
         if code != 0 {
             sum += code & 0xff;
-            sillwander_pic_restore_interrupt(words, code & 0xffff, code >> 16 & 0xffff, code >> 32 & 0xffff);
+            sillwander_pic_restore_interrupt(words, code);
         }
     }
     ours(pic) {

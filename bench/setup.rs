@@ -42,7 +42,7 @@ unsafe extern "C" {
     pub safe fn sillwander_pic_claim_pending_interrupt(words: &mut pic::Words) -> u64;
     pub safe fn sillwander_pic_pulse_irq(words: &mut pic::Words, irq: u64) -> u64;
     pub safe fn sillwander_pic_next_interrupt(words: &mut pic::Words) -> u64;
-    pub safe fn sillwander_pic_restore_interrupt(words: &mut pic::Words, vector: u64, irq: u64, flags: u64) -> u64;
+    pub safe fn sillwander_pic_restore_interrupt(words: &mut pic::Words, claim: u64) -> u64;
     pub safe fn sillwander_pic_handle_read(words: &pic::Words, port: u64, width: u64) -> u64;
     pub safe fn sillwander_pic_handle_write(words: &mut pic::Words, port: u64, width: u64, value: u64) -> u64;
     pub safe fn sillwander_lapic_setup(words: &mut local::Words, x2apic: u64, vcpu_id: u64, vcpu_num: u64) -> u64;

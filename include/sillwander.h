@@ -98,7 +98,7 @@ uint64_t sillwander_ioapic_handle_write(uint64_t words[32], uint64_t addr, uint6
  *                                          bit  43      a command port reads the lines in service
  *    2, 3  spare: 0 in a new state, and no call reads or writes them
  *
- * Bits 63..44 of words 0 and 1 are ignored, and cleared by a call that is done and isn't a read.
+ * Bits 63..44 of words 0 and 1 are ignored; a new pair has them 0, and every other call keeps them.
  */
 #define SILLWANDER_PIC_WORDS 4
 
@@ -119,9 +119,9 @@ uint64_t sillwander_pic_claim_pending_interrupt(uint64_t words[4]);
 uint64_t sillwander_pic_pulse_irq(uint64_t words[4], uint64_t irq);
 uint64_t sillwander_pic_next_interrupt(uint64_t words[4]);
 
-/* Restores a claim whose vector couldn't be published: the three values that the claim answered. Refused: 5 for a vector above 255, a line from 16 up or
-   flags above 3. */
-uint64_t sillwander_pic_restore_interrupt(uint64_t words[4], uint64_t vector, uint64_t irq, uint64_t flags);
+/* Restores a claim whose vector couldn't be published: `claim` is the code that the claim answered. Refused: 5 for a number that no claim answers (not of three
+   values, a vector above 255, a line from 16 up or flags above 3). */
+uint64_t sillwander_pic_restore_interrupt(uint64_t words[4], uint64_t claim);
 
 /* A port read: one value. Refused: 1 for a width other than 1 or a port that the pair doesn't have. */
 uint64_t sillwander_pic_handle_read(const uint64_t words[4], uint64_t port, uint64_t width);

@@ -238,6 +238,12 @@ static void open_masks(void)
     EXPECT(outb(0xa1, 0), NONE);
 }
 
+/* The code of a claim, by the header's layout. */
+static uint64_t claim_code(uint64_t vector, uint64_t irq, uint64_t flags)
+{
+    return 3ULL << 48 | flags << 32 | irq << 16 | vector;
+}
+
 static void examples_of_the_pair(void)
 {
     start("example 7");
@@ -256,7 +262,7 @@ static void examples_of_the_pair(void)
     start("example 8");
     open_masks();
     EXPECT(claim(2), three(0x0a, 2, 1));
-    EXPECT(sillwander_pic_restore_interrupt(pic, 0x0a, 2, 1), NONE);
+    EXPECT(sillwander_pic_restore_interrupt(pic, claim_code(0x0a, 2, 1)), NONE);
     CHECK((pic[0] >> 16 & 0xff) == 4);
     CHECK((pic[0] >> 24 & 0xff) == 0);
     EXPECT(inb(0x20), one(4));
@@ -415,13 +421,12 @@ static void refusals_of_the_pair(void)
         REFUSED(pic_lent, inb(ports[k]), SILLWANDER_UNSUPPORTED);
         REFUSED(pic_lent, outb(ports[k], 0x20), SILLWANDER_UNSUPPORTED);
     }
-    REFUSED(pic_lent, sillwander_pic_restore_interrupt(pic, 256, 9, 3), SILLWANDER_OUT_OF_RANGE);
-    REFUSED(pic_lent, sillwander_pic_restore_interrupt(pic, HIGH, 9, 3), SILLWANDER_OUT_OF_RANGE);
-    REFUSED(pic_lent, sillwander_pic_restore_interrupt(pic, 0x71, 16, 3), SILLWANDER_OUT_OF_RANGE);
-    REFUSED(pic_lent, sillwander_pic_restore_interrupt(pic, 0x71, 256 + 9, 3), SILLWANDER_OUT_OF_RANGE);
-    REFUSED(pic_lent, sillwander_pic_restore_interrupt(pic, 0x71, HIGH + 9, 3), SILLWANDER_OUT_OF_RANGE);
-    REFUSED(pic_lent, sillwander_pic_restore_interrupt(pic, 0x71, 9, 4), SILLWANDER_OUT_OF_RANGE);
-    REFUSED(pic_lent, sillwander_pic_restore_interrupt(pic, 0x71, 9, HIGH + 3), SILLWANDER_OUT_OF_RANGE);
+    /* what no claim answers: another count of values, a refusal, and each value out of its range */
+    const uint64_t claims[] = {0, claim_code(0x71, 9, 3) - (1ULL << 48), claim_code(0x71, 9, 3) + (1ULL << 48), claim_code(0x71, 9, 3) | 1ULL << 56,
+                               claim_code(256, 9, 3), claim_code(0xff71, 9, 3), claim_code(0x71, 16, 3), claim_code(0x71, 256 + 9, 3), claim_code(0x71, 0xffff, 3),
+                               claim_code(0x71, 9, 4), claim_code(0x71, 9, 0xffff), UINT64_MAX};
+    for (unsigned k = 0; k < sizeof claims / sizeof *claims; k++)
+        REFUSED(pic_lent, sillwander_pic_restore_interrupt(pic, claims[k]), SILLWANDER_OUT_OF_RANGE);
     const uint64_t lines[] = {16, 17, 255, 256 + 1, HIGH + 1, UINT64_MAX};
     for (unsigned k = 0; k < sizeof lines / sizeof *lines; k++) {
         IDLE(pic_lent, claim(lines[k]));
@@ -546,7 +551,7 @@ static uint64_t call(unsigned which)
     case 12: return sillwander_pic_claim_pending_interrupt(pic);
     case 13: return sillwander_pic_pulse_irq(pic, a);
     case 14: return sillwander_pic_next_interrupt(pic);
-    case 15: return sillwander_pic_restore_interrupt(pic, a, b, c % 5);
+    case 15: return sillwander_pic_restore_interrupt(pic, d % 2 ? claim_code(a % 257, b % 17, c % 5) : a);
     case 16: return sillwander_pic_handle_read(pic, a, b);
     case 17: return sillwander_pic_handle_write(pic, a, b, c);
     case 18: return sillwander_lapic_new(lapic);

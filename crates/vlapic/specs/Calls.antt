@@ -1,7 +1,7 @@
 -- The calls that can be refused: setup and the write of a register. (Acceptance and EOI stand in Priority, the read in Registers.)
 -- Intel SDM volume 3, the APIC chapter: local APIC register address map; ICR in xAPIC and in x2APIC mode; SELF IPI register.
 use Prim.Native.Nat.{ℕ, _/_, _%_}
-use mathlib.Core.Bool.{Bool, true, cond}
+use mathlib.Core.Bool.{Bool, true, not, cond}
 use lib.Dec.{eqb, ltb}
 use Rattle.types.specs.declared.VcpuId.{VcpuId}
 use Rattle.types.specs.declared.Refusal.the-variants.{InvalidRegister, OutOfRange}
@@ -50,6 +50,12 @@ unfoldable pub writeIcr : VirtualApicRegs → ℕ → ℕ → ℕ → ℕ → Ou
 writeIcr s lo hi num active = answered (withCommand s (idle lo) hi) (command (commandOf (withCommand s (idle lo) hi)) num active)
 
 -- the ICR is written whole, by 8 bytes, in x2APIC mode, and never by 8 bytes in xAPIC mode, where its high word has its own offset
+abbrev pub icrWidth : Bool → ℕ → Bool
+icrWidth x2apic width = cond x2apic (eqb width 8) (not (eqb width 8))
+
+abbrev pub icrHigh : Bool → ℕ → ℕ → ℕ
+icrHigh x2apic val hi = cond x2apic (val / 0x100000000) hi
+
 unfoldable pub writeIcrLow : VirtualApicRegs → ℕ → ℕ → ℕ → ℕ → Outcome VirtualApicRegs
 writeIcrLow s val width num active =
     cond (s .x2apic)

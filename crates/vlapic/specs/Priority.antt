@@ -35,8 +35,11 @@ acceptInterrupt s vector level =
     (cond level (withVector (s .tmr) (vector .0)) (withoutVector (s .tmr) (vector .0)))))
 
 -- an EOI message goes to the I/O APICs if the vector is level-triggered, unless SVR suppresses it
+abbrev pub broadcast : Bool → ℕ → Bool
+broadcast level svr = cond level (not (bit svr 12)) false
+
 abbrev pub broadcasts : VirtualApicRegs → ℕ → Bool
-broadcasts s vector = cond (inWords (s .tmr) vector) (not (bit (s .svr) 12)) false
+broadcasts s vector = broadcast (inWords (s .tmr) vector) (s .svr)
 
 -- the end of `vector`: it leaves ISR, and PPR follows. TMR stays
 abbrev pub endOf : VirtualApicRegs → ℕ → Outcome VirtualApicRegs

@@ -14,11 +14,11 @@ ghost use Rattle.types.specs.declared.Refusal.the-variants.{InvalidRegister};
 ghost use Rattle.types.specs.declared.Reply.the-variants.{One};
 ghost use Rattle.vlapic.specs.Regs.{start, servicing, withError};
 ghost use Rattle.vlapic.specs.Answers.{eoiReply, readReply, writeReply, regsOutcome, eoiOutcome, writeOutcome, done, refused};
-ghost use Rattle.vlapic.specs.Priority.{findIsrv, priority, updatePpr, acceptInterrupt, broadcasts, handleEoi};
+ghost use Rattle.vlapic.specs.Priority.{findIsrv, priority, updatePpr, acceptInterrupt, broadcast, broadcasts, handleEoi};
 ghost use Rattle.vlapic.specs.Registers.{idWord, readable, wordAt, eightFrom, eightAt, handleRead, lvtEntries, listed, stored, writeStored};
-ghost use Rattle.vlapic.specs.Calls.{outOfRange, setup, answered, writeIcr, writeIcrLow, writeSelfIpi, handleWrite};
+ghost use Rattle.vlapic.specs.Calls.{outOfRange, setup, answered, icrWidth, icrHigh, writeIcr, writeIcrLow, writeSelfIpi, handleWrite};
 
-mod consts;
+pub mod consts;
 
 use types::Refusal;
 use types::Reply;
@@ -125,7 +125,7 @@ impl WriteAnswer {
 }
 
 // More vCPUs than a mask has bits, or an id that no mask can hold.
-fn is_out_of_range(vcpu_num: usize, vcpu_id: usize) -> bool
+pub fn is_out_of_range(vcpu_num: usize, vcpu_id: usize) -> bool
     ensures { λ r. ⌜ r ≡ outOfRange «vcpu_num» «vcpu_id» ⌝ }
 {
     if vcpu_num > 64 {
@@ -242,10 +242,7 @@ impl VirtualApicRegs {
         ensures { λ r. ⌜ r ≡ broadcasts self (vector .0) ⌝ }
     {
         let tmr = self.tmr;
-        if vectors::has(tmr, vector) {
-            return self.svr / 4096 % 2 != 1;
-        }
-        false
+        is_broadcast(vectors::has(tmr, vector), self.svr)
     }
 
     fn process_eoi(self) -> EoiStep
@@ -281,8 +278,18 @@ impl VirtualApicRegs {
     }
 }
 
+// Whether the end of a vector is broadcast, by its trigger mode: SVR bit 12 suppresses it.
+pub fn is_broadcast(level_triggered: bool, svr: u32) -> bool
+    ensures { λ r. ⌜ r ≡ broadcast «level_triggered» svr ⌝ }
+{
+    if level_triggered {
+        return svr / 4096 % 2 != 1;
+    }
+    false
+}
+
 // PPR by TPR and the highest vector in service.
-fn ppr_of(tpr: u32, isrv: Vector) -> u32
+pub fn ppr_of(tpr: u32, isrv: Vector) -> u32
     ensures { λ r. ⌜ r ≡ priority tpr (isrv .0) ⌝ }
 {
     let class = utils::prio(isrv.0 as u32);
@@ -290,6 +297,26 @@ fn ppr_of(tpr: u32, isrv: Vector) -> u32
         return tpr;
     }
     class * 16
+}
+
+// The ICR is written whole, by 8 bytes, in x2APIC mode, and never by 8 bytes in xAPIC mode.
+pub fn is_icr_width(x2apic: bool, width: u8) -> bool
+    ensures { λ r. ⌜ r ≡ icrWidth x2apic width ⌝ }
+{
+    if x2apic {
+        return width == 8;
+    }
+    width != 8
+}
+
+// The ICR's high word after that: the value's in x2APIC mode, else the one that stands there.
+pub fn icr_high(x2apic: bool, val: u64, icr_hi: u32) -> u32
+    ensures { λ r. ⌜ r ≡ icrHigh x2apic val «icr_hi» ⌝ }
+{
+    if x2apic {
+        return (val / 0x100000000) as u32;
+    }
+    icr_hi
 }
 
 // One of eight words that stand 0x10 apart.
@@ -520,17 +547,12 @@ impl VirtualApicRegs {
         requires { ⌜ («vcpu_num» ≤ 64) × (self .«vapic_id» ≤ 63) ⌝ }
         ensures { λ r. ⌜ writeOutcome r ≡ writeIcrLow self val width «vcpu_num» «active_vcpus» ⌝ }
     {
-        let lo = (val % 0x100000000) as u32;
-        if self.x2apic {
-            if width == 8 {
-                return self.write_icr(lo, (val / 0x100000000) as u32, vcpu_num, active_vcpus);
-            }
-            return self.refuse(Refusal::InvalidRegister);
+        if is_icr_width(self.x2apic, width) {
+            let lo = (val % 0x100000000) as u32;
+            let hi = icr_high(self.x2apic, val, self.icr_hi);
+            return self.write_icr(lo, hi, vcpu_num, active_vcpus);
         }
-        if width == 8 {
-            return self.refuse(Refusal::InvalidRegister);
-        }
-        self.write_icr(lo, self.icr_hi, vcpu_num, active_vcpus)
+        self.refuse(Refusal::InvalidRegister)
     }
 
     // A write of the self-IPI register, which x2APIC mode alone has.

@@ -3,8 +3,10 @@ use mathlib.Core.Path.{_≡_, refl, sym, ap, ap₂, subst, _∙_}
 use mathlib.Core.Bool.{Bool, true, false, cond}
 use Prim.Native.Nat.{ℕ, _+_, _*_, _/_, _%_, _<_}
 use lib.Dec.{eqb}
-use borrow.Author.Tests.{eq-eqb, ne-eqb}
+use borrow.Author.Tests.{eqb-true, eq-eqb, ne-eqb}
 use Rattle.types.specs.declared.PicLine.{PicLine}
+use Rattle.types.specs.declared.PicPlace.{PicPlace}
+use Rattle.types.specs.declared.PicPlace.the-variants.{Master, Slave, Nowhere}
 use Rattle.types.specs.declared.Reply.{Reply}
 use Rattle.types.specs.declared.Reply.the-variants as reply
 use Rattle.types.specs.Reply.{flag}
@@ -27,35 +29,65 @@ use Rattle.vpic.specs.declared.pair.PicValue.the-variants.{Value, Refuse
 use Rattle.vpic.specs.declared.pair.PicRead.{PicRead}
 use Rattle.vpic.specs.declared.pair.StateClaim.{StateClaim}
 use Rattle.vpic.specs.Chip.{pendingIrq, pendingReply, vectorReply}
-use Rattle.vpic.specs.Pair.{cascadeIrq, masterClaim, slaveClaim, cascadeClaim, nothingClaimed, pendingClaim, claimPending, claimReply, doneReply, valueReply, claimOutcome, vectorOutcome, writeOutcome, readOutcome}
-use Rattle.vpic.proofs.ChipLaws.{pending-reply-same, pending-is-line, vector-reply-same}
+use Rattle.vpic.specs.Pair.{cascadeIrq, cascadePlace, placeFrom, pendingPlace, claimAt, claimPending, claimReply, doneReply, valueReply, claimOutcome, vectorOutcome, writeOutcome, readOutcome}
+use Rattle.vpic.proofs.ChipLaws.{pending-reply-same, vector-reply-same, Pending, pended}
 
 -- what `pending_irq` answered is what is pending
 answered : (c : PicChip) (a b : PendingIrq) → pendingReply a ≡ pendingReply (pendingIrq c) → a ≡ b → pendingIrq c ≡ b
 answered c a b r e = sym (pending-reply-same a (pendingIrq c) r) ∙ e
 
-pub pending-below : (c : PicChip) (a : PendingIrq) (k : PicLine) → pendingReply a ≡ pendingReply (pendingIrq c) → a ≡ Irq k → k .0 < 8
-pending-below c a k r e = pending-is-line c k (answered c a (Irq k) r e) .1
+-- a law for each way out of `pending_place`
+pub place-nowhere : (p : PicState) (a : PendingIrq) → pendingReply a ≡ pendingReply (pendingIrq (p .master)) → a ≡ Nothing → Nowhere ≡ pendingPlace p
+place-nowhere p a r e = rw (answered (p .master) a Nothing r e)
+
+pub place-master : (p : PicState) (a : PendingIrq) (k : PicLine) → pendingReply a ≡ pendingReply (pendingIrq (p .master)) → a ≡ Irq k → (k .0 ≡ 2 → ⊥) → Master k ≡ pendingPlace p
+place-master p a k r e n = rw (answered (p .master) a (Irq k) r e, ne-eqb (k .0) 2 n)
+
+pub place-cascade : (p : PicState) (a b : PendingIrq) (k : PicLine) → pendingReply a ≡ pendingReply (pendingIrq (p .master)) → a ≡ Irq k → k .0 ≡ 2
+    → pendingReply b ≡ pendingReply (pendingIrq (p .slave)) → b ≡ Nothing → Master cascadeIrq ≡ pendingPlace p
+place-cascade p a b k r e n s f = rw (answered (p .master) a (Irq k) r e, eq-eqb (k .0) 2 n, answered (p .slave) b Nothing s f)
+
+pub place-slave : (p : PicState) (a b : PendingIrq) (k j : PicLine) → pendingReply a ≡ pendingReply (pendingIrq (p .master)) → a ≡ Irq k → k .0 ≡ 2
+    → pendingReply b ≡ pendingReply (pendingIrq (p .slave)) → b ≡ Irq j → Slave j ≡ pendingPlace p
+place-slave p a b k j r e n s f = rw (answered (p .master) a (Irq k) r e, eq-eqb (k .0) 2 n, answered (p .slave) b (Irq j) s f)
+
+-- the line of a place is pending there, and the slave's with the master's line 2
+abbrev pub Ready : PicState → PicPlace → Type 0
+Ready p (Master k) = Pending (p .master) (k .0)
+Ready p (Slave k) = Pending (p .master) 2 × Pending (p .slave) (k .0)
+Ready p Nowhere = Unit
+
+pub pending-ready : (p : PicState) → Ready p (pendingPlace p)
+pending-ready p = by-master (pendingIrq (p .master)) refl
+  where
+    by-slave : (b : PendingIrq) → pendingIrq (p .slave) ≡ b → Pending (p .master) 2 → Ready p (cascadePlace b)
+    by-slave (Irq k) e h = (h, pended (p .slave) k e)
+    by-slave Nothing e h = h
+
+    by-line : (k : PicLine) (b : Bool) → eqb (k .0) 2 ≡ b → Pending (p .master) (k .0) → Ready p (cond b (cascadePlace (pendingIrq (p .slave))) (Master k))
+    by-line k true q h = by-slave (pendingIrq (p .slave)) refl (subst (Pending (p .master)) (eqb-true (k .0) 2 q) h)
+    by-line k false q h = h
+
+    by-master : (a : PendingIrq) → pendingIrq (p .master) ≡ a → Ready p (placeFrom p a)
+    by-master (Irq k) e = by-line k (eqb (k .0) 2) refl (pended (p .master) k e)
+    by-master Nothing e = tt
+
+pub ready-master : (p : PicState) (k : PicLine) → pendingPlace p ≡ Master k → Pending (p .master) (k .0)
+ready-master p k e = subst (Ready p) e (pending-ready p)
+
+pub ready-slave : (p : PicState) (k : PicLine) → pendingPlace p ≡ Slave k → Pending (p .master) 2 × Pending (p .slave) (k .0)
+ready-slave p k e = subst (Ready p) e (pending-ready p)
+
+pub low-master : (p : PicState) (a : PicPlace) (k : PicLine) → a ≡ pendingPlace p → a ≡ Master k → k .0 < 8
+low-master p a k e f = ready-master p k (sym e ∙ f) .low
+
+pub low-slave : (p : PicState) (a : PicPlace) (k : PicLine) → a ≡ pendingPlace p → a ≡ Slave k → k .0 < 8
+low-slave p a k e f = ready-slave p k (sym e ∙ f) .1 .low
 
 -- a law for each way out of `claim_pending_interrupt`
-pub claims-nothing : (p : PicState) (a : PendingIrq) → pendingReply a ≡ pendingReply (pendingIrq (p .master)) → a ≡ Nothing → nothingClaimed p ≡ claimPending p
+pub claims-at : (p : PicState) (a b : PicPlace) (q : StateClaim) → a ≡ pendingPlace p → a ≡ b → q ≡ claimAt p b → q ≡ claimPending p
 unfolding claimPending
-claims-nothing p a r e = rw (answered (p .master) a Nothing r e)
-
-pub claims-master : (p : PicState) (a : PendingIrq) (k : PicLine) (q : StateClaim) → pendingReply a ≡ pendingReply (pendingIrq (p .master)) → a ≡ Irq k
-    → (k .0 ≡ 2 → ⊥) → q ≡ masterClaim p k → q ≡ claimPending p
-unfolding claimPending
-claims-master p a k q r e n h = rw (answered (p .master) a (Irq k) r e, ne-eqb (k .0) 2 n) h
-
-pub claims-cascade : (p : PicState) (a b : PendingIrq) (k : PicLine) (q : StateClaim) → pendingReply a ≡ pendingReply (pendingIrq (p .master)) → a ≡ Irq k → k .0 ≡ 2
-    → pendingReply b ≡ pendingReply (pendingIrq (p .slave)) → b ≡ Nothing → q ≡ masterClaim p cascadeIrq → q ≡ claimPending p
-unfolding claimPending
-claims-cascade p a b k q r e n s f h = rw (answered (p .master) a (Irq k) r e, eq-eqb (k .0) 2 n, answered (p .slave) b Nothing s f) h
-
-pub claims-slave : (p : PicState) (a b : PendingIrq) (k j : PicLine) (q : StateClaim) → pendingReply a ≡ pendingReply (pendingIrq (p .master)) → a ≡ Irq k → k .0 ≡ 2
-    → pendingReply b ≡ pendingReply (pendingIrq (p .slave)) → b ≡ Irq j → q ≡ slaveClaim p j → q ≡ claimPending p
-unfolding claimPending
-claims-slave p a b k j q r e n s f h = rw (answered (p .master) a (Irq k) r e, eq-eqb (k .0) 2 n, answered (p .slave) b (Irq j) s f) h
+claims-at p a b q e f h = h ∙ ap (claimAt p) (sym f ∙ e)
 
 -- ---- an answer can be read back from its reply, so equal outcomes come from equal results
 

@@ -89,20 +89,29 @@ slaveClaim p k =
     claimed p (chips (acknowledged (p .master) 2) (acknowledged (p .slave) (k .0))) (lineVector (p .slave .«vector_base») k) (record { 0 = k .0 + 8 })
 
 -- the master's line 2 is acknowledged. D-16: with no slave request that counts the master answers for line 2 (in the data sheet the slave, for its line 7)
-abbrev pub cascadeClaim : PicState → PendingIrq → StateClaim
-cascadeClaim p (Irq k) = slaveClaim p k
-cascadeClaim p Nothing = masterClaim p cascadeIrq
+abbrev pub cascadePlace : PendingIrq → PicPlace
+cascadePlace (Irq k) = Slave k
+cascadePlace Nothing = Master cascadeIrq
+
+abbrev pub placeFrom : PicState → PendingIrq → PicPlace
+placeFrom p (Irq k) = cond (eqb (k .0) 2) (cascadePlace (pendingIrq (p .slave))) (Master k)
+placeFrom p Nothing = Nowhere
+
+-- whose line answers for the highest request of the master that counts
+abbrev pub pendingPlace : PicState → PicPlace
+pendingPlace p = placeFrom p (pendingIrq (p .master))
 
 abbrev pub nothingClaimed : PicState → StateClaim
 nothingClaimed p = record { state = p; claim = NoClaim }
 
-abbrev pub pendingClaim : PicState → PendingIrq → StateClaim
-pendingClaim p (Irq k) = cond (eqb (k .0) 2) (cascadeClaim p (pendingIrq (p .slave))) (masterClaim p k)
-pendingClaim p Nothing = nothingClaimed p
+abbrev pub claimAt : PicState → PicPlace → StateClaim
+claimAt p (Master k) = masterClaim p k
+claimAt p (Slave k) = slaveClaim p k
+claimAt p Nowhere = nothingClaimed p
 
 -- the highest request of the master that counts is claimed
 unfoldable pub claimPending : PicState → StateClaim
-claimPending p = pendingClaim p (pendingIrq (p .master))
+claimPending p = claimAt p (pendingPlace p)
 
 -- a line is latched, and then what counts is claimed, be it that line or another; a line that the pair hasn't is nothing
 unfoldable pub claimIrq : PicState → PicLine → StateClaim

@@ -5,7 +5,7 @@
 
 ghost use mathlib.Core.Path.{_≡_};
 ghost use Prim.Native.Nat.{_<_, _%_};
-ghost use Rattle.vpic.specs.Pair.{newState, settled, latchedAt, latched, claimed, masterClaim, slaveClaim, claimPending, claimIrq, restoredAt, restored, portRead, writtenAt, portWritten, isPort, claimFlags, claimReply, claimVector, doneReply, valueReply, claimOutcome, vectorOutcome, writeOutcome, readOutcome, newPic, portRanges, withClaim, withVector, refused, restoreInterrupt, handleRead, handleWrite};
+ghost use Rattle.vpic.specs.Pair.{newState, settled, latchedAt, latched, claimed, masterClaim, slaveClaim, pendingPlace, claimPending, claimIrq, restoredAt, restored, portRead, writtenAt, portWritten, isPort, claimFlags, claimReply, claimVector, doneReply, valueReply, claimOutcome, vectorOutcome, writeOutcome, readOutcome, newPic, portRanges, withClaim, withVector, refused, restoreInterrupt, handleRead, handleWrite};
 use super::chip::PendingIrq;
 use super::chip::PicChip;
 use super::chip::PicVector;
@@ -15,15 +15,15 @@ use types::Refusal;
 use types::Reply;
 use types::Vector;
 
-const MASTER_COMMAND: u16 = 0x20;
+pub const MASTER_COMMAND: u16 = 0x20;
 
-const MASTER_DATA: u16 = 0x21;
+pub const MASTER_DATA: u16 = 0x21;
 
-const SLAVE_COMMAND: u16 = 0xa0;
+pub const SLAVE_COMMAND: u16 = 0xa0;
 
-const SLAVE_DATA: u16 = 0xa1;
+pub const SLAVE_DATA: u16 = 0xa1;
 
-const CASCADE_IRQ: u8 = 2;
+pub const CASCADE_IRQ: u8 = 2;
 
 pub struct PicState {
     pub master: PicChip,
@@ -148,24 +148,35 @@ impl PicState {
         self.latch(irq).claim_pending_interrupt()
     }
 
-    pub fn claim_pending_interrupt(self) -> StateClaim
-        ensures { λ r. ⌜ r ≡ claimPending self ⌝ }
+    // Whose line a claim takes: one of the master's, or one of the slave's through the master's line 2.
+    pub fn pending_place(self) -> PicPlace
+        ensures { λ r. ⌜ r ≡ pendingPlace self ⌝ }
     {
         let master = self.master;
         let slave = self.slave;
         let PendingIrq::Irq(master_irq) = master.pending_irq() else {
-            return StateClaim {
-                state: self,
-                claim: PicClaim::Nothing,
-            };
+            return PicPlace::Nowhere;
         };
         if master_irq.0 != CASCADE_IRQ {
-            return self.claim_master(master_irq);
+            return PicPlace::Master(master_irq);
         }
         let PendingIrq::Irq(slave_irq) = slave.pending_irq() else {
-            return self.claim_master(PicLine(CASCADE_IRQ));
+            return PicPlace::Master(PicLine(CASCADE_IRQ));
         };
-        self.claim_slave(slave_irq)
+        PicPlace::Slave(slave_irq)
+    }
+
+    pub fn claim_pending_interrupt(self) -> StateClaim
+        ensures { λ r. ⌜ r ≡ claimPending self ⌝ }
+    {
+        match self.pending_place() {
+            PicPlace::Master(k) => self.claim_master(k),
+            PicPlace::Slave(k) => self.claim_slave(k),
+            PicPlace::Nowhere => StateClaim {
+                state: self,
+                claim: PicClaim::Nothing,
+            },
+        }
     }
 
     // A claim taken back at its place.
@@ -480,7 +491,7 @@ fn is_port(port: u16) -> bool
 
 impl PicState {
     // What a byte read of a port shows.
-    fn read_port(self, port: u16) -> PicValue
+    pub fn read_port(self, port: u16) -> PicValue
         ensures { λ r. ⌜ r ≡ portRead self port ⌝ }
     {
         let master = self.master;

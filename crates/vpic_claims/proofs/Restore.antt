@@ -22,7 +22,7 @@ use Rattle.vpic.specs.declared.pair.PicClaim.{PicClaim}
 use Rattle.vpic.specs.declared.pair.PicClaim.the-variants.{Claimed, Nothing as NoClaim}
 use Rattle.vpic.specs.declared.pair.StateClaim.{StateClaim}
 use Rattle.vpic.specs.Chip.{opened, commanded, fed, pulsed, counts, pendingLine, pendingIrq, acknowledged, unacknowledged, withRequest, withInService, specificEoi}
-use Rattle.vpic.specs.Pair.{chips, pic, grew, newState, latched, cascadeIrq, claimed, masterClaim, slaveClaim, cascadeClaim, pendingClaim, claimPending, claimIrq, portWritten, writtenAt, restored, restoreInterrupt}
+use Rattle.vpic.specs.Pair.{chips, pic, grew, newState, latched, cascadeIrq, claimed, masterClaim, slaveClaim, cascadePlace, placeFrom, claimAt, claimPending, claimIrq, portWritten, writtenAt, restored, restoreInterrupt}
 use Rattle.vpic.proofs.ChipLaws.{Pending, pended}
 use Rattle.vpic_claims.specs.Statements.{RestoredAtOnce, RestoredAfterRaise, Served, ServedBy, HighestServed, SecondCallerUnheard}
 
@@ -83,16 +83,16 @@ by-claim : (P : StateClaim → PicInterruptClaim → Type 0) (p : PicState)
 unfolding claimPending
 by-claim P p m s c e = by-master (pendingIrq (p .master)) refl e
   where
-    by-slave : (b : PendingIrq) → pendingIrq (p .slave) ≡ b → Pending (p .master) 2 → cascadeClaim p b .claim ≡ Claimed c → P (cascadeClaim p b) c
+    by-slave : (b : PendingIrq) → pendingIrq (p .slave) ≡ b → Pending (p .master) 2 → claimAt p (cascadePlace b) .claim ≡ Claimed c → P (claimAt p (cascadePlace b)) c
     by-slave (Irq k) q h f = s k c h (pended (p .slave) k q) f
     by-slave Nothing q h f = m cascadeIrq c h f
 
-    by-line : (k : PicLine) (b : Bool) → eqb (k .0) 2 ≡ b → Pending (p .master) (k .0) → cond b (cascadeClaim p (pendingIrq (p .slave))) (masterClaim p k) .claim ≡ Claimed c
-        → P (cond b (cascadeClaim p (pendingIrq (p .slave))) (masterClaim p k)) c
+    by-line : (k : PicLine) (b : Bool) → eqb (k .0) 2 ≡ b → Pending (p .master) (k .0) → claimAt p (cond b (cascadePlace (pendingIrq (p .slave))) (Master k)) .claim ≡ Claimed c
+        → P (claimAt p (cond b (cascadePlace (pendingIrq (p .slave))) (Master k))) c
     by-line k true q h f = by-slave (pendingIrq (p .slave)) refl (subst (Pending (p .master)) (eqb-true (k .0) 2 q) h) f
     by-line k false q h f = m k c h f
 
-    by-master : (a : PendingIrq) → pendingIrq (p .master) ≡ a → pendingClaim p a .claim ≡ Claimed c → P (pendingClaim p a) c
+    by-master : (a : PendingIrq) → pendingIrq (p .master) ≡ a → claimAt p (placeFrom p a) .claim ≡ Claimed c → P (claimAt p (placeFrom p a)) c
     by-master (Irq k) q f = by-line k (eqb (k .0) 2) refl (pended (p .master) k q) f
     by-master Nothing q f = let z : _≡_ {A = ℕ} 0 1 = cc in absurd (omega arith)
 

@@ -110,9 +110,8 @@ impl EmulatedPic {
     /// Restores a claim whose vector couldn't be published.
     #[inline]
     pub fn restore_interrupt(&mut self, claim: PicInterruptClaim) {
-        let code =
-            sillwander_pic_restore_interrupt(&mut self.words, claim.vector().into(), claim.irq().into(), claim.flags().into());
-        debug_assert!(code == 0, "a claim's line is below 16");
+        let code = sillwander_pic_restore_interrupt(&mut self.words, claim.code.get());
+        debug_assert!(code == 0, "a claim is a claim's code");
     }
 
     /// A port read. [`Unsupported`](crate::X86VlapicError::Unsupported) for a width other than a byte, or a port that the pair doesn't have.

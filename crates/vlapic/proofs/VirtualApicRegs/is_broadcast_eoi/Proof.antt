@@ -1,4 +1,3 @@
-use Rattle.utils.specs.Cases.{cases}
 use borrow.Author.Needs.{needs}
 use Rattle.vlapic.proofs.VirtualApicRegs.is_broadcast_eoi.Statement.{statement}
 use Rattle.vlapic.proofs.VirtualApicRegs.is_broadcast_eoi.Tie as tie
@@ -6,11 +5,11 @@ use Rattle.vlapic.proofs.VirtualApicRegs.is_broadcast_eoi.Tie as tie
 has-requires : tie.Need-has-requires
 has-requires c κs = search needs
 
-returns : tie.Need-returns
-returns c = search cases
+is-broadcast-requires : tie.Need-is-broadcast-requires
+is-broadcast-requires c κs = search needs
 
-returns-2 : tie.Need-returns-2
-returns-2 c = search cases
+returns : tie.Need-returns
+returns c = rw (← c .before .has .ensures) (c .is-broadcast .ensures)
 
 pub is-broadcast-eoi-spec : {M : Type 1} → statement M
-is-broadcast-eoi-spec = tie.close (tie.spec has-requires returns returns-2)
+is-broadcast-eoi-spec = tie.close (tie.spec has-requires is-broadcast-requires returns)

@@ -1,55 +1,34 @@
-use Rattle.utils.specs.Cases.{cond-yes, cond-no}
-use borrow.Author.Tests.{eq-eqb, ne-eqb}
-use Rattle.vlapic.specs.Calls.{writeIcrLow}
+use mathlib.Core.Path.{sym, _∙_}
+use Rattle.vlapic.proofs.Width.{icr-right, icr-wrong}
 use borrow.Author.Needs.{needs}
 use Rattle.vlapic.proofs.VirtualApicRegs.write_icr_low.Statement.{statement}
 use Rattle.vlapic.proofs.VirtualApicRegs.write_icr_low.Tie as tie
 
+is-icr-width-requires : tie.Need-is-icr-width-requires
+is-icr-width-requires c κs = search needs
+
 cast-lo : tie.Need-cast-lo
 cast-lo c = search needs
 
-cast-write-icr : tie.Need-cast-write-icr
-cast-write-icr c = search needs
+icr-high-requires : tie.Need-icr-high-requires
+icr-high-requires c κs = search needs
 
 write-icr-requires : tie.Need-write-icr-requires
 write-icr-requires c κs = search needs
 
 returns : tie.Need-returns
-unfolding writeIcrLow
-returns c = cond-yes _ _ _ _ _ (c .before .before .if1 .taken) (cond-yes _ _ _ _ _ (eq-eqb _ _ (c .before .if2 .taken)) (c .write-icr .ensures))
+returns c =
+    let a = c .before .before .before .before .args in
+    rw (icr-right (a .self) (a .val) (a .width) (a .vcpu-num) (a .active-vcpus) (sym (c .before .before .before .is-icr-width .ensures) ∙ c .before .before .if1 .taken), ← c .before .icr-high .ensures)
+    (c .write-icr .ensures)
 
 refuse-requires : tie.Need-refuse-requires
 refuse-requires c κs = search needs
 
 returns-2 : tie.Need-returns-2
-unfolding writeIcrLow
-returns-2 c = cond-yes _ _ _ _ _ (c .before .before .if1 .taken) (cond-no _ _ _ _ _ (ne-eqb _ _ (c .before .if2 .left)) (c .refuse .ensures))
-
-refuse-requires-2 : tie.Need-refuse-requires-2
-refuse-requires-2 c κs = search needs
-
-returns-3 : tie.Need-returns-3
-unfolding writeIcrLow
-returns-3 c = cond-no _ _ _ _ _ (c .before .before .if1 .left) (cond-yes _ _ _ _ _ (eq-eqb _ _ (c .before .if3 .taken)) (c .refuse2 .ensures))
-
-write-icr-requires-2 : tie.Need-write-icr-requires-2
-write-icr-requires-2 c κs = search needs
-
-returns-4 : tie.Need-returns-4
-unfolding writeIcrLow
-returns-4 c = cond-no _ _ _ _ _ (c .before .before .if1 .left) (cond-no _ _ _ _ _ (ne-eqb _ _ (c .before .if3 .left)) (c .write-icr2 .ensures))
+returns-2 c =
+    let a = c .before .before .before .args in
+    rw (icr-wrong (a .self) (a .val) (a .width) (a .vcpu-num) (a .active-vcpus) (sym (c .before .before .is-icr-width .ensures) ∙ c .before .if1 .left)) (c .refuse .ensures)
 
 pub write-icr-low-spec : {M : Type 1} → statement M
-write-icr-low-spec =
-    tie.close
-    (tie.spec
-    cast-lo
-    cast-write-icr
-    write-icr-requires
-    returns
-    refuse-requires
-    returns-2
-    refuse-requires-2
-    returns-3
-    write-icr-requires-2
-    returns-4)
+write-icr-low-spec = tie.close (tie.spec is-icr-width-requires cast-lo icr-high-requires write-icr-requires returns refuse-requires returns-2)

@@ -1,0 +1,4 @@
+pub mod InPlace
+pub mod Packing
+pub mod Ways
+pub mod View
