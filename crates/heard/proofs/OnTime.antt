@@ -11,9 +11,9 @@ use lib.ListN.{length, length-set}
 use Rattle.types.specs.declared.Gsi.{Gsi}
 use Rattle.types.specs.declared.Vector.{Vector}
 use Rattle.types.specs.declared.Reply.the-variants.{Two}
-use Rattle.vioapic.specs.Answers.{routedReply, pendingReply, eoiReply}
+use Rattle.vioapic.specs.Answers.{routedReply, pendingReply, eoiReply, writtenReply}
 use Rattle.vioapic.specs.Redirection.{awaits, hasVector, lowPart, sendEntry, raiseEntry, moveLine, endEntry}
-use Rattle.vioapic.specs.Table.{entryAt, put, firstAwaiting, endOfEntry, interruptForEntry, setLevel}
+use Rattle.vioapic.specs.Table.{isNew, entryAt, put, firstAwaiting, endOf, interruptForEntry, setLevel}
 use Rattle.vioapic.specs.Registers.{writeAt}
 use Rattle.vioapic.specs.IoApic.{goodWidth, setGsiLevel, assertGsi, endOfInterrupt, handleWrite}
 use Rattle.vioapic.specs.Calls.{Call, SetGsiLevel, AssertGsi, EndOfInterrupt, VectorForGsi, AddressRange, HandleRead, HandleWrite, outcome, next}
@@ -31,9 +31,10 @@ use Rattle.heard.specs.Sends.{routes, resends, sent, sends, isEoi, eois,
 use Rattle.heard.specs.Premises.{allTrue, keepsLow, lowerKept, asks, ownAsks, lowerRests, levelSent, lowerUnsent, held, throughout}
 use Rattle.heard.specs.Heard.{Heard}
 use Rattle.heard.proofs.Words.{Alike, same-vector}
-use Rattle.heard.proofs.Views.{sent-view, raised-view, moved-view, Over, over-view, Routes, assert-view, level-view, Ends, ends-view, Writes, writes-view}
-use Rattle.heard.proofs.Steps.{and-true, implied, not-is, one, awaiting, awaits-no, Flying, send-awaits, send-flying, move-awaits, move-flying, raised-level, end-alike, end-again, end-rest, wrote-kept, wrote-none}
+use Rattle.heard.proofs.Views.{sent-view, raised-view, moved-view, Over, over-view, Routes, assert-view, level-view, Ends, ends-old, Writes, writes-view}
+use Rattle.heard.proofs.Steps.{never, and-true, implied, not-is, one, awaiting, awaits-no, Flying, send-awaits, send-flying, move-awaits, move-flying, raised-level, end-alike, end-again, end-rest, wrote-kept, wrote-none}
 use Rattle.heard.proofs.Tables.{put-same, put-other, all-at, lower-put, lower-gone, first-awaits, first-lowest, first-own, first-lower}
+use Rattle.heard.proofs.Keeps.{call-isNew}
 
 -- ---- the premises of one call
 
@@ -159,10 +160,11 @@ line-turn v g m c gsi step x k t (Routes.miss l) q z i u =
 
 -- ---- a write
 
-word-turn : (v : Vector) (g : ℕ) (m : EmulatedIoApic) (c : Call) (x : ℕ) (w : Writing) → x < 4294967296 → Going v g (m .state) → Held v g m c
-    → Writes (m .state) x w → next m c .state ≡ w .state → sent g c (outcome m c .reply) ≡ 0 → isEoi v c ≡ false → Turn v g m c
-word-turn v g m c x w b k d (Writes.selected y) q z i = still v g m c k (ap (λ (s : IoApicState). s .entries) q) z i
-word-turn v g m c x w b k d (Writes.word h f l u) q z i = moves v g m c h f k l q z i (λ p. lower p (awaits v (entryAt (m .state) h)) refl) mine
+word-turn : (v : Vector) (g : ℕ) (m : EmulatedIoApic) (c : Call) (a x : ℕ) (w : Writing) → isNew (m .state) ≡ false → x < 4294967296 → Going v g (m .state) → Held v g m c
+    → Writes (m .state) a x w → next m c .state ≡ w .state → sent g c (outcome m c .reply) ≡ resends g (writtenReply (w .answer)) → isEoi v c ≡ false → Turn v g m c
+word-turn v g m c a x w o b k d (Writes.eoi n e) q z i = never n o
+word-turn v g m c a x w o b k d (Writes.selected y) q z i = still v g m c k (ap (λ (s : IoApicState). s .entries) q) z i
+word-turn v g m c a x w o b k d (Writes.word h f l u) q z i = moves v g m c h f k l q z i (λ p. lower p (awaits v (entryAt (m .state) h)) refl) mine
   where
     low : (j : ℕ) → j ≡ h → keepsLow m c j ≡ true → lowPart (f .word) ≡ lowPart (entryAt (m .state) h .word)
     low j e r =
@@ -182,17 +184,17 @@ word-turn v g m c x w b k d (Writes.word h f l u) q z i = moves v g m c h f k l 
         wrote-kept v (entryAt (m .state) h) x f b u (low h refl (implied (awaits v (entryAt (m .state) h)) (keepsLow m c h) t e)) .0
     lower p false e = wrote-none v (entryAt (m .state) h) x f u e ∙ sym e
 
-write-turn : (v : Vector) (g : ℕ) (m : EmulatedIoApic) (addr width x : ℕ) → Going v g (m .state) → Held v g m (HandleWrite addr width x) → Turn v g m (HandleWrite addr width x)
+write-turn : (v : Vector) (g : ℕ) (m : EmulatedIoApic) (addr width x : ℕ) → isNew (m .state) ≡ false → Going v g (m .state) → Held v g m (HandleWrite addr width x) → Turn v g m (HandleWrite addr width x)
 unfolding outcome handleWrite sent
-write-turn v g m addr width x k d = go (goodWidth width) (leb (m .base) addr) refl refl
+write-turn v g m addr width x o k d = go (goodWidth width) (leb (m .base) addr) refl refl
   where
     go : (a b : Bool) → goodWidth width ≡ a → leb (m .base) addr ≡ b → Turn v g m (HandleWrite addr width x)
-    go false b p q = let e : handleWrite m addr width x .state .state ≡ m .state = rw p in still v g m (HandleWrite addr width x) k (ap (λ (s : IoApicState). s .entries) e) refl refl
-    go true false p q = let e : handleWrite m addr width x .state .state ≡ m .state = rw (p, q) in still v g m (HandleWrite addr width x) k (ap (λ (s : IoApicState). s .entries) e) refl refl
+    go false b p q = let e : handleWrite m addr width x .state .state ≡ m .state = rw p in still v g m (HandleWrite addr width x) k (ap (λ (s : IoApicState). s .entries) e) (rw p) refl
+    go true false p q = let e : handleWrite m addr width x .state .state ≡ m .state = rw (p, q) in still v g m (HandleWrite addr width x) k (ap (λ (s : IoApicState). s .entries) e) (rw (p, q)) refl
     go true true p q =
         let e : handleWrite m addr width x .state .state ≡ writeAt (m .state) (addr - m .base) (x % 4294967296) .state = rw (p, q) in
-        word-turn v g m (HandleWrite addr width x) (x % 4294967296) (writeAt (m .state) (addr - m .base) (x % 4294967296)) (omega arith) k d
-        (writes-view (m .state) (addr - m .base) (x % 4294967296)) e refl refl
+        word-turn v g m (HandleWrite addr width x) (addr - m .base) (x % 4294967296) (writeAt (m .state) (addr - m .base) (x % 4294967296)) o (omega arith) k d
+        (writes-view (m .state) (addr - m .base) (x % 4294967296)) e (rw (p, q)) refl
 
 -- ---- an EOI of another vector
 
@@ -267,32 +269,32 @@ own-turn v g m u x k e d (Ends.found l) q r = go (lowerInFlight v g (m .state)) 
 
 -- ---- any call, and a run
 
-turn : (v : Vector) (g : ℕ) (m : EmulatedIoApic) (c : Call) → Going v g (m .state) → Held v g m c → Turn v g m c
+turn : (v : Vector) (g : ℕ) (m : EmulatedIoApic) (c : Call) → isNew (m .state) ≡ false → Going v g (m .state) → Held v g m c → Turn v g m c
 unfolding outcome setGsiLevel assertGsi endOfInterrupt sent
-turn v g m (SetGsiLevel gsi b) k d =
+turn v g m (SetGsiLevel gsi b) o k d =
     line-turn v g m (SetGsiLevel gsi b) gsi (λ e. moveLine e b) (setLevel (m .state) gsi b) k (move-step v b) (level-view (m .state) gsi b) refl refl refl (d .lower-unsent)
-turn v g m (AssertGsi gsi) k d =
+turn v g m (AssertGsi gsi) o k d =
     line-turn v g m (AssertGsi gsi) gsi sendEntry (interruptForEntry (m .state) gsi) k (send-step v) (assert-view (m .state) gsi) refl refl refl (d .lower-unsent)
-turn v g m (EndOfInterrupt u) k d = go (ℕ-discrete (u .0) (v .0))
+turn v g m (EndOfInterrupt u) o k d = go (ℕ-discrete (u .0) (v .0))
   where
     go : Dec (u .0 ≡ v .0) → Turn v g m (EndOfInterrupt u)
     go (yes p) =
         let e : u ≡ v = ap (λ (n : ℕ). record { 0 = n }) p in
-        own-turn v g m u (endOfEntry (m .state) u) k e d (rw e (ends-view (m .state) v)) refl refl
-    go (no p) = other-turn v g m u (endOfEntry (m .state) u) k p (ends-view (m .state) u) refl refl
-turn v g m (VectorForGsi gsi) k d = still v g m (VectorForGsi gsi) k refl refl refl
-turn v g m AddressRange k d = still v g m AddressRange k refl refl refl
-turn v g m (HandleRead addr width) k d = still v g m (HandleRead addr width) k refl refl refl
-turn v g m (HandleWrite addr width x) k d = write-turn v g m addr width x k d
+        own-turn v g m u (endOf (m .state) u) k e d (rw e (ends-old (m .state) v o)) refl refl
+    go (no p) = other-turn v g m u (endOf (m .state) u) k p (ends-old (m .state) u o) refl refl
+turn v g m (VectorForGsi gsi) o k d = still v g m (VectorForGsi gsi) k refl refl refl
+turn v g m AddressRange o k d = still v g m AddressRange k refl refl refl
+turn v g m (HandleRead addr width) o k d = still v g m (HandleRead addr width) k refl refl refl
+turn v g m (HandleWrite addr width x) o k d = write-turn v g m addr width x o k d
 
-turns : (v : Vector) (g : ℕ) (m : EmulatedIoApic) (cs : List Call) → Going v g (m .state) → throughout (held v g) m cs ≡ true
+turns : (v : Vector) (g : ℕ) (m : EmulatedIoApic) (cs : List Call) → isNew (m .state) ≡ false → Going v g (m .state) → throughout (held v g) m cs ≡ true
     → sends g m cs ≡ eois v cs - lowerInFlight v g (m .state)
 unfolding sends eois throughout
-turns v g m [] k h = omega arith
-turns v g m (c ∷ cs) k h =
+turns v g m [] o k h = omega arith
+turns v g m (c ∷ cs) o k h =
     let p = and-true (allTrue (held v g m c)) (throughout (held v g) (next m c) cs) h in
-    let t = turn v g m c k (held-of v g m c (p .0)) in
-    rw (turns v g (next m c) cs (t .going) (p .1)) (t .count (eois v cs))
+    let t = turn v g m c o k (held-of v g m c (p .0)) in
+    rw (turns v g (next m c) cs (call-isNew m c ∙ o) (t .going) (p .1)) (t .count (eois v cs))
 
 -- ---- the first send
 
@@ -317,7 +319,7 @@ begun m gsi v x n (Routes.miss l) q = absurd (let z : 0 ≡ 1 = ap routes q in o
 
 pub heard : Heard
 unfolding sends sent outcome setGsiLevel
-heard m g v after n q h =
+heard m g v after o n q h =
     let b = begun m g v (setLevel (m .state) g true) n (level-view (m .state) g true) q in
-    let t = turns v (g .0) (next m (SetGsiLevel g true)) after (b .going) h in
+    let t = turns v (g .0) (next m (SetGsiLevel g true)) after (call-isNew m (SetGsiLevel g true) ∙ o) (b .going) h in
     rw (eq-eqb (g .0) (g .0) refl, q, t, b .lower)
