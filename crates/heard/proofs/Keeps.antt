@@ -5,16 +5,16 @@ use native.Mathlib.Decide.{ℕ-discrete}
 use mathlib.Core.Bool.{Bool, true, false, cond, _&&_}
 use mathlib.Core.List.{List, [], _∷_}
 use mathlib.Core.Path.{_≡_, refl, sym, _∙_, ap}
-use lib.Dec.{eqb, leb}
+use lib.Dec.{eqb}
 use lib.ListN.{getD, length-set, length-map, replicate}
-use Rattle.types.specs.Reply.{replyNumber}
+use Rattle.types.specs.Reply.{replyNumber, Outcome}
 use Rattle.types.specs.declared.Gsi.{Gsi}
 use Rattle.types.specs.declared.Vector.{Vector}
 use Rattle.vioapic.specs.Answers.{routedReply, eoiReply, writtenReply}
 use Rattle.vioapic.specs.Redirection.{isFit, isLevel, remoteIrr, withInput, withoutRemoteIrr, sendEntry, moveLine, awaits, endEntry, endEntry20}
 use Rattle.vioapic.specs.Table.{newEntry, noEntry, entryAt, put, interruptForEntry, setLevel, isNew, firstAwaiting, endEach, endOfEvery, endOf}
-use Rattle.vioapic.specs.Registers.{writtenBy, writeAt}
-use Rattle.vioapic.specs.IoApic.{goodWidth, setGsiLevel, assertGsi, endOfInterrupt, handleWrite}
+use Rattle.vioapic.specs.Registers.{writtenBy}
+use Rattle.vioapic.specs.IoApic.{setGsiLevel, assertGsi, endOfInterrupt, handleWrite}
 use Rattle.vioapic.specs.Calls.{Call, SetGsiLevel, AssertGsi, EndOfInterrupt, VectorForGsi, AddressRange, HandleRead, HandleWrite, outcome, next, run}
 use Rattle.vioapic.specs.declared.redirection.Entry.{Entry}
 use Rattle.vioapic.specs.declared.redirection.EntryStep.{EntryStep}
@@ -31,7 +31,7 @@ use Rattle.heard.specs.Rules.{implies, entryRules, ChipRules, NewKeepsRu
 use Rattle.heard.proofs.Words.{same-fit, same-level, alike-with, alike-without, alike-high, irr-with, irr-without, irr-low, irr-high}
 use Rattle.heard.proofs.Steps.{never, and-true, implied, imply}
 use Rattle.heard.proofs.Tables.{put-same, put-other, every-at}
-use Rattle.heard.proofs.Views.{Sent, sent-view, Raised, Moved, moved-view, Over, over-view, over-view20, Wrote, Routes, assert-view, level-view, Ends, EndsBy, ends-by, Writes, writes-view}
+use Rattle.heard.proofs.Views.{Sent, sent-view, Raised, Moved, moved-view, Over, over-view, over-view20, Wrote, Routes, assert-view, level-view, Ends, EndsBy, ends-by, Writes, Write, write-view}
 
 -- ---- the rules of one entry
 
@@ -140,6 +140,10 @@ writes-rules s o x w (Writes.selected y) k = record { table = k .table; each = k
 writes-rules s o x w (Writes.word h f l v) k = put-rules s h f k l (wrote-rules (entryAt s h) x f v (at-rules s k h l))
 writes-rules s o x w (Writes.eoi n e) k = every-rules s (record { 0 = x % 256 }) k
 
+write-rules : (m : EmulatedIoApic) (addr width x : ℕ) (o : Outcome EmulatedIoApic) → Write m addr width x o → ChipRules (m .state) → ChipRules (o .state .state)
+write-rules m addr width x o (Write.refused why) k = k
+write-rules m addr width x o (Write.served {w} p l v) k = writes-rules (m .state) (addr - m .base) (x % 4294967296) w v k
+
 pub calls-keep-rules : CallsKeepRules
 unfolding outcome setGsiLevel assertGsi endOfInterrupt handleWrite
 calls-keep-rules m (SetGsiLevel gsi b) k =
@@ -150,13 +154,7 @@ calls-keep-rules m (EndOfInterrupt v) k = by-rules (m .state) v (endOf (m .state
 calls-keep-rules m (VectorForGsi gsi) k = k
 calls-keep-rules m AddressRange k = k
 calls-keep-rules m (HandleRead addr width) k = k
-calls-keep-rules m (HandleWrite addr width x) k = go (goodWidth width) (leb (m .base) addr) refl refl
-  where
-    go : (a b : Bool) → goodWidth width ≡ a → leb (m .base) addr ≡ b → ChipRules (handleWrite m addr width x .state .state)
-    go false b p q = rw p k
-    go true false p q = rw (p, q) k
-    go true true p q =
-        rw (p, q) (writes-rules (m .state) (addr - m .base) (x % 4294967296) (writeAt (m .state) (addr - m .base) (x % 4294967296)) (writes-view (m .state) (addr - m .base) (x % 4294967296)) k)
+calls-keep-rules m (HandleWrite addr width x) k = write-rules m addr width x (handleWrite m addr width x) (write-view m addr width x) k
 
 pub runs-keep-rules : RunsKeepRules
 unfolding run
@@ -189,6 +187,10 @@ writes-version s o x w (Writes.selected y) = refl
 writes-version s o x w (Writes.word h f l v) = refl
 writes-version s o x w (Writes.eoi n e) = refl
 
+write-version : (m : EmulatedIoApic) (addr width x : ℕ) (o : Outcome EmulatedIoApic) → Write m addr width x o → (o .state .state .version ≡ m .state .version) × (o .state .base ≡ m .base)
+write-version m addr width x o (Write.refused why) = (refl, refl)
+write-version m addr width x o (Write.served {w} p l v) = (writes-version (m .state) (addr - m .base) (x % 4294967296) w v, refl)
+
 pub calls-keep-version : CallsKeepVersion
 unfolding outcome setGsiLevel assertGsi endOfInterrupt handleWrite
 calls-keep-version m (SetGsiLevel gsi b) = (routes-version (m .state) gsi (λ e. moveLine e b) (setLevel (m .state) gsi b) (level-view (m .state) gsi b), refl)
@@ -197,13 +199,7 @@ calls-keep-version m (EndOfInterrupt v) = (ends-version (m .state) v (endOf (m .
 calls-keep-version m (VectorForGsi gsi) = (refl, refl)
 calls-keep-version m AddressRange = (refl, refl)
 calls-keep-version m (HandleRead addr width) = (refl, refl)
-calls-keep-version m (HandleWrite addr width x) = go (goodWidth width) (leb (m .base) addr) refl refl
-  where
-    go : (a b : Bool) → goodWidth width ≡ a → leb (m .base) addr ≡ b → (handleWrite m addr width x .state .state .version ≡ m .state .version) × (handleWrite m addr width x .state .base ≡ m .base)
-    go false b p q = rw p (refl, refl)
-    go true false p q = rw (p, q) (refl, refl)
-    go true true p q =
-        rw (p, q) (writes-version (m .state) (addr - m .base) (x % 4294967296) (writeAt (m .state) (addr - m .base) (x % 4294967296)) (writes-view (m .state) (addr - m .base) (x % 4294967296)), refl)
+calls-keep-version m (HandleWrite addr width x) = write-version m addr width x (handleWrite m addr width x) (write-view m addr width x)
 
 -- a chip of one version stays one
 pub call-isNew : (m : EmulatedIoApic) (c : Call) → isNew (next m c .state) ≡ isNew (m .state)
@@ -239,6 +235,10 @@ writes-done s o x w (Writes.selected y) = refl
 writes-done s o x w (Writes.word h f l v) = refl
 writes-done s o x w (Writes.eoi n e) = written-done (endOfEvery s (record { 0 = x % 256 }) .answer)
 
+write-kept : (m : EmulatedIoApic) (addr width x : ℕ) (o : Outcome EmulatedIoApic) → Write m addr width x o → (replyNumber (o .reply) ≡ 0 → ⊥) → o .state ≡ m
+write-kept m addr width x o (Write.refused why) n = refl
+write-kept m addr width x o (Write.served {w} p l v) n = absurd (n (writes-done (m .state) (addr - m .base) (x % 4294967296) w v))
+
 pub refused-keeps : RefusedKeeps
 unfolding outcome setGsiLevel assertGsi endOfInterrupt handleWrite
 refused-keeps m (SetGsiLevel gsi b) n = absurd (n (routed-done (setLevel (m .state) gsi b .answer)))
@@ -247,13 +247,7 @@ refused-keeps m (EndOfInterrupt v) n = absurd (n (eoi-done (endOf (m .state) v .
 refused-keeps m (VectorForGsi gsi) n = refl
 refused-keeps m AddressRange n = refl
 refused-keeps m (HandleRead addr width) n = refl
-refused-keeps m (HandleWrite addr width x) n = go (goodWidth width) (leb (m .base) addr) refl refl
-  where
-    go : (a b : Bool) → goodWidth width ≡ a → leb (m .base) addr ≡ b → handleWrite m addr width x .state ≡ m
-    go false b p q = rw p
-    go true false p q = rw (p, q)
-    go true true p q =
-        absurd (n (rw (p, q) (writes-done (m .state) (addr - m .base) (x % 4294967296) (writeAt (m .state) (addr - m .base) (x % 4294967296)) (writes-view (m .state) (addr - m .base) (x % 4294967296)))))
+refused-keeps m (HandleWrite addr width x) n = write-kept m addr width x (handleWrite m addr width x) (write-view m addr width x) n
 
 -- ---- the selector
 

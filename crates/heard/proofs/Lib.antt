@@ -1,6 +1,7 @@
 pub mod Demand
 pub mod Keeps
 pub mod OnTime
+pub mod Quiet
 pub mod Steps
 pub mod Tables
 pub mod Views

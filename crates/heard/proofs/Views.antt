@@ -3,18 +3,24 @@ use Prim.Native.Nat.{ℕ, _-_, _%_, _^_, _≤_, _<_}
 use native.Mathlib.Omega.{arith}
 use mathlib.Core.Bool.{Bool, true, false, cond, _&&_, _||_}
 use mathlib.Core.Path.{_≡_, refl, subst⁻¹}
-use borrow.Author.Tests.{ltb-true, ltb-false, eqb-true, eqb-false}
-use lib.Dec.{eqb, ltb}
+use borrow.Author.Tests.{ltb-true, ltb-false, leb-true, eqb-true, eqb-false}
+use lib.Dec.{eqb, ltb, leb}
 use Rattle.types.specs.Counters.{entryIndex}
+use Rattle.types.specs.Reply.{Outcome}
 use Rattle.types.specs.declared.Gsi.{Gsi}
 use Rattle.types.specs.declared.Vector.{Vector}
+use Rattle.types.specs.declared.Refusal.{Refusal}
+use Rattle.types.specs.declared.Refusal.the-variants.{Unsupported, InvalidAddress}
+use Rattle.vioapic.specs.Answers.{writtenReply}
 use Rattle.vioapic.specs.Redirection.{isFit, isLevel, remoteIrr, isMasked, sameLow, lowPart, withRemoteIrr, withoutRemoteIrr, replaceLow, replaceHigh, withWord, withPending, withInput, quietly, sending, settled, sendEntry, raiseEntry, lowerEntry, moveLine, endEntry, endEntry20, writeLow, writeHigh}
 use Rattle.vioapic.specs.Table.{isNew, entryAt, put, routeAt, unrouted, endAt, interruptForEntry, setLevel, firstAwaiting, endOfEntry, endOfEvery, endOf}
 use Rattle.vioapic.specs.Registers.{isEntryWord, entryOf, isLow, done, writeWord, writeSelected, eoiWritten, writeEoi, writeAt}
+use Rattle.vioapic.specs.IoApic.{goodWidth, withState, refuse, handleWrite}
 use Rattle.vioapic.proofs.ChipLaws.{entry-word-range}
 use Rattle.vioapic.specs.declared.redirection.Entry.{Entry}
 use Rattle.vioapic.specs.declared.redirection.EntryStep.{EntryStep}
 use Rattle.vioapic.specs.declared.IoApicState.{IoApicState}
+use Rattle.vioapic.specs.declared.EmulatedIoApic.{EmulatedIoApic}
 use Rattle.vioapic.specs.declared.Routing.{Routing}
 use Rattle.vioapic.specs.declared.Ending.{Ending}
 use Rattle.vioapic.specs.declared.Writing.{Writing}
@@ -147,7 +153,7 @@ pub data Ends (s : IoApicState) (v : Vector) : Ending → Type 0 where
   found : firstAwaiting s v < 24 → Ends s v (endAt s (firstAwaiting s v))
   unfound : 24 ≤ firstAwaiting s v → Ends s v (record { state = s; answer = NotEnded })
 
-pub ends-view : (s : IoApicState) (v : Vector) → Ends s v (endOfEntry s v)
+ends-view : (s : IoApicState) (v : Vector) → Ends s v (endOfEntry s v)
 unfolding endOfEntry
 ends-view s v = go (ltb (firstAwaiting s v) 24) refl
   where
@@ -177,7 +183,7 @@ pub data Writes (s : IoApicState) (offset x : ℕ) : Writing → Type 0 where
   word : (h : ℕ) (f : Entry) → h < 24 → Wrote (entryAt s h) x f → Writes s offset x (done (put s h f))
   eoi : isNew s ≡ true → offset ≡ 0x40 → Writes s offset x (eoiWritten (endOfEvery s (record { 0 = x % 2 ^ 8 })))
 
-pub writes-view : (s : IoApicState) (offset x : ℕ) → Writes s offset x (writeAt s offset x)
+writes-view : (s : IoApicState) (offset x : ℕ) → Writes s offset x (writeAt s offset x)
 unfolding writeAt writeSelected writeEoi
 writes-view s offset x = go (eqb offset 0) (eqb offset 0x10) (eqb offset 0x40) (isEntryWord (s .selector)) (isNew s) refl refl refl
   where
@@ -194,3 +200,24 @@ writes-view s offset x = go (eqb offset 0) (eqb offset 0x10) (eqb offset 0x40) (
     go false true d true n o p q =
         let r = entry-word-range (s .selector) p in
         word (entryOf (s .selector)) (writeWord (s .selector) (entryAt s (entryOf (s .selector))) x) (omega arith) (wrote-view (s .selector) (entryAt s (entryOf (s .selector))) x)
+
+-- a write as a call: refused, or served
+pub data Write (m : EmulatedIoApic) (addr width x : ℕ) : Outcome EmulatedIoApic → Type 0 where
+  refused : (why : Refusal) → Write m addr width x (refuse m why)
+  served : {w : Writing} → goodWidth width ≡ true → m .base ≤ addr → Writes (m .state) (addr - m .base) (x % 2 ^ 32) w
+      → Write m addr width x (record { state = withState m (w .state); reply = writtenReply (w .answer) })
+
+pub write-view : (m : EmulatedIoApic) (addr width x : ℕ) → Write m addr width x (handleWrite m addr width x)
+unfolding handleWrite
+write-view m addr width x = go (goodWidth width) (leb (m .base) addr) refl refl
+  where
+    done-so : Outcome EmulatedIoApic
+    done-so = record {
+      state = withState m (writeAt (m .state) (addr - m .base) (x % 2 ^ 32) .state);
+      reply = writtenReply (writeAt (m .state) (addr - m .base) (x % 2 ^ 32) .answer);
+    }
+
+    go : (a b : Bool) → goodWidth width ≡ a → leb (m .base) addr ≡ b → Write m addr width x (cond a (cond b done-so (refuse m InvalidAddress)) (refuse m Unsupported))
+    go false b p q = refused Unsupported
+    go true false p q = refused InvalidAddress
+    go true true p q = served p (leb-true (m .base) addr q) (writes-view (m .state) (addr - m .base) (x % 2 ^ 32))
