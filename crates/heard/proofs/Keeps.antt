@@ -6,7 +6,7 @@ use mathlib.Core.Bool.{Bool, true, false, cond, _&&_}
 use mathlib.Core.List.{List, [], _∷_}
 use mathlib.Core.Path.{_≡_, refl, sym, _∙_, ap}
 use lib.Dec.{eqb}
-use lib.ListN.{getD, length-set, length-map, replicate}
+use lib.ListN.{getD, length-set, replicate}
 use Rattle.types.specs.Reply.{replyNumber, Outcome}
 use Rattle.types.specs.declared.Gsi.{Gsi}
 use Rattle.types.specs.declared.Vector.{Vector}
@@ -30,7 +30,7 @@ use Rattle.vioapic.specs.declared.Writing.{Writing}
 use Rattle.heard.specs.Rules.{implies, entryRules, ChipRules, NewKeepsRules, CallsKeepRules, RunsKeepRules, CallsKeepVersion, RefusedKeeps, TableIndex}
 use Rattle.heard.proofs.Words.{same-fit, same-level, alike-with, alike-without, alike-high, irr-with, irr-without, irr-low, irr-high}
 use Rattle.heard.proofs.Steps.{never, and-true, implied, imply}
-use Rattle.heard.proofs.Tables.{put-same, put-other, every-at}
+use Rattle.heard.proofs.Tables.{put-same, put-other, every-at, every-size}
 use Rattle.heard.proofs.Views.{Sent, sent-view, Raised, Moved, moved-view, Over, over-view, over-view20, Wrote, Routes, assert-view, level-view, Ends, EndsBy, ends-by, Writes, Write, write-view}
 
 -- ---- the rules of one entry
@@ -124,10 +124,9 @@ each-rules v e k = go (awaits v e)
     go false = k
 
 every-rules : (s : IoApicState) (v : Vector) → ChipRules s → ChipRules (endOfEvery s v .state)
-unfolding endOfEvery
 every-rules s v k =
     record {
-      table = length-map (s .entries) (endEach v) ∙ k .table;
+      table = every-size s v ∙ k .table;
       each = λ j l. ap (λ (x : Entry). entryRules x) (every-at s v j) ∙ of-rules (endEach v (entryAt s j)) (each-rules v (entryAt s j) (at-rules s k j l));
     }
 

@@ -1,4 +1,5 @@
 pub mod Demand
+pub mod Heard20
 pub mod Keeps
 pub mod OnTime
 pub mod Quiet

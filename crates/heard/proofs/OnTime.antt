@@ -30,10 +30,10 @@ use Rattle.heard.specs.Premises.{allTrue, keepsLow, lowerKept, asks, own
 use Rattle.heard.specs.Heard.{Heard}
 use Rattle.heard.proofs.Words.{Alike, same-vector}
 use Rattle.heard.proofs.Views.{sent-view, moved-view, Over, over-view, Routes, assert-view, level-view, Ends, ends-old, Writes, Write, write-view}
-use Rattle.heard.proofs.Steps.{never, and-true, implied, not-is, one, awaiting, awaits-no, send-awaits, send-flying, move-awaits, move-flying, end-alike, end-again, end-rest, wrote-kept, wrote-none}
+use Rattle.heard.proofs.Steps.{never, and-true, implied, not-is, one, awaiting, awaits-no, send-awaits, move-awaits, end-alike, end-again, end-rest, wrote-kept, wrote-none}
 use Rattle.heard.proofs.Tables.{all-at, lower-put, lower-gone, first-awaits, first-lowest, first-own, first-lower}
 use Rattle.heard.proofs.Keeps.{call-isNew}
-use Rattle.heard.proofs.Quiet.{Going, Quiet, replaced, still, moves, own, only, line-quiet, low-kept, write-quiet, begins}
+use Rattle.heard.proofs.Quiet.{Going, Quiet, replaced, still, moves, own, only, level-quiet, assert-quiet, low-kept, write-quiet, begins}
 
 -- ---- the premises of one call
 
@@ -179,14 +179,10 @@ own-turn v g m u x k e d (Ends.found l) q r = go (lowerInFlight v g (m .state)) 
 turn : (v : Vector) (g : ℕ) (m : EmulatedIoApic) (c : Call) → isNew (m .state) ≡ false → Going v g (m .state) → Held v g m c → Turn v g m c
 unfolding outcome setGsiLevel assertGsi endOfInterrupt sent
 turn v g m (SetGsiLevel gsi b) o k d =
-    passes v g m (SetGsiLevel gsi b)
-    (line-quiet v g m (SetGsiLevel gsi b) gsi (λ e. moveLine e b) (setLevel (m .state) gsi b) k (λ e. move-flying v e b (moveLine e b) (moved-view e b)) (level-view (m .state) gsi b) refl refl)
-    refl
+    passes v g m (SetGsiLevel gsi b) (level-quiet v g m gsi b k) refl
     (line-lower v g (m .state) gsi (λ e. moveLine e b) (setLevel (m .state) gsi b) (k .size) (λ e. move-awaits v e b (moveLine e b) (moved-view e b)) (level-view (m .state) gsi b) (d .lower-unsent))
 turn v g m (AssertGsi gsi) o k d =
-    passes v g m (AssertGsi gsi)
-    (line-quiet v g m (AssertGsi gsi) gsi sendEntry (interruptForEntry (m .state) gsi) k (λ e. send-flying v e (sendEntry e) (sent-view e)) (assert-view (m .state) gsi) refl refl)
-    refl
+    passes v g m (AssertGsi gsi) (assert-quiet v g m gsi k) refl
     (line-lower v g (m .state) gsi sendEntry (interruptForEntry (m .state) gsi) (k .size) (λ e. send-awaits v e (sendEntry e) (sent-view e)) (assert-view (m .state) gsi) (d .lower-unsent))
 turn v g m (EndOfInterrupt u) o k d = go (ℕ-discrete (u .0) (v .0))
   where
@@ -200,7 +196,7 @@ turn v g m AddressRange o k d = passes v g m AddressRange (still v g m AddressRa
 turn v g m (HandleRead addr width) o k d = passes v g m (HandleRead addr width) (still v g m (HandleRead addr width) k refl refl) refl refl
 turn v g m (HandleWrite addr width x) o k d =
     passes v g m (HandleWrite addr width x)
-    (write-quiet v g m (HandleWrite addr width x) addr width x (handleWrite m addr width x) k (d .own-kept) (λ i p e. never i o) (write-view m addr width x) refl refl)
+    (write-quiet v g m addr width x k (d .own-kept) (λ i p e. never i o))
     refl
     (write-lower v g m (HandleWrite addr width x) addr width x (handleWrite m addr width x) o (k .size) (d .lower-kept) (write-view m addr width x) refl)
 

@@ -2,7 +2,7 @@
 use Prim.Native.Nat.{ℕ, _+_, _%_, _^_, _<_}
 use native.Mathlib.Omega.{arith}
 use native.Mathlib.Decide.{ℕ-discrete}
-use mathlib.Core.Bool.{true, cond}
+use mathlib.Core.Bool.{Bool, true, cond}
 use mathlib.Core.Path.{_≡_, refl, sym, _∙_, ap}
 use borrow.Author.Tests.{eq-eqb, ne-eqb, eqb-true}
 use lib.Dec.{eqb}
@@ -12,10 +12,10 @@ use Rattle.types.specs.declared.Gsi.{Gsi}
 use Rattle.types.specs.declared.Vector.{Vector}
 use Rattle.types.specs.declared.Reply.the-variants.{Two}
 use Rattle.vioapic.specs.Answers.{routedReply}
-use Rattle.vioapic.specs.Redirection.{awaits, lowPart, raiseEntry, moveLine}
-use Rattle.vioapic.specs.Table.{isNew, entryAt, put}
-use Rattle.vioapic.specs.IoApic.{goodWidth}
-use Rattle.vioapic.specs.Calls.{Call, outcome, next}
+use Rattle.vioapic.specs.Redirection.{awaits, lowPart, sendEntry, raiseEntry, moveLine}
+use Rattle.vioapic.specs.Table.{isNew, entryAt, put, interruptForEntry, setLevel}
+use Rattle.vioapic.specs.IoApic.{goodWidth, setGsiLevel, assertGsi, handleWrite}
+use Rattle.vioapic.specs.Calls.{Call, SetGsiLevel, AssertGsi, HandleWrite, outcome, next}
 use Rattle.vioapic.specs.declared.redirection.Entry.{Entry}
 use Rattle.vioapic.specs.declared.redirection.EntryStep.{EntryStep}
 use Rattle.vioapic.specs.declared.redirection.Routed.{Routed}
@@ -25,8 +25,8 @@ use Rattle.vioapic.specs.declared.EmulatedIoApic.{EmulatedIoApic}
 use Rattle.vioapic.specs.declared.Routing.{Routing}
 use Rattle.heard.specs.Sends.{routes, resends, sent}
 use Rattle.heard.specs.Premises.{keepsLow}
-use Rattle.heard.proofs.Views.{raised-view, Routes, Writes, Write}
-use Rattle.heard.proofs.Steps.{one, Flying, raised-level, wrote-kept}
+use Rattle.heard.proofs.Views.{sent-view, raised-view, moved-view, Routes, assert-view, level-view, Writes, Write, write-view}
+use Rattle.heard.proofs.Steps.{one, Flying, send-flying, move-flying, raised-level, wrote-kept}
 use Rattle.heard.proofs.Tables.{put-same, put-other}
 
 -- what holds of entry g all the while
@@ -79,7 +79,7 @@ only h g n z = go (ℕ-discrete h g)
 
 -- ---- a line is moved or asserted
 
-pub line-quiet : (v : Vector) (g : ℕ) (m : EmulatedIoApic) (c : Call) (gsi : Gsi) (step : Entry → EntryStep) (x : Routing) → Going v g (m .state)
+line-quiet : (v : Vector) (g : ℕ) (m : EmulatedIoApic) (c : Call) (gsi : Gsi) (step : Entry → EntryStep) (x : Routing) → Going v g (m .state)
     → ((e : Entry) → awaits v e ≡ true → (step e .entry .word ≡ e .word) × (one (step e .answer) ≡ 0))
     → Routes (m .state) gsi step x → next m c .state ≡ x .state → sent g c (outcome m c .reply) ≡ cond (eqb (gsi .0) g) (routes (routedReply (x .answer))) 0 → Quiet v g m c
 line-quiet v g m c gsi step x k t (Routes.hit l) q z =
@@ -92,6 +92,16 @@ line-quiet v g m c gsi step x k t (Routes.hit l) q z =
 line-quiet v g m c gsi step x k t (Routes.miss l) q z =
     still v g m c k (ap (λ (s : IoApicState). s .entries) q) (z ∙ only (gsi .0) g 0 (λ p. refl))
 
+pub level-quiet : (v : Vector) (g : ℕ) (m : EmulatedIoApic) (gsi : Gsi) (b : Bool) → Going v g (m .state) → Quiet v g m (SetGsiLevel gsi b)
+unfolding outcome setGsiLevel sent
+level-quiet v g m gsi b k =
+    line-quiet v g m (SetGsiLevel gsi b) gsi (λ e. moveLine e b) (setLevel (m .state) gsi b) k (λ e. move-flying v e b (moveLine e b) (moved-view e b)) (level-view (m .state) gsi b) refl refl
+
+pub assert-quiet : (v : Vector) (g : ℕ) (m : EmulatedIoApic) (gsi : Gsi) → Going v g (m .state) → Quiet v g m (AssertGsi gsi)
+unfolding outcome assertGsi sent
+assert-quiet v g m gsi k =
+    line-quiet v g m (AssertGsi gsi) gsi sendEntry (interruptForEntry (m .state) gsi) k (λ e. send-flying v e (sendEntry e) (sent-view e)) (assert-view (m .state) gsi) refl refl
+
 -- ---- a write that is no EOI
 
 pub low-kept : (m : EmulatedIoApic) (c : Call) (h : ℕ) (f : Entry) → length (m .state .entries) ≡ 24 → h < 24 → next m c .state ≡ put (m .state) h f
@@ -100,13 +110,13 @@ low-kept m c h f n l q r =
     ap (λ (y : Entry). lowPart (y .word)) (sym (ap (λ (s : IoApicState). entryAt s h) q ∙ put-same (m .state) h f n l))
     ∙ eqb-true (lowPart (entryAt (next m c .state) h .word)) (lowPart (entryAt (m .state) h .word)) r
 
-pub write-quiet : (v : Vector) (g : ℕ) (m : EmulatedIoApic) (c : Call) (addr width x : ℕ) (o : Outcome EmulatedIoApic) → Going v g (m .state) → keepsLow m c g ≡ true
+word-quiet : (v : Vector) (g : ℕ) (m : EmulatedIoApic) (c : Call) (addr width x : ℕ) (o : Outcome EmulatedIoApic) → Going v g (m .state) → keepsLow m c g ≡ true
     → (isNew (m .state) ≡ true → goodWidth width ≡ true → addr ≡ m .base + 0x40 → ⊥)
     → Write m addr width x o → outcome m c ≡ o → sent g c (outcome m c .reply) ≡ resends g (o .reply) → Quiet v g m c
-write-quiet v g m c addr width x o k d n (Write.refused why) q z = still v g m c k (ap (λ (r : Outcome EmulatedIoApic). r .state .state .entries) q) z
-write-quiet v g m c addr width x o k d n (Write.served p l (Writes.selected y)) q z = still v g m c k (ap (λ (r : Outcome EmulatedIoApic). r .state .state .entries) q) z
-write-quiet v g m c addr width x o k d n (Write.served p l (Writes.eoi i e)) q z = absurd (n i p (omega arith))
-write-quiet v g m c addr width x o k d n (Write.served p l (Writes.word h f i u)) q z = moves v g m c h f k i at z mine
+word-quiet v g m c addr width x o k d n (Write.refused why) q z = still v g m c k (ap (λ (r : Outcome EmulatedIoApic). r .state .state .entries) q) z
+word-quiet v g m c addr width x o k d n (Write.served p l (Writes.selected y)) q z = still v g m c k (ap (λ (r : Outcome EmulatedIoApic). r .state .state .entries) q) z
+word-quiet v g m c addr width x o k d n (Write.served p l (Writes.eoi i e)) q z = absurd (n i p (omega arith))
+word-quiet v g m c addr width x o k d n (Write.served p l (Writes.word h f i u)) q z = moves v g m c h f k i at z mine
   where
     at : next m c .state ≡ put (m .state) h f
     at = ap (λ (r : Outcome EmulatedIoApic). r .state .state) q
@@ -116,6 +126,11 @@ write-quiet v g m c addr width x o k d n (Write.served p l (Writes.word h f i u)
         let a = own v g (m .state) h k e in
         let b = wrote-kept v (entryAt (m .state) h) (x % 2 ^ 32) f (omega arith) u (low-kept m c h f (k .size) i at (rw e d)) in
         record { fly = b .0 ∙ a .fly; fit = b .1 ∙ a .fit }
+
+pub write-quiet : (v : Vector) (g : ℕ) (m : EmulatedIoApic) (addr width x : ℕ) → Going v g (m .state) → keepsLow m (HandleWrite addr width x) g ≡ true
+    → (isNew (m .state) ≡ true → goodWidth width ≡ true → addr ≡ m .base + 0x40 → ⊥) → Quiet v g m (HandleWrite addr width x)
+unfolding outcome sent
+write-quiet v g m addr width x k d n = word-quiet v g m (HandleWrite addr width x) addr width x (handleWrite m addr width x) k d n (write-view m addr width x) refl refl
 
 -- ---- the first send puts the entry in flight
 

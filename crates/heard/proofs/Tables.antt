@@ -5,7 +5,7 @@ use native.Mathlib.Decide.{ℕ-discrete, decLt}
 use mathlib.Core.Bool.{Bool, true, false, cond}
 use mathlib.Core.List.{map}
 use mathlib.Core.Path.{_≡_, refl, sym, _∙_, ap, ap₂}
-use lib.ListN.{length, getD, List·getD-map}
+use lib.ListN.{length, length-map, getD, List·getD-map}
 use lib.Seq.{getD-set-same, getD-set-other}
 use Rattle.utils.proofs.Search.{first-holds, first-before}
 use Rattle.types.specs.declared.Vector.{Vector}
@@ -29,6 +29,10 @@ unfolding endOfEvery
 every-at s v j =
     let n : endEach v noEntry ≡ noEntry = rw (grounded v noEntry refl) in
     ap (λ (d : Entry). getD (map (endEach v) (s .entries)) j d) (sym n) ∙ List·getD-map (endEach v) (s .entries) j noEntry
+
+pub every-size : (s : IoApicState) (v : Vector) → length (endOfEvery s v .state .entries) ≡ length (s .entries)
+unfolding endOfEvery
+every-size s v = length-map (s .entries) (endEach v)
 
 -- a test that holds below n, at each number
 pub all-at : (n : ℕ) (p : ℕ → Bool) → allBelow n p ≡ true → (j : ℕ) → j < n → p j ≡ true

@@ -1,5 +1,6 @@
 pub mod CounterExamples
 pub mod Heard
+pub mod Heard20
 pub mod Premises
 pub mod Rules
 pub mod Sends
