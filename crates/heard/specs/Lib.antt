@@ -1,4 +1,5 @@
 pub mod CounterExamples
+pub mod CounterExamples20
 pub mod Heard
 pub mod Heard20
 pub mod Premises
