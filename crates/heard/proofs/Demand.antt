@@ -1,5 +1,5 @@
 -- Demand 3 in its own words: its premises give those that are needed. And last spring's story. Assumes nothing.
-use Prim.Native.Nat.{ℕ, zero, suc, _-_, _≤_, _<_}
+use Prim.Native.Nat.{ℕ, zero, suc, _≤_, _<_}
 use native.Mathlib.Omega.{arith}
 use native.Mathlib.Decide.{ℕ-discrete}
 use mathlib.Core.Bool.{Bool, true, false, not, _&&_}
@@ -14,7 +14,7 @@ use Rattle.types.specs.declared.Reply.{Reply}
 use Rattle.types.specs.declared.Reply.the-variants.{Refused, Nothing, One, Two, Three}
 use Rattle.vioapic.specs.Answers.{routedReply, eoiReply}
 use Rattle.vioapic.specs.Redirection.{isLevel, hasVector, awaits, sendEntry, raiseEntry, moveLine, endEntry}
-use Rattle.vioapic.specs.Table.{entryAt, put, firstAwaiting, endOfEntry, interruptForEntry, setLevel}
+use Rattle.vioapic.specs.Table.{isNew, entryAt, put, firstAwaiting, endOf, interruptForEntry, setLevel}
 use Rattle.vioapic.specs.IoApic.{chipAt, setGsiLevel, assertGsi, endOfInterrupt}
 use Rattle.vioapic.specs.Calls.{Call, SetGsiLevel, AssertGsi, EndOfInterrupt, VectorForGsi, AddressRange, HandleRead, HandleWrite, outcome, next, run}
 use Rattle.vioapic.specs.declared.redirection.Entry.{Entry}
@@ -27,10 +27,10 @@ use Rattle.heard.specs.Rules.{implies, ChipRules}
 use Rattle.heard.specs.Sends.{routes, resends, sent, sends, isEoi}
 use Rattle.heard.specs.Premises.{allTrue, always, lineUp, keepsLow, lowerDown, lowerUndeferred, lowerKept, lowerUnasserted, demanded, asks, ownAsks, lowerRests, levelSent, lowerUnsent, held, throughout}
 use Rattle.heard.specs.Heard.{HeardFromRules, Demand3, NeverHeard}
-use Rattle.heard.proofs.Views.{sent-view, raised-view, over-view, Routes, assert-view, level-view, Ends, ends-view}
+use Rattle.heard.proofs.Views.{sent-view, raised-view, over-view, Routes, assert-view, level-view, Ends, ends-old}
 use Rattle.heard.proofs.Steps.{never, and-true, implied, imply, not-is, awaiting, Flying, sent-level, raised-level, raise-input, end-again, end-input}
 use Rattle.heard.proofs.Tables.{put-same, put-other, all-at, first-awaits, first-lowest}
-use Rattle.heard.proofs.Keeps.{rules-of, calls-keep-rules, runs-keep-rules, new-keeps-rules}
+use Rattle.heard.proofs.Keeps.{rules-of, calls-keep-rules, runs-keep-rules, new-keeps-rules, call-isNew, run-isNew}
 use Rattle.heard.proofs.OnTime.{resends-one, heard}
 
 -- a test that can't be true
@@ -151,13 +151,13 @@ line-within s gsi x v (Routes.miss l) q = absurd (let z : 0 ≡ 1 = ap routes q 
 
 pub heard-from-rules : HeardFromRules
 unfolding setGsiLevel
-heard-from-rules m g v after k q h =
+heard-from-rules m g v after o k q h =
     let l = line-within (m .state) g (setLevel (m .state) g true) v (level-view (m .state) g true) q in
-    heard m g v after (k .table) q (all-held v (g .0) l (next m (SetGsiLevel g true)) after (calls-keep-rules m (SetGsiLevel g true) k) h)
+    heard m g v after o (k .table) q (all-held v (g .0) l (next m (SetGsiLevel g true)) after (calls-keep-rules m (SetGsiLevel g true) k) h)
 
 pub demand-3 : Demand3
 demand-3 base size before after g v q h =
-    heard-from-rules (run (chipAt base size) before) g v after (runs-keep-rules (chipAt base size) before (new-keeps-rules base size)) q h
+    heard-from-rules (run (chipAt base size) before) g v after (run-isNew (chipAt base size) before) (runs-keep-rules (chipAt base size) before (new-keeps-rules 0x11 base size)) q h
 
 -- ---- last spring's story
 
@@ -192,16 +192,16 @@ starved v h g m x k l w f u (Ends.found n) q r = go (ℕ-discrete h (firstAwaiti
         let at : entryAt (next m (EndOfInterrupt v) .state) h ≡ entryAt (m .state) h = ap (λ (s : IoApicState). entryAt s h) q ∙ put-other (m .state) (firstAwaiting (m .state) v) (endEntry e .entry) h p in
         record { fly = rw at f; up = rw at u; unsent = none }
 
-starves : (n : ℕ) (v : Vector) (h g : ℕ) (m : EmulatedIoApic) → ChipRules (m .state) → h < g → g < 24 → Flying v (entryAt (m .state) h) → entryAt (m .state) h .«input_level» ≡ true
+starves : (n : ℕ) (v : Vector) (h g : ℕ) (m : EmulatedIoApic) → isNew (m .state) ≡ false → ChipRules (m .state) → h < g → g < 24 → Flying v (entryAt (m .state) h) → entryAt (m .state) h .«input_level» ≡ true
     → sends g m (replicate n (EndOfInterrupt v)) ≡ 0
 unfolding sends outcome endOfInterrupt
-starves zero v h g m k l w f u = refl
-starves (suc n) v h g m k l w f u =
-    let t = starved v h g m (endOfEntry (m .state) v) k l w f u (ends-view (m .state) v) refl refl in
-    let z = starves n v h g (next m (EndOfInterrupt v)) (calls-keep-rules m (EndOfInterrupt v) k) l w (t .fly) (t .up) in
+starves zero v h g m o k l w f u = refl
+starves (suc n) v h g m o k l w f u =
+    let t = starved v h g m (endOf (m .state) v) k l w f u (ends-old (m .state) v o) refl refl in
+    let z = starves n v h g (next m (EndOfInterrupt v)) (call-isNew m (EndOfInterrupt v) ∙ o) (calls-keep-rules m (EndOfInterrupt v) k) l w (t .fly) (t .up) in
     rw (t .unsent, z)
 
 pub never-heard : NeverHeard
-never-heard m h g v n k l w a u =
+never-heard m h g v n o k l w a u =
     let r = rules-of (entryAt (m .state) h) (k .each h (omega arith)) in
-    starves n v h g m k l w (record { fly = a; fit = r .fit (awaiting v (entryAt (m .state) h) a .flight) }) u
+    starves n v h g m o k l w (record { fly = a; fit = r .fit (awaiting v (entryAt (m .state) h) a .flight) }) u

@@ -3,24 +3,36 @@ use Prim.Native.Nat.{ℕ, zero, suc, _+_, _≤_, _<_}
 use native.Mathlib.Omega.{arith}
 use native.Mathlib.Decide.{ℕ-discrete, decLt}
 use mathlib.Core.Bool.{Bool, true, false, cond}
+use mathlib.Core.List.{map}
 use mathlib.Core.Path.{_≡_, refl, sym, _∙_, ap, ap₂}
-use lib.ListN.{length}
+use lib.ListN.{length, length-map, getD, List·getD-map}
 use lib.Seq.{getD-set-same, getD-set-other}
 use Rattle.utils.proofs.Search.{first-holds, first-before}
 use Rattle.types.specs.declared.Vector.{Vector}
 use Rattle.vioapic.specs.Redirection.{awaits}
-use Rattle.vioapic.specs.Table.{noEntry, entryAt, put, firstAwaiting}
+use Rattle.vioapic.specs.Table.{noEntry, entryAt, put, firstAwaiting, endEach, endOfEvery}
 use Rattle.vioapic.specs.declared.redirection.Entry.{Entry}
 use Rattle.vioapic.specs.declared.IoApicState.{IoApicState}
 use Rattle.heard.specs.Sends.{count, lowerInFlight}
 use Rattle.heard.specs.Premises.{allBelow}
-use Rattle.heard.proofs.Steps.{never, and-true}
+use Rattle.heard.proofs.Steps.{never, and-true, grounded}
 
 pub put-same : (s : IoApicState) (h : ℕ) (f : Entry) → length (s .entries) ≡ 24 → h < 24 → entryAt (put s h f) h ≡ f
 put-same s h f n l = getD-set-same (s .entries) h f noEntry (rw n l)
 
 pub put-other : (s : IoApicState) (h : ℕ) (f : Entry) (j : ℕ) → (j ≡ h → ⊥) → entryAt (put s h f) j ≡ entryAt s j
 put-other s h f j n = getD-set-other (s .entries) h j f noEntry n
+
+-- an EOI of version 0x20 takes each entry by itself
+pub every-at : (s : IoApicState) (v : Vector) (j : ℕ) → entryAt (endOfEvery s v .state) j ≡ endEach v (entryAt s j)
+unfolding endOfEvery
+every-at s v j =
+    let n : endEach v noEntry ≡ noEntry = rw (grounded v noEntry refl) in
+    ap (λ (d : Entry). getD (map (endEach v) (s .entries)) j d) (sym n) ∙ List·getD-map (endEach v) (s .entries) j noEntry
+
+pub every-size : (s : IoApicState) (v : Vector) → length (endOfEvery s v .state .entries) ≡ length (s .entries)
+unfolding endOfEvery
+every-size s v = length-map (s .entries) (endEach v)
 
 -- a test that holds below n, at each number
 pub all-at : (n : ℕ) (p : ℕ → Bool) → allBelow n p ≡ true → (j : ℕ) → j < n → p j ≡ true

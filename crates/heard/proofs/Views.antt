@@ -1,20 +1,26 @@
 -- The cases of each rule of an entry and of each call, so that what is shown of them is shown case by case. Assumes nothing.
-use Prim.Native.Nat.{ℕ, _-_, _≤_, _<_}
+use Prim.Native.Nat.{ℕ, _-_, _%_, _^_, _≤_, _<_}
 use native.Mathlib.Omega.{arith}
-use mathlib.Core.Bool.{Bool, true, false, cond, _&&_}
+use mathlib.Core.Bool.{Bool, true, false, cond, _&&_, _||_}
 use mathlib.Core.Path.{_≡_, refl, subst⁻¹}
-use borrow.Author.Tests.{ltb-true, ltb-false, eqb-false}
-use lib.Dec.{eqb, ltb}
+use borrow.Author.Tests.{ltb-true, ltb-false, leb-true, eqb-true, eqb-false}
+use lib.Dec.{eqb, ltb, leb}
 use Rattle.types.specs.Counters.{entryIndex}
+use Rattle.types.specs.Reply.{Outcome}
 use Rattle.types.specs.declared.Gsi.{Gsi}
 use Rattle.types.specs.declared.Vector.{Vector}
-use Rattle.vioapic.specs.Redirection.{isFit, isLevel, remoteIrr, isMasked, sameLow, lowPart, withRemoteIrr, withoutRemoteIrr, replaceLow, replaceHigh, withWord, withPending, withInput, quietly, sending, settled, sendEntry, raiseEntry, lowerEntry, moveLine, endEntry, writeLow, writeHigh}
-use Rattle.vioapic.specs.Table.{entryAt, put, routeAt, unrouted, endAt, interruptForEntry, setLevel, firstAwaiting, endOfEntry}
-use Rattle.vioapic.specs.Registers.{isEntryWord, entryOf, isLow, done, writeWord, writeSelected, writeAt}
+use Rattle.types.specs.declared.Refusal.{Refusal}
+use Rattle.types.specs.declared.Refusal.the-variants.{Unsupported, InvalidAddress}
+use Rattle.vioapic.specs.Answers.{writtenReply}
+use Rattle.vioapic.specs.Redirection.{isFit, isLevel, remoteIrr, isMasked, sameLow, lowPart, withRemoteIrr, withoutRemoteIrr, replaceLow, replaceHigh, withWord, withPending, withInput, quietly, sending, settled, sendEntry, raiseEntry, lowerEntry, moveLine, endEntry, endEntry20, writeLow, writeHigh}
+use Rattle.vioapic.specs.Table.{isNew, entryAt, put, routeAt, unrouted, endAt, interruptForEntry, setLevel, firstAwaiting, endOfEntry, endOfEvery, endOf}
+use Rattle.vioapic.specs.Registers.{isEntryWord, entryOf, isLow, done, writeWord, writeSelected, eoiWritten, writeEoi, writeAt}
+use Rattle.vioapic.specs.IoApic.{goodWidth, withState, refuse, handleWrite}
 use Rattle.vioapic.proofs.ChipLaws.{entry-word-range}
 use Rattle.vioapic.specs.declared.redirection.Entry.{Entry}
 use Rattle.vioapic.specs.declared.redirection.EntryStep.{EntryStep}
 use Rattle.vioapic.specs.declared.IoApicState.{IoApicState}
+use Rattle.vioapic.specs.declared.EmulatedIoApic.{EmulatedIoApic}
 use Rattle.vioapic.specs.declared.Routing.{Routing}
 use Rattle.vioapic.specs.declared.Ending.{Ending}
 use Rattle.vioapic.specs.declared.Writing.{Writing}
@@ -84,6 +90,19 @@ over-view e = go (e .«input_level») (e .«pending_level») refl refl
         let at : asks e ≡ false = rw (p, q) in
         subst⁻¹ (λ (b : Bool). Over e (quietly (withPending (withWord e (withoutRemoteIrr (e .word))) b))) q (rested at)
 
+-- in version 0x20 nothing stays put off
+pub over-view20 : (e : Entry) → Over e (endEntry20 e)
+unfolding endEntry20
+over-view20 e = go (e .«input_level») (e .«pending_level») refl refl
+  where
+    f : Entry
+    f = withPending (withWord e (withoutRemoteIrr (e .word))) false
+
+    go : (a b : Bool) → e .«input_level» ≡ a → e .«pending_level» ≡ b → Over e (cond (a || b) (sendEntry f) (quietly f))
+    go true b p q = resent false (rw p) (λ h. absurd (let z : _≡_ {A = ℕ} 0 1 = cc in omega arith)) (sent-view f)
+    go false true p q = resent false (rw (p, q)) (λ h. q) (sent-view f)
+    go false false p q = rested (rw (p, q))
+
 -- ---- the guest writes it
 
 pub data Wrote (e : Entry) (x : ℕ) : Entry → Type 0 where
@@ -134,7 +153,7 @@ pub data Ends (s : IoApicState) (v : Vector) : Ending → Type 0 where
   found : firstAwaiting s v < 24 → Ends s v (endAt s (firstAwaiting s v))
   unfound : 24 ≤ firstAwaiting s v → Ends s v (record { state = s; answer = NotEnded })
 
-pub ends-view : (s : IoApicState) (v : Vector) → Ends s v (endOfEntry s v)
+ends-view : (s : IoApicState) (v : Vector) → Ends s v (endOfEntry s v)
 unfolding endOfEntry
 ends-view s v = go (ltb (firstAwaiting s v) 24) refl
   where
@@ -142,19 +161,63 @@ ends-view s v = go (ltb (firstAwaiting s v) 24) refl
     go true p = found (ltb-true (firstAwaiting s v) 24 p)
     go false p = unfound (ltb-false (firstAwaiting s v) 24 p)
 
-pub data Writes (s : IoApicState) (x : ℕ) : Writing → Type 0 where
-  selected : (y : ℕ) → Writes s x (done (record { selector = y; entries = s .entries }))
-  word : (h : ℕ) (f : Entry) → h < 24 → Wrote (entryAt s h) x f → Writes s x (done (put s h f))
+-- the choice by version
+pub data EndsBy (s : IoApicState) (v : Vector) : Ending → Type 0 where
+  one : {x : Ending} → isNew s ≡ false → Ends s v x → EndsBy s v x
+  every : isNew s ≡ true → EndsBy s v (endOfEvery s v)
 
-pub writes-view : (s : IoApicState) (offset x : ℕ) → Writes s x (writeAt s offset x)
-unfolding writeAt writeSelected
-writes-view s offset x = go (eqb offset 0) (eqb offset 0x10) (isEntryWord (s .selector)) refl
+pub ends-by : (s : IoApicState) (v : Vector) → EndsBy s v (endOf s v)
+unfolding endOf
+ends-by s v = go (isNew s) refl
   where
-    go : (a b c : Bool) → isEntryWord (s .selector) ≡ c
-        → Writes s x (cond a (done (record { selector = x; entries = s .entries })) (cond b (cond c (done (put s (entryOf (s .selector)) (writeWord (s .selector) (entryAt s (entryOf (s .selector))) x))) (done s)) (done s)))
-    go true b c p = selected x
-    go false false c p = selected (s .selector)
-    go false true false p = selected (s .selector)
-    go false true true p =
+    go : (b : Bool) → isNew s ≡ b → EndsBy s v (cond b (endOfEvery s v) (endOfEntry s v))
+    go true p = every p
+    go false p = one p (ends-view s v)
+
+pub ends-old : (s : IoApicState) (v : Vector) → isNew s ≡ false → Ends s v (endOf s v)
+unfolding endOf
+ends-old s v o = rw o (ends-view s v)
+
+pub data Writes (s : IoApicState) (offset x : ℕ) : Writing → Type 0 where
+  selected : (y : ℕ) → Writes s offset x (done (record { version = s .version; selector = y; entries = s .entries }))
+  word : (h : ℕ) (f : Entry) → h < 24 → Wrote (entryAt s h) x f → Writes s offset x (done (put s h f))
+  eoi : isNew s ≡ true → offset ≡ 0x40 → Writes s offset x (eoiWritten (endOfEvery s (record { 0 = x % 2 ^ 8 })))
+
+writes-view : (s : IoApicState) (offset x : ℕ) → Writes s offset x (writeAt s offset x)
+unfolding writeAt writeSelected writeEoi
+writes-view s offset x = go (eqb offset 0) (eqb offset 0x10) (eqb offset 0x40) (isEntryWord (s .selector)) (isNew s) refl refl refl
+  where
+    word-written : Writing
+    word-written = done (put s (entryOf (s .selector)) (writeWord (s .selector) (entryAt s (entryOf (s .selector))) x))
+
+    go : (a b d c n : Bool) → eqb offset 0x40 ≡ d → isEntryWord (s .selector) ≡ c → isNew s ≡ n
+        → Writes s offset x (cond a (done (record { version = s .version; selector = x; entries = s .entries })) (cond b (cond c word-written (done s)) (cond d (cond n (eoiWritten (endOfEvery s (record { 0 = x % 2 ^ 8 }))) (done s)) (done s))))
+    go true b d c n o p q = selected x
+    go false false false c n o p q = selected (s .selector)
+    go false false true c false o p q = selected (s .selector)
+    go false false true c true o p q = eoi q (eqb-true offset 0x40 o)
+    go false true d false n o p q = selected (s .selector)
+    go false true d true n o p q =
         let r = entry-word-range (s .selector) p in
         word (entryOf (s .selector)) (writeWord (s .selector) (entryAt s (entryOf (s .selector))) x) (omega arith) (wrote-view (s .selector) (entryAt s (entryOf (s .selector))) x)
+
+-- a write as a call: refused, or served
+pub data Write (m : EmulatedIoApic) (addr width x : ℕ) : Outcome EmulatedIoApic → Type 0 where
+  refused : (why : Refusal) → Write m addr width x (refuse m why)
+  served : {w : Writing} → goodWidth width ≡ true → m .base ≤ addr → Writes (m .state) (addr - m .base) (x % 2 ^ 32) w
+      → Write m addr width x (record { state = withState m (w .state); reply = writtenReply (w .answer) })
+
+pub write-view : (m : EmulatedIoApic) (addr width x : ℕ) → Write m addr width x (handleWrite m addr width x)
+unfolding handleWrite
+write-view m addr width x = go (goodWidth width) (leb (m .base) addr) refl refl
+  where
+    done-so : Outcome EmulatedIoApic
+    done-so = record {
+      state = withState m (writeAt (m .state) (addr - m .base) (x % 2 ^ 32) .state);
+      reply = writtenReply (writeAt (m .state) (addr - m .base) (x % 2 ^ 32) .answer);
+    }
+
+    go : (a b : Bool) → goodWidth width ≡ a → leb (m .base) addr ≡ b → Write m addr width x (cond a (cond b done-so (refuse m InvalidAddress)) (refuse m Unsupported))
+    go false b p q = refused Unsupported
+    go true false p q = refused InvalidAddress
+    go true true p q = served p (leb-true (m .base) addr q) (writes-view (m .state) (addr - m .base) (x % 2 ^ 32))

@@ -7,7 +7,7 @@ use mathlib.Core.Path.{_≡_, refl}
 use lib.Dec.{eqb}
 use Rattle.types.specs.declared.Vector.{Vector}
 use Rattle.vioapic.specs.Redirection.{sendEntry, raiseEntry, lowerEntry, endEntry, writeLow, writeHigh}
-use Rattle.vioapic.specs.Table.{interruptForEntry, setLevel, firstAwaiting, endOfEntry}
+use Rattle.vioapic.specs.Table.{interruptForEntry, setLevel, firstAwaiting, endOfEntry, endOf}
 use Rattle.vioapic.specs.Registers.{writeWord, writeSelected, writeAt}
 use Rattle.vioapic.specs.IoApic.{chipAt, assertGsi, setGsiLevel, endOfInterrupt, handleWrite}
 use Rattle.vioapic.specs.Calls.{Call, outcome, next, run}
@@ -124,12 +124,12 @@ counterExamples =
     ∷ []
 
 pub counter-examples : Counters counterExamples
-unfolding along run outcome sends sent eois count allBelow assertGsi setGsiLevel endOfInterrupt handleWrite interruptForEntry setLevel firstAwaiting endOfEntry writeWord writeSelected writeAt sendEntry raiseEntry lowerEntry endEntry writeLow writeHigh
+unfolding along run outcome sends sent eois count allBelow assertGsi setGsiLevel endOfInterrupt handleWrite interruptForEntry setLevel firstAwaiting endOfEntry endOf writeWord writeSelected writeAt sendEntry raiseEntry lowerEntry endEntry writeLow writeHigh
 counter-examples = ((refl, refl, refl, refl, refl), ((refl, refl, refl, refl, refl), ((refl, refl, refl, refl, refl), ((refl, refl, refl, refl, refl), ((refl, refl, refl, refl, refl), ((refl, refl, refl, refl, refl), ((refl, refl, refl, refl, refl), tt)))))))
 
 -- and the premises can all be met: entry 0 is in flight once, so of three EOIs the first goes to it, and entry 1 is sent 1 + (3 - 1) times
 pub premises-met :
     (throughout (demanded vector 1) (next (after (assert 0 ∷ [])) (raise 1)) (eoi 0x30 ∷ eoi 0x30 ∷ eoi 0x30 ∷ []) ≡ true)
     × (sends 1 (after (assert 0 ∷ [])) (raise 1 ∷ eoi 0x30 ∷ eoi 0x30 ∷ eoi 0x30 ∷ []) ≡ 3)
-unfolding along run outcome sends sent eois count allBelow assertGsi setGsiLevel endOfInterrupt handleWrite interruptForEntry setLevel firstAwaiting endOfEntry writeWord writeSelected writeAt sendEntry raiseEntry lowerEntry endEntry writeLow writeHigh throughout
+unfolding along run outcome sends sent eois count allBelow assertGsi setGsiLevel endOfInterrupt handleWrite interruptForEntry setLevel firstAwaiting endOfEntry endOf writeWord writeSelected writeAt sendEntry raiseEntry lowerEntry endEntry writeLow writeHigh throughout
 premises-met = (refl, refl)

@@ -1,6 +1,6 @@
--- Demand 3: a device that holds its line is heard. The statements; every definition that they use is in this folder or in `vioapic`.
+-- Demand 3 in version 0x11: a device that holds its line is heard. The statements (those of version 0x20 are in Heard20.antt); every definition that they use is in this folder or in `vioapic`.
 use Prim.Native.Nat.{ℕ, _+_, _-_, _<_}
-use mathlib.Core.Bool.{true}
+use mathlib.Core.Bool.{true, false}
 use mathlib.Core.List.{List, _∷_}
 use mathlib.Core.Path.{_≡_}
 use lib.ListN.{length, replicate}
@@ -8,7 +8,7 @@ use Rattle.types.specs.declared.Gsi.{Gsi}
 use Rattle.types.specs.declared.Vector.{Vector}
 use Rattle.types.specs.declared.Reply.the-variants.{Two}
 use Rattle.vioapic.specs.Redirection.{awaits}
-use Rattle.vioapic.specs.Table.{entryAt}
+use Rattle.vioapic.specs.Table.{isNew, entryAt}
 use Rattle.vioapic.specs.IoApic.{chipAt, setGsiLevel}
 use Rattle.vioapic.specs.Calls.{Call, SetGsiLevel, EndOfInterrupt, next, run}
 use Rattle.vioapic.specs.declared.EmulatedIoApic.{EmulatedIoApic}
@@ -26,6 +26,7 @@ SentOnTime m g v after =
 abbrev pub Heard : Type 0
 Heard =
     (m : EmulatedIoApic) (g : Gsi) (v : Vector) (after : List Call)
+    → isNew (m .state) ≡ false
     → length (m .state .entries) ≡ 24
     → setGsiLevel m g true .reply ≡ Two (v .0) 1
     → throughout (held v (g .0)) (next m (SetGsiLevel g true)) after ≡ true
@@ -35,6 +36,7 @@ Heard =
 abbrev pub HeardFromRules : Type 0
 HeardFromRules =
     (m : EmulatedIoApic) (g : Gsi) (v : Vector) (after : List Call)
+    → isNew (m .state) ≡ false
     → ChipRules (m .state)
     → setGsiLevel m g true .reply ≡ Two (v .0) 1
     → throughout (demanded v (g .0)) (next m (SetGsiLevel g true)) after ≡ true
@@ -53,6 +55,7 @@ Demand3 =
 abbrev pub NeverHeard : Type 0
 NeverHeard =
     (m : EmulatedIoApic) (h g : ℕ) (v : Vector) (n : ℕ)
+    → isNew (m .state) ≡ false
     → ChipRules (m .state)
     → h < g
     → g < 24

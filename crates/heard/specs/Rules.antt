@@ -9,7 +9,7 @@ use Rattle.types.specs.Reply.{replyNumber}
 use Rattle.vioapic.specs.Redirection.{remoteIrr, isLevel, isFit}
 use Rattle.vioapic.specs.Table.{entryAt}
 use Rattle.vioapic.specs.Registers.{entryOf}
-use Rattle.vioapic.specs.IoApic.{chipAt}
+use Rattle.vioapic.specs.IoApic.{chipOf}
 use Rattle.vioapic.specs.Calls.{Call, outcome, next, run}
 use Rattle.vioapic.specs.declared.redirection.Entry.{Entry}
 use Rattle.vioapic.specs.declared.IoApicState.{IoApicState}
@@ -33,9 +33,9 @@ pub record ChipRules (s : IoApicState) : Type 0 where
   pub table : length (s .entries) ≡ 24
   pub each : (j : ℕ) → j < 24 → entryRules (entryAt s j) ≡ true
 
--- a new chip keeps the rules
+-- a new chip keeps the rules, in either version
 abbrev pub NewKeepsRules : Type 0
-NewKeepsRules = (base size : ℕ) → ChipRules (chipAt base size .state)
+NewKeepsRules = (version base size : ℕ) → ChipRules (chipOf version base size .state)
 
 -- every public call keeps them
 abbrev pub CallsKeepRules : Type 0
@@ -44,6 +44,10 @@ CallsKeepRules = (m : EmulatedIoApic) (c : Call) → ChipRules (m .state) → Ch
 -- and so does a run of calls
 abbrev pub RunsKeepRules : Type 0
 RunsKeepRules = (m : EmulatedIoApic) (cs : List Call) → ChipRules (m .state) → ChipRules (run m cs .state)
+
+-- no call changes the version or moves the chip to another address
+abbrev pub CallsKeepVersion : Type 0
+CallsKeepVersion = (m : EmulatedIoApic) (c : Call) → (next m c .state .version ≡ m .state .version) × (next m c .base ≡ m .base)
 
 -- a refused call hands the chip back as it came
 abbrev pub RefusedKeeps : Type 0

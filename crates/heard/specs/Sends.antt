@@ -1,9 +1,11 @@
 -- What is counted over a run of public calls: the times that an entry is sent, and the EOIs of a vector.
--- "Sent" is read off the replies: a line's or an assertion's reply is (vector, level), and an EOI's that sends again is (GSI, vector, level).
+-- "Sent" is read off the replies: a line's or an assertion's reply is (vector, level); an EOI's that sends again is (GSI, vector, level) in version 0x11,
+-- and in version 0x20, where an EOI is also a write, (set cleared, set sent).
 use Prim.Native.Nat.{ℕ, zero, suc, _+_}
 use mathlib.Core.Bool.{Bool, false, cond}
 use mathlib.Core.List.{List, [], _∷_}
 use lib.Dec.{eqb}
+use Rattle.utils.specs.Set.{bit}
 use Rattle.types.specs.declared.Vector.{Vector}
 use Rattle.types.specs.declared.Reply.{Reply}
 use Rattle.types.specs.declared.Reply.the-variants.{Refused, Nothing, One, Two, Three}
@@ -24,10 +26,10 @@ routes (Three a b c) = 0
 -- a reply that carries GSI g's interrupt, sent again by an EOI
 abbrev pub resends : ℕ → Reply → ℕ
 resends g (Three h v l) = cond (eqb h g) 1 0
+resends g (Two cleared sent) = cond (bit sent g) 1 0
 resends g (Refused why) = 0
 resends g Nothing = 0
 resends g (One a) = 0
-resends g (Two a b) = 0
 
 -- how often a call with this reply sends entry g: once or not at all
 unfoldable pub sent : ℕ → Call → Reply → ℕ
@@ -37,7 +39,7 @@ sent g (EndOfInterrupt v) r = resends g r
 sent g (VectorForGsi h) r = 0
 sent g AddressRange r = 0
 sent g (HandleRead a w) r = 0
-sent g (HandleWrite a w x) r = 0
+sent g (HandleWrite a w x) r = resends g r
 
 -- how often a run sends entry g
 unfoldable pub sends : ℕ → EmulatedIoApic → List Call → ℕ
