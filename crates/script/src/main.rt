@@ -3,8 +3,8 @@ use fields::Cursor;
 use fields::Field;
 use libc::STDIN_FILENO;
 use libc::STDOUT_FILENO;
-use scripts::next_field;
 use scripts::Machine;
+use scripts::next_field;
 use types::Refusal;
 use types::Reply;
 

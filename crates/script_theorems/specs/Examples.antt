@@ -189,5 +189,5 @@ examples =
     ∷ []
 
 pub examples-hold : Holds examples
-unfolding set.with set.without set.outside set.lowest set.highest set.lastSet32 redirection.sendEntry redirection.raiseEntry redirection.lowerEntry redirection.endEntry redirection.writeLow redirection.writeHigh table.interruptForEntry table.setLevel table.firstAwaiting table.endOfEntry table.vectorFor window.readFixed window.readWord window.readSelected window.writeWord window.writeSelected window.readAt window.writeAt vioapic.created vioapic.assertGsi vioapic.setGsiLevel vioapic.endOfInterrupt vioapic.vectorForGsi vioapic.addressRange vioapic.handleRead vioapic.handleWrite ioapic.outcome ioapic.run chip.opened chip.commanded chip.fed chip.commandRead chip.pulsed chip.counts chip.pendingLine chip.pendingIrq chip.acknowledged chip.acknowledge chip.unacknowledged pair.newState pair.latched pair.masterClaim pair.slaveClaim pair.claimPending pair.claimIrq pair.restored pair.portRead pair.writtenAt pair.portWritten pair.newPic vectors.highestFrom icr.destFieldMatched icr.destNoShorthand icr.calculateDest icr.command icr.selfIpi priority.priority priority.updatePpr priority.acceptInterrupt priority.handleEoi registers.handleRead registers.stored registers.writeStored vlapic.setup vlapic.writeIcr vlapic.writeIcrLow vlapic.writeSelfIpi vlapic.handleWrite newMachine setUp performed afterCalls replies
+unfolding set.with set.without set.outside set.lowest set.highest set.lastSet32 redirection.sendEntry redirection.raiseEntry redirection.lowerEntry redirection.endEntry redirection.writeLow redirection.writeHigh table.interruptForEntry table.setLevel table.firstAwaiting table.endOfEntry table.endOf table.vectorFor window.readFixed window.readWord window.readSelected window.writeWord window.writeSelected window.readAt window.writeAt vioapic.assertGsi vioapic.setGsiLevel vioapic.endOfInterrupt vioapic.vectorForGsi vioapic.addressRange vioapic.handleRead vioapic.handleWrite ioapic.outcome ioapic.run chip.opened chip.commanded chip.fed chip.commandRead chip.pulsed chip.counts chip.pendingLine chip.pendingIrq chip.acknowledged chip.acknowledge chip.unacknowledged pair.newState pair.latched pair.masterClaim pair.slaveClaim pair.claimPending pair.claimIrq pair.restored pair.portRead pair.writtenAt pair.portWritten pair.newPic vectors.highestFrom icr.destFieldMatched icr.destNoShorthand icr.calculateDest icr.command icr.selfIpi priority.priority priority.updatePpr priority.acceptInterrupt priority.handleEoi registers.handleRead registers.stored registers.writeStored vlapic.setup vlapic.writeIcr vlapic.writeIcrLow vlapic.writeSelfIpi vlapic.handleWrite newMachine setUp performed afterCalls replies
 examples-hold = ((refl, refl), ((refl, refl), ((refl, refl), ((refl, refl), ((refl, refl), ((refl, refl), ((refl, refl), ((refl, refl), ((refl, refl), ((refl, refl), ((refl, refl), ((refl, refl), tt))))))))))))
