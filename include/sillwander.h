@@ -52,17 +52,21 @@ extern "C" {
  *   25       bit g: line g is up
  *   26       the selector, bits 31..0
  *   27, 28   base address and size
- *   29..31   spare: 0 in a new state, and no call reads or writes them
+ *   29       the version: 0x20; any other number is 0x11
+ *   30, 31   spare: 0 in a new state, and no call reads or writes them
  *
  * Bits of words 24 to 26 that stand for nothing are ignored; a call keeps those of 24 and 25.
- * A call touches the words that it must: one entry's register and its two flags, or the selector.
+ * A call touches the words that it must: one entry's register and its two flags, or the selector; in version 0x20 an EOI touches those of every entry that it ends.
  */
 #define SILLWANDER_IOAPIC_WORDS 32
 
-/* A new I/O APIC. Refused: 4 where base + size is 2^64 or more. */
+/* A new I/O APIC of version 0x11. Refused: 4 where base + size is 2^64 or more. */
 uint64_t sillwander_ioapic_new(uint64_t words[32], uint64_t base, uint64_t size);
 
-/* A new I/O APIC at 0xfec00000, of size 0x1000. Answers 0. */
+/* A new I/O APIC of version 0x11 or 0x20. Refused: 1 for another version, then 4 as above. */
+uint64_t sillwander_ioapic_new_version(uint64_t words[32], uint64_t base, uint64_t size, uint64_t version);
+
+/* A new I/O APIC of version 0x11 at 0xfec00000, of size 0x1000. Answers 0. */
 uint64_t sillwander_ioapic_new_default(uint64_t words[32]);
 
 /* The vector programmed for a line: one value, or none where its entry is masked, isn't of fixed delivery or has a vector below 16, and from line 24 up. */
@@ -74,8 +78,9 @@ uint64_t sillwander_ioapic_assert_gsi(uint64_t words[32], uint64_t gsi);
 /* Moves a line up or down. Answers as sillwander_ioapic_assert_gsi does. */
 uint64_t sillwander_ioapic_set_gsi_level(uint64_t words[32], uint64_t gsi, uint64_t asserted);
 
-/* An EOI broadcast. Three values, the line that it ended and the vector and level that it sends again; one value, the line, where nothing
-   is sent; or none where no line in flight has the vector. Refused: 5 for a vector above 255. */
+/* An EOI broadcast. Version 0x11: three values, the line that it ended and the vector and level that it sends again; one value, the line, where nothing is sent.
+   Version 0x20: two values, the set of lines that it ended and the set of those whose interrupt is sent again, a bit for each line. None where no line in flight has
+   the vector. Refused: 5 for a vector above 255. */
 uint64_t sillwander_ioapic_end_of_interrupt(uint64_t words[32], uint64_t vector);
 
 /* Writes the base and the end, which is not in it, to range[0] and range[1]. Refused: 4 for words whose base + size is 2^64 or more. */
@@ -84,7 +89,7 @@ uint64_t sillwander_ioapic_address_range(const uint64_t words[32], uint64_t rang
 /* A memory read: one value. Refused: 1 for a width other than 4 and 8, then 4 for an address below the base. */
 uint64_t sillwander_ioapic_handle_read(const uint64_t words[32], uint64_t addr, uint64_t width);
 
-/* A memory write, of the value's low 32 bits. Refused as a read is. */
+/* A memory write, of the value's low 32 bits. Refused as a read is. In version 0x20 a write at base + 0x40 is an EOI of the value's low 8 bits, and answers as one. */
 uint64_t sillwander_ioapic_handle_write(uint64_t words[32], uint64_t addr, uint64_t width, uint64_t value);
 
 /*

@@ -8,6 +8,7 @@ use types::Gsi;
 use types::PicLine;
 use types::VcpuId;
 use types::Vector;
+use vioapic::is_version;
 use vpic::pair::PicInterruptClaim;
 
 // Calls of the I/O APIC.
@@ -46,8 +47,10 @@ pub enum ApicCall {
     },
 }
 
+// A call of a chip, or the choice of the I/O APIC's version, which makes a new one.
 pub enum Call {
     Io(IoCall),
+    IoVersion(u8),
     Pic(PicCall),
     Apic(ApicCall),
 }
@@ -119,82 +122,81 @@ fn is_width(code: u8) -> bool
     code == 8
 }
 
-fn starts_with_width(body: &[u8]) -> bool
-    ensures { λ r. ⌜ r ≡ isWidth (numberAt (now (body .entry)) 0 1) ⌝ }
-{
-    is_width(byte(body, 0))
-}
-
-// The call, if the body has its size and, where it starts with a width, that is one.
-fn checked(body: &[u8], size: usize, width: bool, call: Call) -> Body
-    ensures { λ r. ⌜ r ≡ checked (now (body .entry)) size width call ⌝ }
+// The call, if the body has its size and its first number is one that may stand there.
+fn checked(body: &[u8], size: usize, may_start: bool, call: Call) -> Body
+    ensures { λ r. ⌜ r ≡ checked (now (body .entry)) size «may_start» call ⌝ }
 {
     if body.len() != size {
         return Body::Malformed;
     }
-    if width {
-        if starts_with_width(body) {
-            return Body::Says(call);
-        }
-        return Body::Malformed;
+    if may_start {
+        return Body::Says(call);
     }
-    Body::Says(call)
+    Body::Malformed
 }
 
-// A body by its tag: its size, whether it starts with a width, and its call.
+// A body by its tag: its size, whether its first number may stand there, and its call.
 pub fn decode(tag: u8, body: &[u8]) -> Body
     ensures { λ r. ⌜ r ≡ decoded tag (now (body .entry)) ⌝ }
 {
     match tag {
         0x01 => {
+            let width = byte(body, 0);
             let call = IoCall::HandleRead {
                 addr: eight_bytes(body, 1),
-                width: byte(body, 0),
+                width,
             };
-            checked(body, 9, true, Call::Io(call))
+            checked(body, 9, is_width(width), Call::Io(call))
         }
         0x02 => {
+            let width = byte(body, 0);
             let call = IoCall::HandleWrite {
                 addr: eight_bytes(body, 1),
-                width: byte(body, 0),
+                width,
                 value: eight_bytes(body, 9),
             };
-            checked(body, 17, true, Call::Io(call))
+            checked(body, 17, is_width(width), Call::Io(call))
         }
         0x03 => {
             let call = IoCall::SetGsiLevel(Gsi(byte(body, 0) as usize), byte(body, 1) != 0);
-            checked(body, 2, false, Call::Io(call))
+            checked(body, 2, true, Call::Io(call))
         }
         0x04 => {
             let call = IoCall::AssertGsi(Gsi(byte(body, 0) as usize));
-            checked(body, 1, false, Call::Io(call))
+            checked(body, 1, true, Call::Io(call))
         }
         0x05 => {
             let call = IoCall::EndOfInterrupt(Vector(byte(body, 0)));
-            checked(body, 1, false, Call::Io(call))
+            checked(body, 1, true, Call::Io(call))
+        }
+        0x06 => {
+            let version = byte(body, 0);
+            checked(body, 1, is_version(version), Call::IoVersion(version))
         }
         0x10 => {
+            let width = byte(body, 0);
             let call = PicCall::HandleRead {
                 port: two_bytes(body, 1),
-                width: byte(body, 0),
+                width,
             };
-            checked(body, 3, true, Call::Pic(call))
+            checked(body, 3, is_width(width), Call::Pic(call))
         }
         0x11 => {
+            let width = byte(body, 0);
             let call = PicCall::HandleWrite {
                 port: two_bytes(body, 1),
-                width: byte(body, 0),
+                width,
                 value: eight_bytes(body, 3),
             };
-            checked(body, 11, true, Call::Pic(call))
+            checked(body, 11, is_width(width), Call::Pic(call))
         }
         0x12 => {
             let call = PicCall::ClaimIrq(PicLine(byte(body, 0)));
-            checked(body, 1, false, Call::Pic(call))
+            checked(body, 1, true, Call::Pic(call))
         }
         0x13 => {
             let call = PicCall::ClaimPendingInterrupt;
-            checked(body, 0, false, Call::Pic(call))
+            checked(body, 0, true, Call::Pic(call))
         }
         0x14 => {
             let flags = byte(body, 2);
@@ -204,27 +206,28 @@ pub fn decode(tag: u8, body: &[u8]) -> Body
                 master_in_service: flags % 2 == 1,
                 slave_in_service: flags / 2 % 2 == 1,
             });
-            checked(body, 3, false, Call::Pic(call))
+            checked(body, 3, true, Call::Pic(call))
         }
         0x20 => {
             let call = ApicCall::AcceptInterrupt(Vector(byte(body, 0)), byte(body, 1) != 0);
-            checked(body, 2, false, Call::Apic(call))
+            checked(body, 2, true, Call::Apic(call))
         }
         0x21 => {
+            let width = byte(body, 0);
             let call = ApicCall::HandleWrite {
                 offset: two_bytes(body, 1) as u64,
-                width: byte(body, 0),
+                width,
                 value: eight_bytes(body, 3),
             };
-            checked(body, 11, true, Call::Apic(call))
+            checked(body, 11, is_width(width), Call::Apic(call))
         }
         0x22 => {
             let call = ApicCall::HandleEoi;
-            checked(body, 0, false, Call::Apic(call))
+            checked(body, 0, true, Call::Apic(call))
         }
         0x23 => {
             let call = ApicCall::HandleRead(two_bytes(body, 0) as u64);
-            checked(body, 2, false, Call::Apic(call))
+            checked(body, 2, true, Call::Apic(call))
         }
         0x24 => {
             let call = ApicCall::Setup {
@@ -233,7 +236,7 @@ pub fn decode(tag: u8, body: &[u8]) -> Body
                 vcpu_num: byte(body, 2) as usize,
                 active_vcpus: eight_bytes(body, 3),
             };
-            checked(body, 11, false, Call::Apic(call))
+            checked(body, 11, true, Call::Apic(call))
         }
         _ => Body::Malformed,
     }

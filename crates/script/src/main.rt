@@ -4,6 +4,7 @@ use fields::Field;
 use libc::STDIN_FILENO;
 use libc::STDOUT_FILENO;
 use scripts::Machine;
+use scripts::next_field;
 use types::Refusal;
 use types::Reply;
 
@@ -27,7 +28,7 @@ fn print_fields(script: &[u8]) {
     let mut turns: usize = 0;
     while turns <= LIMIT {
         turns += 1;
-        let field = next.read(script);
+        let field = next_field(script, machine.io_used, next);
         match field {
             Field::Good {
                 tag,

@@ -24,23 +24,23 @@ use Rattle.fields.specs.declared.PicCall.the-variants as pic
 use Rattle.fields.specs.declared.ApicCall.{ApicCall}
 use Rattle.fields.specs.declared.ApicCall.the-variants as apic
 use Rattle.fields.specs.declared.Call.{Call}
-use Rattle.fields.specs.declared.Call.the-variants.{Io, Pic, Apic}
+use Rattle.fields.specs.declared.Call.the-variants.{Io, IoVersion, Pic, Apic}
 use Rattle.scripts.specs.declared.Machine.{Machine}
 use Rattle.scripts.specs.Machine.{ioCall, picOutcome, apicOutcome, onApic, withVcpus, setUpBy, setUp, performed}
-use Rattle.script_theorems.specs.Refusals.{isCommand, withWordsOf, Kept, RefusedUnchanged}
+use Rattle.script_theorems.specs.Refusals.{isCommand, withWordsOf, having, Kept, RefusedUnchanged}
 
 -- a machine with one chip replaced
 withIo : Machine → EmulatedIoApic → Machine
-withIo m c = record { ioapic = c; pic = m .pic; apic = m .apic; «vcpu_num» = m .«vcpu_num»; «active_vcpus» = m .«active_vcpus» }
+withIo m c = record { ioapic = c; pic = m .pic; apic = m .apic; «vcpu_num» = m .«vcpu_num»; «active_vcpus» = m .«active_vcpus»; «io_used» = true }
 
 withPic : Machine → EmulatedPic → Machine
-withPic m c = record { ioapic = m .ioapic; pic = c; apic = m .apic; «vcpu_num» = m .«vcpu_num»; «active_vcpus» = m .«active_vcpus» }
+withPic m c = record { ioapic = m .ioapic; pic = c; apic = m .apic; «vcpu_num» = m .«vcpu_num»; «active_vcpus» = m .«active_vcpus»; «io_used» = m .«io_used» }
 
 withApic : Machine → VirtualApicRegs → Machine
-withApic m s = record { ioapic = m .ioapic; pic = m .pic; apic = s; «vcpu_num» = m .«vcpu_num»; «active_vcpus» = m .«active_vcpus» }
+withApic m s = record { ioapic = m .ioapic; pic = m .pic; apic = s; «vcpu_num» = m .«vcpu_num»; «active_vcpus» = m .«active_vcpus»; «io_used» = m .«io_used» }
 
 -- the machine itself is kept
-same : (m : Machine) (c : Call) (after : Machine) → after ≡ m → Kept m c after
+same : (m : Machine) (c : Call) (after : Machine) → after ≡ having m c → Kept m c after
 same m c after e = record { but-words = ap (withWordsOf m) e; whole = λ n. e }
 
 -- a refused call of the pair, as one of its public calls
@@ -95,5 +95,6 @@ apic-kept m (apic.Setup x2apic id num active) n =
 pub machine-unchanged : RefusedUnchanged
 unfolding performed withIo withPic
 machine-unchanged m (Io c) n = same m (Io c) _ (ap (withIo m) (refused-keeps (m .ioapic) (ioCall c) n))
+machine-unchanged m (IoVersion version) n = absurd (n refl)
 machine-unchanged m (Pic c) n = same m (Pic c) _ (ap (withPic m) (pair-kept (m .pic) c n))
 machine-unchanged m (Apic c) n = apic-kept m c n

@@ -1,7 +1,7 @@
 -- The laws of runs. Each follows the fields one by one. Assumes nothing.
 use mathlib.Core.Path.{_≡_, refl, sym, ap, _∙_}
-use mathlib.Core.Bool.{Bool, true, false, cond}
-use mathlib.Core.List.{List, [], _∷_}
+use mathlib.Core.Bool.{Bool, true, false, cond, _||_}
+use mathlib.Core.List.{List, [], _∷_, _++_}
 use mathlib.Core.Logic.{_⊎_, inl, inr, ⊎-elim}
 use Prim.Native.Nat.{ℕ, zero, suc, _+_, _≤_, _<_}
 use native.Mathlib.Nat.{suc-add, zero-add}
@@ -9,6 +9,7 @@ use native.Mathlib.Omega.{arith}
 use lib.Dec.{leb, ltb}
 use lib.ListN.{length, getD}
 use borrow.Author.Tests.{le-leb, leb-true, ltb-false}
+use Rattle.types.specs.declared.Reply.{Reply}
 use Rattle.fields.specs.declared.Call.{Call}
 use Rattle.fields.specs.declared.Body.{Body}
 use Rattle.fields.specs.declared.Body.the-variants.{Says, Malformed}
@@ -21,25 +22,97 @@ use Rattle.scripts.specs.declared.Machine.{Machine}
 use Rattle.scripts.specs.declared.Run.{Run}
 use Rattle.scripts.specs.declared.Stop.{Stop}
 use Rattle.scripts.specs.declared.Stop.the-variants as stop
-use Rattle.scripts.specs.Machine.{performed}
-use Rattle.scripts.specs.Run.{byField, fieldCount, placeAfter, stopAfter, callsFrom, afterCalls, runOf}
-use Rattle.script_theorems.specs.Runs.{Counted, Together, InTwo, Within, Beyond, Ended, Ends}
+use Rattle.scripts.specs.Late.{isIo, isLate, usedAfter, taken, fieldFor}
+use Rattle.scripts.specs.Machine.{newMachine, performed}
+use Rattle.scripts.specs.Run.{byField, fieldCount, placeAfter, stopAfter, callsFrom, afterCalls, replies, runOf}
+use Rattle.scripts.proofs.Runs.{remembers}
+use Rattle.script_theorems.specs.Runs.{Counted, Together, InTwo, answersOf, AnsweredInTwo, anyIo, Remembered, LateIsBad, inTime, InTime, Within, Beyond, Ended, Ends}
 
 -- ---- the count
 
-calls-counted : (s : List ℕ) (at n : ℕ) → length (callsFrom s at n) ≡ fieldCount s at n
+calls-counted : (s : List ℕ) (used : Bool) (at n : ℕ) → length (callsFrom s used at n) ≡ fieldCount s used at n
 unfolding callsFrom fieldCount
-calls-counted s at zero = refl
-calls-counted s at (suc n) = go (fieldAt s at) (λ next. calls-counted s next n)
+calls-counted s used at zero = refl
+calls-counted s used at (suc n) = go (fieldFor s used at) (λ u next. calls-counted s u next n)
   where
-    go : (f : Field) → ((next : ℕ) → length (callsFrom s next n) ≡ fieldCount s next n)
-        → length (byField f (λ call next. call ∷ callsFrom s next n) [] []) ≡ byField f (λ call next. suc (fieldCount s next n)) 0 0
-    go (Good tag c next) ih = ap suc (ih (next .at))
+    go : (f : Field) → ((u : Bool) (next : ℕ) → length (callsFrom s u next n) ≡ fieldCount s u next n)
+        → length (byField f (λ call next. call ∷ callsFrom s (usedAfter used call) next n) [] []) ≡ byField f (λ call next. suc (fieldCount s (usedAfter used call) next n)) 0 0
+    go (Good tag c next) ih = ap suc (ih (usedAfter used c) (next .at))
     go Bad ih = refl
     go End ih = refl
 
 pub counted : Counted
-counted s m at n = (refl, calls-counted s at n)
+counted s m at n = (refl, calls-counted s (m .«io_used») at n)
+
+-- ---- a field that isn't late stands there by itself
+
+taken-good : (used : Bool) (f : Field) (tag : ℕ) (c : Call) (next : Cursor) → taken used f ≡ Good tag c next → f ≡ Good tag c next
+taken-good used (Good t d n) tag c next e = go (isLate used d) e
+  where
+    go : (b : Bool) → cond b Bad (Good t d n) ≡ Good tag c next → Good t d n ≡ Good tag c next
+    go true p = let z : _≡_ {A = ℕ} 0 1 = cc in absurd (omega arith)
+    go false p = p
+taken-good used Bad tag c next e = let z : _≡_ {A = ℕ} 0 1 = cc in absurd (omega arith)
+taken-good used End tag c next e = let z : _≡_ {A = ℕ} 0 1 = cc in absurd (omega arith)
+
+taken-end : (used : Bool) (f : Field) → taken used f ≡ End → f ≡ End
+taken-end used (Good t d n) e = go (isLate used d) e
+  where
+    go : (b : Bool) → cond b Bad (Good t d n) ≡ End → Good t d n ≡ End
+    go true p = let z : _≡_ {A = ℕ} 0 1 = cc in absurd (omega arith)
+    go false p = p
+taken-end used Bad e = let z : _≡_ {A = ℕ} 0 1 = cc in absurd (omega arith)
+taken-end used End e = refl
+
+good-at : (s : List ℕ) (used : Bool) (at tag : ℕ) (c : Call) (next : Cursor) → fieldFor s used at ≡ Good tag c next → fieldAt s at ≡ Good tag c next
+unfolding fieldFor
+good-at s used at tag c next e = taken-good used (fieldAt s at) tag c next e
+
+good-in-time : (s : List ℕ) (used : Bool) (at tag : ℕ) (c : Call) (next : Cursor) → fieldFor s used at ≡ Good tag c next → isLate used c ≡ false
+unfolding fieldFor
+good-in-time s used at tag c next e = go (isLate used c) refl (sym (ap (taken used) (good-at s used at tag c next e)) ∙ e)
+  where
+    go : (b : Bool) → isLate used c ≡ b → cond (isLate used c) Bad (Good tag c next) ≡ Good tag c next → isLate used c ≡ false
+    go true t p = let q : Bad ≡ Good tag c next = rw t at p in let z : _≡_ {A = ℕ} 0 1 = cc in absurd (omega arith)
+    go false t p = t
+
+pub in-time : InTime
+unfolding callsFrom inTime
+in-time s used at zero = refl
+in-time s used at (suc n) = go (fieldFor s used at) refl (λ u next. in-time s u next n)
+  where
+    go : (f : Field) → fieldFor s used at ≡ f → ((u : Bool) (next : ℕ) → inTime u (callsFrom s u next n) ≡ true)
+        → inTime used (byField f (λ call next. call ∷ callsFrom s (usedAfter used call) next n) [] []) ≡ true
+    go (Good tag c next) e ih = rw (good-in-time s used at tag c next e) (ih (usedAfter used c) (next .at))
+    go Bad e ih = refl
+    go End e ih = refl
+
+-- ---- what the machine remembers
+
+either : (a b c : Bool) → b || (a || c) ≡ (a || b) || c
+either true true c = refl
+either true false c = refl
+either false b c = refl
+
+pub remembered : Remembered
+unfolding afterCalls anyIo
+remembered m [] = refl
+remembered m (c ∷ cs) = remembered (performed m c .state) cs ∙ ap (λ (u : Bool). anyIo cs || u) (remembers m c) ∙ either (isIo c) (anyIo cs) (m .«io_used»)
+
+-- and a new machine remembers nothing
+or-false : (b : Bool) → b || false ≡ b
+or-false true = refl
+or-false false = refl
+
+new-unused : newMachine .«io_used» ≡ false
+unfolding newMachine
+new-unused = refl
+
+pub late-is-bad : LateIsBad
+unfolding fieldFor
+late-is-bad s a tag version next e =
+    let u = remembered newMachine (callsFrom s (newMachine .«io_used») 0 a) in
+    rw (e, u, new-unused, or-false (anyIo (callsFrom s false 0 a)))
 
 -- ---- places
 
@@ -63,23 +136,23 @@ good-within s at tag c next e = go (leb (length s) at) (ltb (length s) (at + 3))
 
 pub within : Within
 unfolding placeAfter
-within s at zero h = h
-within s at (suc n) h = go (fieldAt s at) refl (λ next k. within s next n k)
+within s used at zero h = h
+within s used at (suc n) h = go (fieldFor s used at) refl (λ u next k. within s u next n k)
   where
-    go : (f : Field) → fieldAt s at ≡ f → ((next : ℕ) → next ≤ length s → placeAfter s next n ≤ length s)
-        → byField f (λ call next. placeAfter s next n) at at ≤ length s
-    go (Good tag c next) e ih = ih (next .at) (good-within s at tag c next e)
+    go : (f : Field) → fieldFor s used at ≡ f → ((u : Bool) (next : ℕ) → next ≤ length s → placeAfter s u next n ≤ length s)
+        → byField f (λ call next. placeAfter s (usedAfter used call) next n) at at ≤ length s
+    go (Good tag c next) e ih = ih (usedAfter used c) (next .at) (good-within s at tag c next (good-at s used at tag c next e))
     go Bad e ih = h
     go End e ih = h
 
-ends-at : (s : List ℕ) (at : ℕ) → length s ≤ at → fieldAt s at ≡ End
-unfolding fieldAt
-ends-at s at h = rw (le-leb (length s) at h)
+ends-at : (s : List ℕ) (used : Bool) (at : ℕ) → length s ≤ at → fieldFor s used at ≡ End
+unfolding fieldFor fieldAt
+ends-at s used at h = rw (le-leb (length s) at h)
 
 pub beyond : Beyond
 unfolding callsFrom fieldCount placeAfter afterCalls
 beyond s m at zero h = (refl, (refl, refl))
-beyond s m at (suc n) h = rw (ends-at s at h) (refl, (refl, refl))
+beyond s m at (suc n) h = rw (ends-at s (m .«io_used») at h) (refl, (refl, refl))
 
 -- ---- the end
 
@@ -96,6 +169,10 @@ by-end s at e = go (leb (length s) at) (ltb (length s) (at + 3)) (ltb (length s)
     go false false false (Says call) t p = let z : _≡_ {A = ℕ} 0 1 = cc in absurd (omega arith)
     go false false false Malformed t p = let z : _≡_ {A = ℕ} 0 1 = cc in absurd (omega arith)
 
+end-at : (s : List ℕ) (used : Bool) (at : ℕ) → fieldFor s used at ≡ End → fieldAt s at ≡ End
+unfolding fieldFor
+end-at s used at e = taken-end used (fieldAt s at) e
+
 -- a run with one more field before it
 abbrev oneMore : Run → Run
 oneMore q = record { machine = q .machine; done = suc (q .done); next = q .next; stop = q .stop }
@@ -106,31 +183,33 @@ one-more s n q h = ⊎-elim (λ w. inl (w .0, ap suc (w .1))) (λ w. inr w) h
 pub ends : Ends
 unfolding callsFrom fieldCount placeAfter stopAfter afterCalls
 ends s m at zero = inl (refl, refl)
-ends s m at (suc n) = go (fieldAt s at) refl (λ m′ next. ends s m′ next n)
+ends s m at (suc n) = go (fieldFor s (m .«io_used») at) refl (λ m′ next. ends s m′ next n)
   where
-    go : (f : Field) → fieldAt s at ≡ f → ((m′ : Machine) (next : ℕ) → Ended (runOf s m′ next n) s n) → Ended (runOf s m at (suc n)) s (suc n)
-    go (Good tag c next) e ih = rw e (one-more s n (runOf s (performed m c .state) (next .at) n) (ih (performed m c .state) (next .at)))
+    go : (f : Field) → fieldFor s (m .«io_used») at ≡ f → ((m′ : Machine) (next : ℕ) → Ended (runOf s m′ next n) s n) → Ended (runOf s m at (suc n)) s (suc n)
+    go (Good tag c next) e ih =
+        rw e (rw (remembers m c) at (one-more s n (runOf s (performed m c .state) (next .at) n) (ih (performed m c .state) (next .at))))
     go Bad e ih = rw e (inr (inr (refl, e)))
-    go End e ih = rw e (inr (inl (refl, by-end s at e)))
+    go End e ih = rw e (inr (inl (refl, by-end s at (end-at s (m .«io_used») at e))))
 
 -- ---- in two
 
 -- a run from a place where there is no good field
 record Idle (s : List ℕ) (m : Machine) (at b : ℕ) (why : Stop) : Type 0 where
-  machine : afterCalls m (callsFrom s at b) ≡ m
-  done : fieldCount s at b ≡ 0
-  place : placeAfter s at b ≡ at
-  stop : 0 < b → stopAfter s at b ≡ why
+  machine : afterCalls m (callsFrom s (m .«io_used») at b) ≡ m
+  answers : replies m (callsFrom s (m .«io_used») at b) ≡ []
+  done : fieldCount s (m .«io_used») at b ≡ 0
+  place : placeAfter s (m .«io_used») at b ≡ at
+  stop : 0 < b → stopAfter s (m .«io_used») at b ≡ why
 
-idle-bad : (s : List ℕ) (m : Machine) (at b : ℕ) → fieldAt s at ≡ Bad → Idle s m at b stop.BadField
-unfolding callsFrom fieldCount placeAfter stopAfter afterCalls
-idle-bad s m at zero e = record { machine = refl; done = refl; place = refl; stop = λ h. absurd (omega arith) }
-idle-bad s m at (suc b) e = record { machine = rw e; done = rw e; place = rw e; stop = λ h. rw e }
+idle-bad : (s : List ℕ) (m : Machine) (at b : ℕ) → fieldFor s (m .«io_used») at ≡ Bad → Idle s m at b stop.BadField
+unfolding callsFrom fieldCount placeAfter stopAfter afterCalls replies
+idle-bad s m at zero e = record { machine = refl; answers = refl; done = refl; place = refl; stop = λ h. absurd (omega arith) }
+idle-bad s m at (suc b) e = record { machine = rw e; answers = rw e; done = rw e; place = rw e; stop = λ h. rw e }
 
-idle-end : (s : List ℕ) (m : Machine) (at b : ℕ) → fieldAt s at ≡ End → Idle s m at b stop.End
-unfolding callsFrom fieldCount placeAfter stopAfter afterCalls
-idle-end s m at zero e = record { machine = refl; done = refl; place = refl; stop = λ h. absurd (omega arith) }
-idle-end s m at (suc b) e = record { machine = rw e; done = rw e; place = rw e; stop = λ h. rw e }
+idle-end : (s : List ℕ) (m : Machine) (at b : ℕ) → fieldFor s (m .«io_used») at ≡ End → Idle s m at b stop.End
+unfolding callsFrom fieldCount placeAfter stopAfter afterCalls replies
+idle-end s m at zero e = record { machine = refl; answers = refl; done = refl; place = refl; stop = λ h. absurd (omega arith) }
+idle-end s m at (suc b) e = record { machine = rw e; answers = rw e; done = rw e; place = rw e; stop = λ h. rw e }
 
 abbrev cursor : ℕ → Cursor
 cursor k = record { at = k }
@@ -148,13 +227,27 @@ after-nothing s m at b why w h = record {
 pub in-two : InTwo
 unfolding callsFrom fieldCount placeAfter stopAfter afterCalls
 in-two s m at zero b = rw (zero-add b) (record { machine = refl; done = omega arith; next = refl; stop = λ h. refl })
-in-two s m at (suc a) b = go (fieldAt s at) refl (λ m′ next. in-two s m′ next a b)
+in-two s m at (suc a) b = go (fieldFor s (m .«io_used») at) refl (λ m′ next. in-two s m′ next a b)
   where
-    go : (f : Field) → fieldAt s at ≡ f
+    go : (f : Field) → fieldFor s (m .«io_used») at ≡ f
         → ((m′ : Machine) (next : ℕ) → Together (runOf s m′ next a) (runOf s (runOf s m′ next a .machine) (runOf s m′ next a .next .at) b) (runOf s m′ next (a + b)) b)
         → Together (runOf s m at (suc a)) (runOf s (runOf s m at (suc a) .machine) (runOf s m at (suc a) .next .at) b) (runOf s m at (suc a + b)) b
     go (Good tag c next) e ih =
-        let h = ih (performed m c .state) (next .at) in
+        let h = rw (remembers m c) at (ih (performed m c .state) (next .at)) in
         rw (suc-add a b, e) (record { machine = h .machine; done = omega (arith, h .done); next = h .next; stop = h .stop })
     go Bad e ih = rw (suc-add a b, e) (after-nothing s m at b stop.BadField stop.BadField (idle-bad s m at b e))
     go End e ih = rw (suc-add a b, e) (after-nothing s m at b stop.End stop.End (idle-end s m at b e))
+
+pub answered-in-two : AnsweredInTwo
+unfolding callsFrom fieldCount placeAfter stopAfter afterCalls replies
+answered-in-two s m at zero b = rw (zero-add b)
+answered-in-two s m at (suc a) b = go (fieldFor s (m .«io_used») at) refl (λ m′ next. answered-in-two s m′ next a b)
+  where
+    go : (f : Field) → fieldFor s (m .«io_used») at ≡ f
+        → ((m′ : Machine) (next : ℕ) → answersOf s m′ next (a + b) ≡ answersOf s m′ next a ++ answersOf s (runOf s m′ next a .machine) (runOf s m′ next a .next .at) b)
+        → answersOf s m at (suc a + b) ≡ answersOf s m at (suc a) ++ answersOf s (runOf s m at (suc a) .machine) (runOf s m at (suc a) .next .at) b
+    go (Good tag c next) e ih =
+        let h = rw (remembers m c) at (ih (performed m c .state) (next .at)) in
+        rw (suc-add a b, e) (ap (λ (l : List Reply). performed m c .reply ∷ l) h)
+    go Bad e ih = rw (suc-add a b, e) (sym (idle-bad s m at b e .answers))
+    go End e ih = rw (suc-add a b, e) (sym (idle-end s m at b e .answers))

@@ -1,5 +1,6 @@
 -- The numbered examples 1 to 12 of document 01, about the definitions: one list under one statement, computed. Each is a list of calls on a new machine, what
--- each of them says back (the number, and then the values), and what is looked at in the machine after them.
+-- each of them says back (the number, and then the values), and what is looked at in the machine after them. And two more of the same form, of T-01: last spring's lines in
+-- both versions.
 use Prim.Native.Nat.{ℕ}
 use mathlib.Core.Bool.{Bool, true, false}
 use mathlib.Core.List.{List, [], _∷_, map}
@@ -23,7 +24,7 @@ use Rattle.fields.specs.declared.IoCall.the-variants as io
 use Rattle.fields.specs.declared.PicCall.the-variants as pic
 use Rattle.fields.specs.declared.ApicCall.the-variants as apic
 use Rattle.fields.specs.declared.Call.{Call}
-use Rattle.fields.specs.declared.Call.the-variants.{Io, Pic, Apic}
+use Rattle.fields.specs.declared.Call.the-variants.{Io, IoVersion, Pic, Apic}
 use Rattle.scripts.specs.declared.Machine.{Machine}
 use Rattle.scripts.specs.Machine.{newMachine, setUp, performed}
 use Rattle.scripts.specs.Run.{afterCalls, replies}
@@ -63,6 +64,10 @@ assert gsi = Io (io.AssertGsi (record { 0 = gsi }))
 
 abbrev eoi : ℕ → Call
 eoi vector = Io (io.EndOfInterrupt (record { 0 = vector }))
+
+-- an EOI by the other road: the EOI register
+abbrev eoiWrite : ℕ → Call
+eoiWrite word = Io (io.HandleWrite 0xfec00040 4 word)
 
 -- the pair
 abbrev outb : ℕ → ℕ → Call
@@ -189,5 +194,39 @@ examples =
     ∷ []
 
 pub examples-hold : Holds examples
-unfolding set.with set.without set.outside set.lowest set.highest set.lastSet32 redirection.sendEntry redirection.raiseEntry redirection.lowerEntry redirection.endEntry redirection.writeLow redirection.writeHigh table.interruptForEntry table.setLevel table.firstAwaiting table.endOfEntry table.vectorFor window.readFixed window.readWord window.readSelected window.writeWord window.writeSelected window.readAt window.writeAt vioapic.created vioapic.assertGsi vioapic.setGsiLevel vioapic.endOfInterrupt vioapic.vectorForGsi vioapic.addressRange vioapic.handleRead vioapic.handleWrite ioapic.outcome ioapic.run chip.opened chip.commanded chip.fed chip.commandRead chip.pulsed chip.counts chip.pendingLine chip.pendingIrq chip.acknowledged chip.acknowledge chip.unacknowledged pair.newState pair.latched pair.masterClaim pair.slaveClaim pair.claimPending pair.claimIrq pair.restored pair.portRead pair.writtenAt pair.portWritten pair.newPic vectors.highestFrom icr.destFieldMatched icr.destNoShorthand icr.calculateDest icr.command icr.selfIpi priority.priority priority.updatePpr priority.acceptInterrupt priority.handleEoi registers.handleRead registers.stored registers.writeStored vlapic.setup vlapic.writeIcr vlapic.writeIcrLow vlapic.writeSelfIpi vlapic.handleWrite newMachine setUp performed afterCalls replies
+unfolding set.with set.without set.outside set.lowest set.highest set.lastSet32 redirection.sendEntry redirection.raiseEntry redirection.lowerEntry redirection.endEntry redirection.writeLow redirection.writeHigh table.interruptForEntry table.setLevel table.firstAwaiting table.endOfEntry table.endOf table.vectorFor window.readFixed window.readWord window.readSelected window.writeWord window.writeSelected window.readAt window.writeAt vioapic.assertGsi vioapic.setGsiLevel vioapic.endOfInterrupt vioapic.vectorForGsi vioapic.addressRange vioapic.handleRead vioapic.handleWrite ioapic.outcome ioapic.run chip.opened chip.commanded chip.fed chip.commandRead chip.pulsed chip.counts chip.pendingLine chip.pendingIrq chip.acknowledged chip.acknowledge chip.unacknowledged pair.newState pair.latched pair.masterClaim pair.slaveClaim pair.claimPending pair.claimIrq pair.restored pair.portRead pair.writtenAt pair.portWritten pair.newPic vectors.highestFrom icr.destFieldMatched icr.destNoShorthand icr.calculateDest icr.command icr.selfIpi priority.priority priority.updatePpr priority.acceptInterrupt priority.handleEoi registers.handleRead registers.stored registers.writeStored vlapic.setup vlapic.writeIcr vlapic.writeIcrLow vlapic.writeSelfIpi vlapic.handleWrite newMachine setUp performed afterCalls replies
 examples-hold = ((refl, refl), ((refl, refl), ((refl, refl), ((refl, refl), ((refl, refl), ((refl, refl), ((refl, refl), ((refl, refl), ((refl, refl), ((refl, refl), ((refl, refl), ((refl, refl), tt))))))))))))
+
+-- ---- T-01: lines 3 and 5 are held with one vector. In version 0x11 an EOI reaches line 3 alone, and a write at offset 0x40 is none; in version 0x20 both reach both lines
+-- (40 is 8 + 32), each is sent again while it is up, and a line that was dropped is cleared and not sent
+
+abbrev held : ℕ → List Call
+held version =
+    IoVersion version ∷ select 1 ∷ read ∷ select 0x16 ∷ write 0x8041 ∷ select 0x1a ∷ write 0x8041 ∷ line 3 true ∷ line 5 true
+    ∷ eoi 0x41 ∷ eoiWrite 0x141 ∷ line 3 false ∷ eoiWrite 0x41 ∷ eoi 0x41 ∷ line 5 false ∷ eoi 0x41 ∷ eoi 0x41 ∷ []
+
+abbrev pub springs : List Example
+springs =
+    record {
+      number = 1;
+      calls = held 0x11;
+      says =
+          (0 ∷ []) ∷ (0 ∷ []) ∷ (0 ∷ 0x00170011 ∷ []) ∷ (0 ∷ []) ∷ (0 ∷ []) ∷ (0 ∷ []) ∷ (0 ∷ []) ∷ (0 ∷ 0x41 ∷ 1 ∷ []) ∷ (0 ∷ 0x41 ∷ 1 ∷ [])
+          ∷ (0 ∷ 3 ∷ 0x41 ∷ 1 ∷ []) ∷ (0 ∷ []) ∷ (0 ∷ []) ∷ (0 ∷ []) ∷ (0 ∷ 3 ∷ []) ∷ (0 ∷ []) ∷ (0 ∷ 5 ∷ []) ∷ (0 ∷ []) ∷ [];
+      look = nothing;
+      seen = [];
+    }
+    ∷ record {
+      number = 2;
+      calls = held 0x20;
+      says =
+          (0 ∷ []) ∷ (0 ∷ []) ∷ (0 ∷ 0x00170020 ∷ []) ∷ (0 ∷ []) ∷ (0 ∷ []) ∷ (0 ∷ []) ∷ (0 ∷ []) ∷ (0 ∷ 0x41 ∷ 1 ∷ []) ∷ (0 ∷ 0x41 ∷ 1 ∷ [])
+          ∷ (0 ∷ 40 ∷ 40 ∷ []) ∷ (0 ∷ 40 ∷ 40 ∷ []) ∷ (0 ∷ []) ∷ (0 ∷ 40 ∷ 32 ∷ []) ∷ (0 ∷ 32 ∷ 32 ∷ []) ∷ (0 ∷ []) ∷ (0 ∷ 32 ∷ 0 ∷ []) ∷ (0 ∷ []) ∷ [];
+      look = nothing;
+      seen = [];
+    }
+    ∷ []
+
+pub springs-hold : Holds springs
+unfolding set.with set.without set.outside set.lowest set.highest set.lastSet32 redirection.sendEntry redirection.raiseEntry redirection.lowerEntry redirection.endEntry redirection.endEntry20 redirection.writeLow redirection.writeHigh table.interruptForEntry table.setLevel table.firstAwaiting table.endOfEntry table.endOfEvery table.endOf table.vectorFor window.readFixed window.readWord window.readSelected window.writeWord window.writeSelected window.readAt window.writeEoi window.writeAt vioapic.assertGsi vioapic.setGsiLevel vioapic.endOfInterrupt vioapic.vectorForGsi vioapic.addressRange vioapic.handleRead vioapic.handleWrite ioapic.outcome ioapic.run newMachine setUp performed afterCalls replies
+springs-hold = ((refl, refl), ((refl, refl), tt))

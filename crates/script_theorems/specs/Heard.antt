@@ -1,7 +1,7 @@
--- Demand 3 for scripts: the I/O APIC's fields of a script are a list of its public calls, the machine's I/O APIC after a run is the one after those calls, and the
--- fields answer what they answer. So a device that holds its line is heard in every script.
+-- Demand 3 for scripts, in both versions: the I/O APIC's fields of a script are a list of its public calls, on a new chip of the version that field 06 chooses, if there is
+-- one; the machine's I/O APIC after a run is the one after those calls, and the fields answer what they answer. So a device that holds its line is heard in every script.
 use Prim.Native.Nat.{ℕ, _+_, _-_}
-use mathlib.Core.Bool.{true}
+use mathlib.Core.Bool.{Bool, true, false}
 use mathlib.Core.List.{List, [], _∷_}
 use mathlib.Core.Path.{_≡_}
 use Rattle.types.specs.declared.Gsi.{Gsi}
@@ -9,27 +9,41 @@ use Rattle.types.specs.declared.Vector.{Vector}
 use Rattle.types.specs.declared.Reply.{Reply}
 use Rattle.types.specs.declared.Reply.the-variants.{Two}
 use Rattle.vioapic.specs.declared.EmulatedIoApic.{EmulatedIoApic}
+use Rattle.vioapic.specs.Table.{isNew}
 use Rattle.vioapic.specs.Calls as ioapic
+use Rattle.heard.specs.Rules.{ChipRules}
 use Rattle.heard.specs.Sends.{sent, sends, eois, lowerInFlight}
 use Rattle.heard.specs.Premises.{throughout, demanded}
+use Rattle.heard.specs.Heard20.{eoisAt, heldUp}
 use Rattle.fields.specs.declared.IoCall.the-variants.{SetGsiLevel}
 use Rattle.fields.specs.declared.Call.{Call}
-use Rattle.fields.specs.declared.Call.the-variants.{Io, Pic, Apic}
+use Rattle.fields.specs.declared.Call.the-variants.{Io, IoVersion, Pic, Apic}
 use Rattle.scripts.specs.declared.Machine.{Machine}
-use Rattle.scripts.specs.Machine.{newMachine, ioCall, performed}
+use Rattle.scripts.specs.Machine.{newMachine, ioCall, chosen, performed}
 use Rattle.scripts.specs.Run.{callsFrom, afterCalls, runOf}
+use Rattle.script_theorems.specs.Runs.{inTime}
 
 -- the I/O APIC's calls among a script's
 unfoldable pub ioCalls : List Call → List ioapic.Call
 ioCalls [] = []
 ioCalls (Io c ∷ cs) = ioCall c ∷ ioCalls cs
+ioCalls (IoVersion version ∷ cs) = ioCalls cs
 ioCalls (Pic c ∷ cs) = ioCalls cs
 ioCalls (Apic c ∷ cs) = ioCalls cs
 
--- what the I/O APIC's fields among them answer
+-- the chip that they are made on: a new one of the version chosen, where that is in time; else the machine's
+unfoldable pub startOf : EmulatedIoApic → List Call → EmulatedIoApic
+startOf chip [] = chip
+startOf chip (Io c ∷ cs) = chip
+startOf chip (IoVersion version ∷ cs) = chosen version .state
+startOf chip (Pic c ∷ cs) = startOf chip cs
+startOf chip (Apic c ∷ cs) = startOf chip cs
+
+-- what the I/O APIC's fields among them answer, 06 apart
 unfoldable pub ioReplies : Machine → List Call → List Reply
 ioReplies m [] = []
 ioReplies m (Io c ∷ cs) = performed m (Io c) .reply ∷ ioReplies (performed m (Io c) .state) cs
+ioReplies m (IoVersion version ∷ cs) = ioReplies (performed m (IoVersion version) .state) cs
 ioReplies m (Pic c ∷ cs) = ioReplies (performed m (Pic c) .state) cs
 ioReplies m (Apic c ∷ cs) = ioReplies (performed m (Apic c) .state) cs
 
@@ -42,27 +56,61 @@ answers chip (c ∷ cs) = ioapic.outcome chip c .reply ∷ answers (ioapic.next 
 unfoldable pub scriptSends : ℕ → Machine → List Call → ℕ
 scriptSends g m [] = 0
 scriptSends g m (Io c ∷ cs) = sent g (ioCall c) (performed m (Io c) .reply) + scriptSends g (performed m (Io c) .state) cs
+scriptSends g m (IoVersion version ∷ cs) = scriptSends g (performed m (IoVersion version) .state) cs
 scriptSends g m (Pic c ∷ cs) = scriptSends g (performed m (Pic c) .state) cs
 scriptSends g m (Apic c ∷ cs) = scriptSends g (performed m (Apic c) .state) cs
 
--- the machine's I/O APIC after calls, and what it answered
+-- the machine's I/O APIC after calls of which none is late, as those of every run (`InTime`), and what it answered
 abbrev pub IoApicRuns : Type 0
-IoApicRuns = (m : Machine) (cs : List Call) → afterCalls m cs .ioapic ≡ ioapic.run (m .ioapic) (ioCalls cs)
+IoApicRuns =
+    (used : Bool) (m : Machine) (cs : List Call)
+    → inTime used cs ≡ true
+    → afterCalls m cs .ioapic ≡ ioapic.run (startOf (m .ioapic) cs) (ioCalls cs)
 
 abbrev pub IoApicAnswers : Type 0
-IoApicAnswers = (m : Machine) (cs : List Call) → ioReplies m cs ≡ answers (m .ioapic) (ioCalls cs)
+IoApicAnswers =
+    (used : Bool) (m : Machine) (cs : List Call)
+    → inTime used cs ≡ true
+    → ioReplies m cs ≡ answers (startOf (m .ioapic) cs) (ioCalls cs)
 
 abbrev pub IoApicSends : Type 0
-IoApicSends = (g : ℕ) (m : Machine) (cs : List Call) → scriptSends g m cs ≡ sends g (m .ioapic) (ioCalls cs)
+IoApicSends =
+    (used : Bool) (g : ℕ) (m : Machine) (cs : List Call)
+    → inTime used cs ≡ true
+    → scriptSends g m cs ≡ sends g (startOf (m .ioapic) cs) (ioCalls cs)
 
--- demand 3: after the first a fields of any script on a new machine the next b fields start by raising line g, which sends its level entry with vector v; then, if
+-- a machine whose I/O APIC keeps the chip's rules and stands at the usual address
+pub record MachineRules (m : Machine) : Type 0 where
+  pub rules : ChipRules (m .ioapic .state)
+  pub place : m .ioapic .base ≡ 0xfec00000
+
+-- a new machine does, and every call keeps that, a choice of version too
+abbrev pub MachinesKeepRules : Type 0
+MachinesKeepRules = MachineRules newMachine × ((m : Machine) (cs : List Call) → MachineRules m → MachineRules (afterCalls m cs))
+
+-- where a run from a new machine has come after a fields, and the calls of the next b
+abbrev pub callsAfter : List ℕ → ℕ → ℕ → List Call
+callsAfter s a b = callsFrom s (runOf s newMachine 0 a .machine .«io_used») (runOf s newMachine 0 a .next .at) b
+
+-- demand 3 in version 0x11: after the first a fields of any script on a new machine the next b fields start by raising line g, which sends its level entry with vector v; then, if
 -- demand 3's premises hold while the fields `after` it are performed, the script sends entry g once, and once more for each EOI of v beyond the k that go to the lower entries in flight with v
 abbrev pub HeardInScripts : Type 0
 HeardInScripts =
     (s : List ℕ) (a b : ℕ) (g : Gsi) (v : Vector) (m : Machine) (after : List Call)
     → m ≡ runOf s newMachine 0 a .machine
-    → callsFrom s (runOf s newMachine 0 a .next .at) b ≡ Io (SetGsiLevel g true) ∷ after
+    → isNew (m .ioapic .state) ≡ false
+    → callsAfter s a b ≡ Io (SetGsiLevel g true) ∷ after
     → performed m (Io (SetGsiLevel g true)) .reply ≡ Two (v .0) 1
     → throughout (demanded v (g .0)) (performed m (Io (SetGsiLevel g true)) .state .ioapic) (ioCalls after) ≡ true
-    → scriptSends (g .0) m (callsFrom s (runOf s newMachine 0 a .next .at) b)
-    ≡ 1 + (eois v (ioCalls after) - lowerInFlight v (g .0) (m .ioapic .state))
+    → scriptSends (g .0) m (callsAfter s a b) ≡ 1 + (eois v (ioCalls after) - lowerInFlight v (g .0) (m .ioapic .state))
+
+-- and in version 0x20: the line stays up and the entry's low word the same, and nothing is asked of other entries; then each EOI of v, by either road, sends entry g once more
+abbrev pub HeardInScripts20 : Type 0
+HeardInScripts20 =
+    (s : List ℕ) (a b : ℕ) (g : Gsi) (v : Vector) (m : Machine) (after : List Call)
+    → m ≡ runOf s newMachine 0 a .machine
+    → isNew (m .ioapic .state) ≡ true
+    → callsAfter s a b ≡ Io (SetGsiLevel g true) ∷ after
+    → performed m (Io (SetGsiLevel g true)) .reply ≡ Two (v .0) 1
+    → throughout (heldUp (g .0)) (performed m (Io (SetGsiLevel g true)) .state .ioapic) (ioCalls after) ≡ true
+    → scriptSends (g .0) m (callsAfter s a b) ≡ 1 + eoisAt 0xfec00000 v (ioCalls after)

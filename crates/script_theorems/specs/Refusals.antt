@@ -1,5 +1,5 @@
--- Demand 1 for scripts: a refused call hands back the machine that it was given. An interrupt command that is refused for its kind or destination has stored its words,
--- and nothing else.
+-- Demand 1 for scripts: a refused call hands back the machine that it was given, which remembers a call of the I/O APIC. An interrupt command that is refused for its
+-- kind or destination has stored its words, and nothing else.
 use Prim.Native.Nat.{ℕ}
 use mathlib.Core.Bool.{Bool, false}
 use mathlib.Core.Path.{_≡_}
@@ -7,14 +7,16 @@ use lib.Dec.{eqb}
 use Rattle.types.specs.Reply.{Outcome, replyNumber}
 use Rattle.vlapic.specs.Regs.{withCommand}
 use Rattle.fields.specs.declared.Call.{Call}
-use Rattle.fields.specs.declared.Call.the-variants.{Io, Pic, Apic}
+use Rattle.fields.specs.declared.Call.the-variants.{Io, IoVersion, Pic, Apic}
 use Rattle.fields.specs.declared.ApicCall.the-variants as apic
 use Rattle.scripts.specs.declared.Machine.{Machine}
+use Rattle.scripts.specs.Late.{usedAfter}
 use Rattle.scripts.specs.Machine.{performed}
 
 -- the call writes the interrupt command register's low word, which is the command
 abbrev pub isCommand : Call → Bool
 isCommand (Io c) = false
+isCommand (IoVersion version) = false
 isCommand (Pic c) = false
 isCommand (Apic (apic.AcceptInterrupt vector level)) = false
 isCommand (Apic (apic.HandleWrite offset width value)) = eqb offset 0x300
@@ -30,11 +32,23 @@ withWordsOf m n = record {
   apic = withCommand (n .apic) (m .apic .«icr_lo») (m .apic .«icr_hi»);
   «vcpu_num» = n .«vcpu_num»;
   «active_vcpus» = n .«active_vcpus»;
+  «io_used» = n .«io_used»;
+}
+
+-- the machine m, which remembers the call; a call of another chip than the I/O APIC leaves nothing to remember
+abbrev pub having : Machine → Call → Machine
+having m c = record {
+  ioapic = m .ioapic;
+  pic = m .pic;
+  apic = m .apic;
+  «vcpu_num» = m .«vcpu_num»;
+  «active_vcpus» = m .«active_vcpus»;
+  «io_used» = usedAfter (m .«io_used») c;
 }
 
 pub record Kept (m : Machine) (c : Call) (after : Machine) : Type 0 where
-  pub but-words : withWordsOf m after ≡ m
-  pub whole : isCommand c ≡ false → after ≡ m
+  pub but-words : withWordsOf m after ≡ having m c
+  pub whole : isCommand c ≡ false → after ≡ having m c
 
 abbrev pub RefusedUnchanged : Type 0
 RefusedUnchanged = (m : Machine) (c : Call) → (replyNumber (performed m c .reply) ≡ 0 → ⊥) → Kept m c (performed m c .state)

@@ -1,21 +1,28 @@
 -- What holds of every run of every script, of any length (the limit of 65,536 bytes is the program's alone). A run is `runOf` of the crate `scripts`.
 use Prim.Native.Nat.{ℕ, _+_, _≤_, _<_}
-use mathlib.Core.List.{List}
+use mathlib.Core.Bool.{Bool, true, false, cond, not, _&&_, _||_}
+use mathlib.Core.List.{List, [], _∷_, _++_}
 use mathlib.Core.Logic.{_⊎_}
 use mathlib.Core.Path.{_≡_}
 use lib.ListN.{length}
-use Rattle.fields.specs.declared.Field.the-variants.{Bad}
+use Rattle.types.specs.declared.Reply.{Reply}
+use Rattle.fields.specs.declared.Call.{Call}
+use Rattle.fields.specs.declared.Call.the-variants.{IoVersion}
+use Rattle.fields.specs.declared.Cursor.{Cursor}
+use Rattle.fields.specs.declared.Field.the-variants.{Good, Bad}
 use Rattle.fields.specs.Fields.{fieldAt}
+use Rattle.scripts.specs.Late.{isIo, isLate, usedAfter, fieldFor}
+use Rattle.scripts.specs.Machine.{newMachine}
 use Rattle.scripts.specs.declared.Machine.{Machine}
 use Rattle.scripts.specs.declared.Run.{Run}
 use Rattle.scripts.specs.declared.Stop.the-variants as stop
-use Rattle.scripts.specs.Run.{fieldCount, placeAfter, callsFrom, runOf}
+use Rattle.scripts.specs.Run.{fieldCount, placeAfter, callsFrom, afterCalls, replies, runOf}
 
 -- the number that a run answers is the number of fields read off the bytes, and that many calls were made
 abbrev pub Counted : Type 0
 Counted =
     (s : List ℕ) (m : Machine) (at n : ℕ)
-    → (runOf s m at n .done ≡ fieldCount s at n) × (length (callsFrom s at n) ≡ fieldCount s at n)
+    → (runOf s m at n .done ≡ fieldCount s (m .«io_used») at n) × (length (callsFrom s (m .«io_used») at n) ≡ fieldCount s (m .«io_used») at n)
 
 -- r is what runs p and then q, from where p stopped, come to
 pub record Together (p q r : Run) (b : ℕ) : Type 0 where
@@ -30,9 +37,48 @@ InTwo =
     (s : List ℕ) (m : Machine) (at a b : ℕ)
     → Together (runOf s m at a) (runOf s (runOf s m at a .machine) (runOf s m at a .next .at) b) (runOf s m at (a + b)) b
 
+-- and it answers what they answer, one after the other
+abbrev pub answersOf : List ℕ → Machine → ℕ → ℕ → List Reply
+answersOf s m at n = replies m (callsFrom s (m .«io_used») at n)
+
+abbrev pub AnsweredInTwo : Type 0
+AnsweredInTwo =
+    (s : List ℕ) (m : Machine) (at a b : ℕ)
+    → answersOf s m at (a + b) ≡ answersOf s m at a ++ answersOf s (runOf s m at a .machine) (runOf s m at a .next .at) b
+
+-- ---- fields that come too late
+
+-- one of the calls is of fields 01 to 06
+unfoldable pub anyIo : List Call → Bool
+anyIo [] = false
+anyIo (c ∷ cs) = isIo c || anyIo cs
+
+-- the machine remembers it
+abbrev pub Remembered : Type 0
+Remembered = (m : Machine) (cs : List Call) → afterCalls m cs .«io_used» ≡ anyIo cs || m .«io_used»
+
+-- so after the first a fields of a script a choice of version, which is good by itself, is bad exactly if one of fields 01 to 06 was among them, refused or not
+abbrev pub LateIsBad : Type 0
+LateIsBad =
+    (s : List ℕ) (a tag version : ℕ) (next : Cursor)
+    → fieldAt s (runOf s newMachine 0 a .next .at) ≡ Good tag (IoVersion version) next
+    → fieldFor s (runOf s newMachine 0 a .machine .«io_used») (runOf s newMachine 0 a .next .at)
+    ≡ cond (anyIo (callsFrom s false 0 a)) Bad (Good tag (IoVersion version) next)
+
+-- none of the calls is late
+unfoldable pub inTime : Bool → List Call → Bool
+inTime used [] = true
+inTime used (c ∷ cs) = not (isLate used c) && inTime (usedAfter used c) cs
+
+-- a run performs none that is
+abbrev pub InTime : Type 0
+InTime = (s : List ℕ) (used : Bool) (at n : ℕ) → inTime used (callsFrom s used at n) ≡ true
+
+-- ---- the end
+
 -- a run never passes the end
 abbrev pub Within : Type 0
-Within = (s : List ℕ) (at n : ℕ) → at ≤ length s → placeAfter s at n ≤ length s
+Within = (s : List ℕ) (used : Bool) (at n : ℕ) → at ≤ length s → placeAfter s used at n ≤ length s
 
 -- from the end on, or beyond it, nothing is performed
 abbrev pub Beyond : Type 0
@@ -41,11 +87,11 @@ Beyond =
     → length s ≤ at
     → (runOf s m at n .machine ≡ m) × ((runOf s m at n .done ≡ 0) × (runOf s m at n .next .at ≡ at))
 
--- the number performed is the allowance, or the run ended at the script's end or at a bad field. An allowance used up at the very end is said as the allowance
+-- the number performed is the allowance, or the run ended at the script's end or at a field that is bad for the machine then. An allowance used up at the very end is said as the allowance
 abbrev pub Ended : Run → List ℕ → ℕ → Type 0
 Ended r s n =
     ((r .stop ≡ stop.Allowance) × (r .done ≡ n))
-    ⊎ (((r .stop ≡ stop.End) × (length s ≤ r .next .at)) ⊎ ((r .stop ≡ stop.BadField) × (fieldAt s (r .next .at) ≡ Bad)))
+    ⊎ (((r .stop ≡ stop.End) × (length s ≤ r .next .at)) ⊎ ((r .stop ≡ stop.BadField) × (fieldFor s (r .machine .«io_used») (r .next .at) ≡ Bad)))
 
 abbrev pub Ends : Type 0
 Ends = (s : List ℕ) (m : Machine) (at n : ℕ) → Ended (runOf s m at n) s n

@@ -1,2 +1,3 @@
+pub mod Late
 pub mod Machine
 pub mod Run

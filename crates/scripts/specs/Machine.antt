@@ -1,12 +1,13 @@
 -- The machine of the three controllers, and one call on it (document 01, "Scripts"): each call is one of a chip's public calls, and changes that chip alone.
 use Prim.Native.Nat.{ℕ}
-use mathlib.Core.Bool.{Bool, false, cond}
+use mathlib.Core.Bool.{Bool, true, false, cond}
 use lib.Dec.{eqb}
 use Rattle.types.specs.Reply.{Outcome, replyNumber}
 use Rattle.types.specs.declared.VcpuId.{VcpuId}
 use Rattle.types.specs.declared.Reply.{Reply}
+use Rattle.types.specs.declared.Reply.the-variants.{Nothing}
 use Rattle.vioapic.specs.declared.EmulatedIoApic.{EmulatedIoApic}
-use Rattle.vioapic.specs.IoApic.{newDefault}
+use Rattle.vioapic.specs.IoApic.{chipOf, newDefault}
 use Rattle.vioapic.specs.Calls as ioapic
 use Rattle.vpic.specs.declared.pair.EmulatedPic.{EmulatedPic}
 use Rattle.vpic.specs.Pair as vpic
@@ -22,38 +23,38 @@ use Rattle.fields.specs.declared.PicCall.the-variants as pic
 use Rattle.fields.specs.declared.ApicCall.{ApicCall}
 use Rattle.fields.specs.declared.ApicCall.the-variants as apic
 use Rattle.fields.specs.declared.Call.{Call}
-use Rattle.fields.specs.declared.Call.the-variants.{Io, Pic, Apic}
+use Rattle.fields.specs.declared.Call.the-variants.{Io, IoVersion, Pic, Apic}
 use Rattle.scripts.specs.declared.Machine.{Machine}
 use Rattle.scripts.specs.declared.Performed.{Performed}
 use Rattle.scripts.specs.declared.IoStep.{IoStep}
 use Rattle.scripts.specs.declared.PicStep.{PicStep}
 
--- the I/O APIC at 0xfec00000, size 0x1000; the local APIC in xAPIC mode with id 0; one vCPU, and it is active
+-- the I/O APIC at 0xfec00000, size 0x1000, unused; the local APIC in xAPIC mode with id 0; one vCPU, and it is active
 unfoldable pub newMachine : Machine
-newMachine = record { ioapic = newDefault; pic = vpic.newPic; apic = start false 0; «vcpu_num» = 1; «active_vcpus» = 1 }
+newMachine = record { ioapic = newDefault; pic = vpic.newPic; apic = start false 0; «vcpu_num» = 1; «active_vcpus» = 1; «io_used» = false }
 
--- ---- the machine after a call of one of its chips
+-- ---- the machine after a call of one of its chips; of the I/O APIC, it remembers that there was one, refused or not
 
 abbrev pub onIoApic : Machine → Outcome EmulatedIoApic → Outcome Machine
 onIoApic m o = record {
-  state = record { ioapic = o .state; pic = m .pic; apic = m .apic; «vcpu_num» = m .«vcpu_num»; «active_vcpus» = m .«active_vcpus» };
+  state = record { ioapic = o .state; pic = m .pic; apic = m .apic; «vcpu_num» = m .«vcpu_num»; «active_vcpus» = m .«active_vcpus»; «io_used» = true };
   reply = o .reply;
 }
 
 abbrev pub onPic : Machine → Outcome EmulatedPic → Outcome Machine
 onPic m o = record {
-  state = record { ioapic = m .ioapic; pic = o .state; apic = m .apic; «vcpu_num» = m .«vcpu_num»; «active_vcpus» = m .«active_vcpus» };
+  state = record { ioapic = m .ioapic; pic = o .state; apic = m .apic; «vcpu_num» = m .«vcpu_num»; «active_vcpus» = m .«active_vcpus»; «io_used» = m .«io_used» };
   reply = o .reply;
 }
 
 abbrev pub onApic : Machine → Outcome VirtualApicRegs → Outcome Machine
 onApic m o = record {
-  state = record { ioapic = m .ioapic; pic = m .pic; apic = o .state; «vcpu_num» = m .«vcpu_num»; «active_vcpus» = m .«active_vcpus» };
+  state = record { ioapic = m .ioapic; pic = m .pic; apic = o .state; «vcpu_num» = m .«vcpu_num»; «active_vcpus» = m .«active_vcpus»; «io_used» = m .«io_used» };
   reply = o .reply;
 }
 
 abbrev pub withVcpus : Machine → ℕ → ℕ → Machine
-withVcpus m num active = record { ioapic = m .ioapic; pic = m .pic; apic = m .apic; «vcpu_num» = num; «active_vcpus» = active }
+withVcpus m num active = record { ioapic = m .ioapic; pic = m .pic; apic = m .apic; «vcpu_num» = num; «active_vcpus» = active; «io_used» = m .«io_used» }
 
 -- ---- the calls
 
@@ -64,6 +65,10 @@ ioCall (io.HandleWrite addr width value) = ioapic.HandleWrite addr width value
 ioCall (io.SetGsiLevel gsi up) = ioapic.SetGsiLevel gsi up
 ioCall (io.AssertGsi gsi) = ioapic.AssertGsi gsi
 ioCall (io.EndOfInterrupt vector) = ioapic.EndOfInterrupt vector
+
+-- the choice of the I/O APIC's version: a new one of it, at the usual address
+abbrev pub chosen : ℕ → Outcome EmulatedIoApic
+chosen version = record { state = chipOf version 0xfec00000 0x1000; reply = Nothing }
 
 abbrev pub picOutcome : EmulatedPic → PicCall → Outcome EmulatedPic
 picOutcome p (pic.HandleRead port width) = vpic.handleRead p port width
@@ -94,6 +99,7 @@ apicOutcome m (apic.Setup x2apic id num active) = setUp m x2apic id num active
 -- one call: the whole machine after it, and its reply
 unfoldable pub performed : Machine → Call → Outcome Machine
 performed m (Io c) = onIoApic m (ioapic.outcome (m .ioapic) (ioCall c))
+performed m (IoVersion version) = onIoApic m (chosen version)
 performed m (Pic c) = onPic m (picOutcome (m .pic) c)
 performed m (Apic c) = apicOutcome m c
 

@@ -2,7 +2,8 @@
 
 ghost use mathlib.Core.Path.{_≡_};
 ghost use Rattle.vioapic.specs.Calls.{outcome};
-ghost use Rattle.scripts.specs.Machine.{newMachine, ioCall, picOutcome, onIoApic, onPic, onApic, outcomeOf, setUp, apicOutcome, ioStep, picStep, performedOutcome, performed};
+ghost use Rattle.scripts.specs.Machine.{newMachine, ioCall, chosen, picOutcome, onIoApic, onPic, onApic, outcomeOf, setUp, apicOutcome, ioStep, picStep, performedOutcome, performed};
+ghost use Rattle.scripts.specs.Late.{isLate, taken, fieldFor};
 ghost use Rattle.scripts.specs.Run.{runOf};
 use fields::ApicCall;
 use fields::Call;
@@ -13,16 +14,18 @@ use fields::PicCall;
 use types::Reply;
 use types::VcpuId;
 use vioapic::EmulatedIoApic;
+use vioapic::IoApicState;
 use vlapic::VirtualApicRegs;
 use vpic::pair::EmulatedPic;
 
-// The three chips, how many vCPUs the VM has, and which of them are active.
+// The three chips, how many vCPUs the VM has, which of them are active, and whether a field of the I/O APIC was performed.
 pub struct Machine {
     pub ioapic: EmulatedIoApic,
     pub pic: EmulatedPic,
     pub apic: VirtualApicRegs,
     pub vcpu_num: usize,
     pub active_vcpus: u64,
+    pub io_used: bool,
 }
 
 // A machine, or one of its chips, after a call, and what the call says back.
@@ -110,6 +113,18 @@ fn call_ioapic(ioapic: EmulatedIoApic, call: IoCall) -> IoStep
     }
 }
 
+// A new I/O APIC of that version, at its usual address.
+fn choose_version(version: u8) -> IoStep
+    ensures { λ r. ⌜ ioStep r ≡ chosen version ⌝ }
+{
+    let mut ioapic = EmulatedIoApic::new_default();
+    ioapic.state = IoApicState::new(version);
+    IoStep {
+        ioapic,
+        reply: Reply::Nothing,
+    }
+}
+
 fn call_pic(pic: EmulatedPic, call: PicCall) -> PicStep
     ensures { λ r. ⌜ picStep r ≡ picOutcome pic call ⌝ }
 {
@@ -152,6 +167,43 @@ fn call_pic(pic: EmulatedPic, call: PicCall) -> PicStep
     }
 }
 
+// ---- a field that comes too late
+
+// The I/O APIC's version is chosen before any other field of it is performed.
+fn is_late(call: Call, io_used: bool) -> bool
+    ensures { λ r. ⌜ r ≡ isLate «io_used» call ⌝ }
+{
+    match call {
+        Call::Io(_) => false,
+        Call::IoVersion(_) => io_used,
+        Call::Pic(_) => false,
+        Call::Apic(_) => false,
+    }
+}
+
+// A field as a machine takes it whose I/O APIC was used before, or wasn't.
+fn taken(field: Field, io_used: bool) -> Field
+    ensures { λ r. ⌜ r ≡ taken «io_used» field ⌝ }
+{
+    match field {
+        Field::Good { tag, call, next } => {
+            if is_late(call, io_used) {
+                return Field::Bad;
+            }
+            Field::Good { tag, call, next }
+        }
+        Field::Bad => Field::Bad,
+        Field::End => Field::End,
+    }
+}
+
+// What stands at a place of the script for such a machine.
+pub fn next_field(script: &[u8], io_used: bool, at: Cursor) -> Field
+    ensures { λ r. ⌜ r ≡ fieldFor (now (script .entry)) «io_used» (at .at) ⌝ }
+{
+    taken(at.read(script), io_used)
+}
+
 impl Machine {
     // The I/O APIC at its usual address; the local APIC of vCPU 0, the only one, in xAPIC mode.
     pub fn new() -> Machine
@@ -163,6 +215,7 @@ impl Machine {
             apic: VirtualApicRegs::new(),
             vcpu_num: 1,
             active_vcpus: 1,
+            io_used: false,
         }
     }
 
@@ -172,6 +225,7 @@ impl Machine {
         let ioapic = step.ioapic;
         let reply = step.reply;
         self.ioapic = ioapic;
+        self.io_used = true;
         Performed {
             machine: self,
             reply,
@@ -267,7 +321,7 @@ impl Machine {
         }
     }
 
-    // Performs one call.
+    // Performs one call. Whether a choice of version comes too late is said where its field is read.
     pub fn perform(self, call: Call) -> Performed
         ensures { λ r. ⌜ performedOutcome r ≡ performed self call ⌝ }
     {
@@ -275,6 +329,7 @@ impl Machine {
         let pic = self.pic;
         match call {
             Call::Io(c) => self.with_ioapic(call_ioapic(ioapic, c)),
+            Call::IoVersion(version) => self.with_ioapic(choose_version(version)),
             Call::Pic(c) => self.with_pic(call_pic(pic, c)),
             Call::Apic(c) => self.call_apic(c),
         }
@@ -288,7 +343,7 @@ impl Machine {
         let mut next = from;
         let mut done: usize = 0;
         while done < allowance {
-            let field = next.read(script);
+            let field = next_field(script, machine.io_used, next);
             match field {
                 Field::Good {
                     tag: _,

@@ -1,13 +1,9 @@
 use Rattle.utils.specs.Cases.{cases}
-use borrow.Author.Needs.{needs}
 use Rattle.fields.proofs.checked.Statement.{statement}
 use Rattle.fields.proofs.checked.Tie as tie
 
 returns : tie.Need-returns
 returns c = search cases
-
-starts-with-width-requires : tie.Need-starts-with-width-requires
-starts-with-width-requires c κs = search needs
 
 returns-2 : tie.Need-returns-2
 returns-2 c = search cases
@@ -15,9 +11,5 @@ returns-2 c = search cases
 returns-3 : tie.Need-returns-3
 returns-3 c = search cases
 
-returns-4 : tie.Need-returns-4
-returns-4 c = search cases
-
 pub checked-spec : {M : Type 1} → statement M
-checked-spec =
-    tie.close (tie.spec returns starts-with-width-requires returns-2 returns-3 returns-4)
+checked-spec = tie.close (tie.spec returns returns-2 returns-3)

@@ -18,8 +18,8 @@ loop-holds c = search needs
 add-turns : tie.Need-add-turns Inv-loop μ-loop
 add-turns c = search needs
 
-read-requires : tie.Need-read-requires Inv-loop μ-loop
-read-requires c κs = search needs
+next-field-requires : tie.Need-next-field-requires Inv-loop μ-loop
+next-field-requires c κs = search needs
 
 enum-known-field : tie.Need-enum-known-field Inv-loop μ-loop
 enum-known-field c = search needs
@@ -63,7 +63,7 @@ print-fields-spec =
     new-requires
     loop-holds
     add-turns
-    read-requires
+    next-field-requires
     enum-known-field
     perform-requires
     print-line-requires

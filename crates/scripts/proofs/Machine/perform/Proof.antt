@@ -16,14 +16,23 @@ with-ioapic-requires c κs = search needs
 enum-known-call-2 : tie.Need-enum-known-call-2
 enum-known-call-2 c = search needs
 
+choose-version-requires : tie.Need-choose-version-requires
+choose-version-requires c κs = search needs
+
+with-ioapic-requires-2 : tie.Need-with-ioapic-requires-2
+with-ioapic-requires-2 c κs = search needs
+
+enum-known-call-3 : tie.Need-enum-known-call-3
+enum-known-call-3 c = search needs
+
 call-pic-requires : tie.Need-call-pic-requires
 call-pic-requires c κs = search needs
 
 with-pic-requires : tie.Need-with-pic-requires
 with-pic-requires c κs = search needs
 
-enum-known-call-3 : tie.Need-enum-known-call-3
-enum-known-call-3 c = search needs
+enum-known-call-4 : tie.Need-enum-known-call-4
+enum-known-call-4 c = search needs
 
 call-apic-requires : tie.Need-call-apic-requires
 call-apic-requires c κs = search needs
@@ -34,11 +43,15 @@ returns c = rw (c .before .before .before .call .given .1) (c .with-ioapic .ensu
 
 returns-2 : tie.Need-returns-2
 unfolding performed
-returns-2 c = rw (c .before .before .before .call2 .given .1) (c .with-pic .ensures ∙ ap (onPic (c .before .before .before .before .before .before .before .args .self)) (c .before .call-pic .ensures))
+returns-2 c = rw (c .before .before .before .call2 .given .1) (c .with-ioapic2 .ensures ∙ ap (onIoApic (c .before .before .before .before .before .before .before .args .self)) (c .before .choose-version .ensures))
 
 returns-3 : tie.Need-returns-3
 unfolding performed
-returns-3 c = rw (c .before .before .call3 .given .1) (c .call-apic .ensures)
+returns-3 c = rw (c .before .before .before .call3 .given .1) (c .with-pic .ensures ∙ ap (onPic (c .before .before .before .before .before .before .before .args .self)) (c .before .call-pic .ensures))
+
+returns-4 : tie.Need-returns-4
+unfolding performed
+returns-4 c = rw (c .before .before .call4 .given .1) (c .call-apic .ensures)
 
 pub perform-spec : {M : Type 1} → statement M
 perform-spec =
@@ -48,10 +61,14 @@ perform-spec =
     call-ioapic-requires
     with-ioapic-requires
     enum-known-call-2
+    choose-version-requires
+    with-ioapic-requires-2
+    enum-known-call-3
     call-pic-requires
     with-pic-requires
-    enum-known-call-3
+    enum-known-call-4
     call-apic-requires
     returns
     returns-2
-    returns-3)
+    returns-3
+    returns-4)

@@ -23,8 +23,8 @@ loop-holds c =
     let z : a .allowance ≡ a .allowance - 0 = omega arith in
     (search needs, further-none _ ∙ ap (λ (n : ℕ). further 0 (runOf (a .script .now) (a .self) (a .from .at) n)) z)
 
-read-requires : tie.Need-read-requires Inv-loop μ-loop
-read-requires c κs = search needs
+next-field-requires : tie.Need-next-field-requires Inv-loop μ-loop
+next-field-requires c κs = search needs
 
 enum-known-field : tie.Need-enum-known-field Inv-loop μ-loop
 enum-known-field c = search needs
@@ -44,7 +44,7 @@ loop-again c =
     let a = c .before .before .before .before .before .before .before .before .before .args in (
       omega arith,
       l .inv .1
-          ∙ run-good (a .script .now) (l .machine) (l .next .at) (l .done) (a .allowance - l .done) (a .allowance - (l .done + 1)) (omega arith) _ _ _ _ (sym (c .before .before .before .before .before .read .ensures) ∙ c .before .before .before .field .given .1) (ap (λ (o : Outcome Machine). o .state) (c .before .perform .ensures)),
+          ∙ run-good (a .script .now) (l .machine) (l .next .at) (l .done) (a .allowance - l .done) (a .allowance - (l .done + 1)) (omega arith) _ _ _ _ (sym (c .before .before .before .before .before .next-field .ensures) ∙ c .before .before .before .field .given .1) (ap (λ (o : Outcome Machine). o .state) (c .before .perform .ensures)),
     )
 
 enum-told : tie.Need-enum-told Inv-loop μ-loop
@@ -54,7 +54,7 @@ returns : tie.Need-returns Inv-loop μ-loop
 returns c =
     let l = c .before .before .before .before .loop in
     let a = c .before .before .before .before .before .before .args in
-    sym (l .inv .1 ∙ run-bad (a .script .now) (l .machine) (l .next .at) (l .done) (a .allowance - l .done) (a .allowance - (l .done + 1)) (omega arith) (sym (c .before .before .read .ensures) ∙ c .enum-told .given .1))
+    sym (l .inv .1 ∙ run-bad (a .script .now) (l .machine) (l .next .at) (l .done) (a .allowance - l .done) (a .allowance - (l .done + 1)) (omega arith) (sym (c .before .before .next-field .ensures) ∙ c .enum-told .given .1))
 
 enum-told-2 : tie.Need-enum-told-2 Inv-loop μ-loop
 enum-told-2 c = search needs
@@ -63,7 +63,7 @@ returns-2 : tie.Need-returns-2 Inv-loop μ-loop
 returns-2 c =
     let l = c .before .before .before .before .loop in
     let a = c .before .before .before .before .before .before .args in
-    sym (l .inv .1 ∙ run-end (a .script .now) (l .machine) (l .next .at) (l .done) (a .allowance - l .done) (a .allowance - (l .done + 1)) (omega arith) (sym (c .before .before .read .ensures) ∙ c .enum-told2 .given .1))
+    sym (l .inv .1 ∙ run-end (a .script .now) (l .machine) (l .next .at) (l .done) (a .allowance - l .done) (a .allowance - (l .done + 1)) (omega arith) (sym (c .before .before .next-field .ensures) ∙ c .enum-told2 .given .1))
 
 returns-3 : tie.Need-returns-3 Inv-loop μ-loop
 returns-3 c =
@@ -78,7 +78,7 @@ run-spec =
     Inv-loop
     μ-loop
     loop-holds
-    read-requires
+    next-field-requires
     enum-known-field
     perform-requires
     add-done
