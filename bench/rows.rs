@@ -284,7 +284,7 @@ row! {
     ours(io) { sum += our_ended(io.lend(|io| io.end_of_interrupt(vector as u8))); }
 }
 
-// Version 0x20.
+// Version 0x20, whose EOI looks at all 24 entries. The original's, of version 0x11, stops at the first that it ends.
 
 row! {
     eoi_unused_v20, io20, LEVEL_ALL, (vector = 0x99), |sum|,
@@ -293,21 +293,27 @@ row! {
     ours(io) { sum += our_all_ended(io.lend(|io| io.end_of_interrupt(vector as u8)), vector); }
 }
 
-row! {
-    assert_eoi_2_v20, io20, LEVEL_2, (gsi = 2, vector = 0x30), |sum|,
-    original(io) {
-        sum += sent(io.assert_gsi(gsi as usize));
-        sum += ended(io.end_of_interrupt(vector as u8));
-    }
-    boundary(words) {
-        sum += first(sillwander_ioapic_assert_gsi(words, gsi));
-        sum += code_all_ended(sillwander_ioapic_end_of_interrupt(words, vector), vector);
-    }
-    ours(io) {
-        sum += our_sent(io.lend(|io| io.assert_gsi(gsi as usize)));
-        sum += our_all_ended(io.lend(|io| io.end_of_interrupt(vector as u8)), vector);
-    }
+macro_rules! assert_and_eoi_v20 {
+    ($name:ident, $setup:expr, $gsi:expr) => {
+        row! {
+            $name, io20, $setup, (gsi = $gsi, vector = 0x30), |sum|,
+            original(io) {
+                sum += sent(io.assert_gsi(gsi as usize));
+                sum += ended(io.end_of_interrupt(vector as u8));
+            }
+            boundary(words) {
+                sum += first(sillwander_ioapic_assert_gsi(words, gsi));
+                sum += code_all_ended(sillwander_ioapic_end_of_interrupt(words, vector), vector);
+            }
+            ours(io) {
+                sum += our_sent(io.lend(|io| io.assert_gsi(gsi as usize)));
+                sum += our_all_ended(io.lend(|io| io.end_of_interrupt(vector as u8)), vector);
+            }
+        }
+    };
 }
+assert_and_eoi_v20!(assert_eoi_2_v20, LEVEL_2, 2);
+assert_and_eoi_v20!(assert_eoi_20_v20, LEVEL_20, 20);
 
 // Lines 2 and 5 are raised at the start, and share a vector. In version 0x20 each EOI sends both again; the original's sends line 2.
 row! {
@@ -605,6 +611,7 @@ pub const ROWS: &[&Row] = &[
     &eoi_unused::ROW,
     &eoi_unused_v20::ROW,
     &assert_eoi_2_v20::ROW,
+    &assert_eoi_20_v20::ROW,
     &Row { is_like_original: false, ..eoi_shared_v20::ROW },
     &write_low_changed::ROW,
     &write_low_same::ROW,
