@@ -1,6 +1,7 @@
 /*
  * The C boundary, called from C: the numbered examples of document 01, the other calls once each, the I/O APIC of version 0x20, every refusal, and made-up words.
- * What is expected was written from document 01 and from the header's text; in version 0x20, from the I/O Controller Hub's EOI register. The exit status is 0 only if everything was as expected.
+ * What is expected was written from document 01 and from the header's text; in version 0x20, from the I/O Controller Hub's EOI register. The exit status is 0 only
+ * if everything was as expected.
  *
  * The lent words of each chip end where a page ends that nobody may touch, so that a call which reads or writes behind them faults; what stands before
  * them is compared.
