@@ -4,7 +4,7 @@
 //!     driver time N         each row N times, nine times over: the least nanoseconds for once
 //!
 //! The sides are the original; `boundary`, the archives' functions on lent words, as C calls them; `krate`, the Rust crate; and `locked`, the Rust crate behind its
-//! spin lock. Each row adds up what it was answered, and the sides' sums must be the same.
+//! spin lock. Each row adds up what it was answered, and the sides' sums must be the same; where the original answers otherwise (`is_like_original`), those of our sides.
 mod host;
 mod rows;
 mod setup;
@@ -15,6 +15,8 @@ pub struct Row {
     name: &'static str,
     /// By side, in the order of `SIDES`: so many times around, and the sum of what was answered.
     sides: [fn(u64) -> u64; 4],
+    /// Whether the original answers the same. It has no version 0x20, and ends one line of a shared vector alone.
+    is_like_original: bool,
 }
 
 const SIDES: [&str; 4] = ["original", "boundary", "krate", "locked"];
@@ -46,7 +48,8 @@ fn main() -> ExitCode {
         match way.as_str() {
             "count" => {
                 let sums = sums(row, times);
-                if sums.iter().any(|sum| *sum != sums[0]) {
+                let compared = if row.is_like_original { &sums[..] } else { &sums[1..] };
+                if compared.iter().any(|sum| *sum != compared[0]) {
                     eprintln!("{}: the sides' answers aren't the same: {SIDES:?} {sums:?}", row.name);
                     return ExitCode::FAILURE;
                 }

@@ -75,6 +75,7 @@ macro_rules! row {
                     |times| krate(&mut Plain($chip::ours(&$setup)), times $(, black_box($value))*),
                     |times| locked(&mut Locked::new($chip::ours(&$setup)), times $(, black_box($value))*),
                 ],
+                is_like_original: true,
             };
         }
     };
@@ -115,6 +116,25 @@ fn code_ended(code: u64) -> u64 {
         return 0;
     }
     (code & 0xff) + if code >> 48 == 3 { code >> 16 & 0xff } else { 0 }
+}
+
+/// Of version 0x20: the lowest line that ended, and the vector for each line that is sent again. So one line adds up as it does in version 0x11.
+#[inline(always)]
+fn our_all_ended(answer: Option<sillwander::IoApicEois>, vector: u64) -> u64 {
+    answer.map_or(0, |eois| u64::from(eois.cleared.trailing_zeros()) + eois.sent_lines().map(|_| vector).sum::<u64>())
+}
+
+#[inline(always)]
+fn code_all_ended(code: u64, vector: u64) -> u64 {
+    if code == 0 {
+        return 0;
+    }
+    let (mut sum, mut sent) = (u64::from((code as u32 & 0xff_ffff).trailing_zeros()), code >> 24 & 0xff_ffff);
+    while sent != 0 {
+        sum += vector;
+        sent &= sent - 1;
+    }
+    sum
 }
 
 #[inline(always)]
@@ -247,19 +267,81 @@ row! {
 }
 
 // All 24 entries are level-triggered with other vectors, and none is in flight.
+const LEVEL_ALL: [(usize, usize); 24] = {
+    let mut entries = [(0, 0); 24];
+    let mut gsi = 0;
+    while gsi < 24 {
+        entries[gsi] = (0x10 + 2 * gsi, 0x8030 + gsi);
+        gsi += 1;
+    }
+    entries
+};
+
 row! {
-    eoi_unused, io, {
-        let mut entries = [(0, 0); 24];
-        let mut gsi = 0;
-        while gsi < 24 {
-            entries[gsi] = (0x10 + 2 * gsi, 0x8030 + gsi);
-            gsi += 1;
-        }
-        entries
-    }, (vector = 0x99), |sum|,
+    eoi_unused, io, LEVEL_ALL, (vector = 0x99), |sum|,
     original(io) { sum += ended(io.end_of_interrupt(vector as u8)); }
     boundary(words) { sum += code_ended(sillwander_ioapic_end_of_interrupt(words, vector)); }
     ours(io) { sum += our_ended(io.lend(|io| io.end_of_interrupt(vector as u8))); }
+}
+
+// Version 0x20, whose EOI looks at all 24 entries. The original's, of version 0x11, stops at the first that it ends.
+
+row! {
+    eoi_unused_v20, io20, LEVEL_ALL, (vector = 0x99), |sum|,
+    original(io) { sum += ended(io.end_of_interrupt(vector as u8)); }
+    boundary(words) { sum += code_all_ended(sillwander_ioapic_end_of_interrupt(words, vector), vector); }
+    ours(io) { sum += our_all_ended(io.lend(|io| io.end_of_interrupt(vector as u8)), vector); }
+}
+
+macro_rules! assert_and_eoi_v20 {
+    ($name:ident, $setup:expr, $gsi:expr) => {
+        row! {
+            $name, io20, $setup, (gsi = $gsi, vector = 0x30), |sum|,
+            original(io) {
+                sum += sent(io.assert_gsi(gsi as usize));
+                sum += ended(io.end_of_interrupt(vector as u8));
+            }
+            boundary(words) {
+                sum += first(sillwander_ioapic_assert_gsi(words, gsi));
+                sum += code_all_ended(sillwander_ioapic_end_of_interrupt(words, vector), vector);
+            }
+            ours(io) {
+                sum += our_sent(io.lend(|io| io.assert_gsi(gsi as usize)));
+                sum += our_all_ended(io.lend(|io| io.end_of_interrupt(vector as u8)), vector);
+            }
+        }
+    };
+}
+assert_and_eoi_v20!(assert_eoi_2_v20, LEVEL_2, 2);
+assert_and_eoi_v20!(assert_eoi_20_v20, LEVEL_20, 20);
+
+// Lines 2 and 5 are raised at the start, and share a vector. In version 0x20 each EOI sends both again; the original's sends line 2.
+row! {
+    eoi_shared_v20, io20, [(0x14, 0x8030), (0x1a, 0x8030)], (lower = 2, upper = 5, vector = 0x30, first_time = 1), |sum|,
+    original(io) {
+        if first_time != 0 {
+            first_time = 0;
+            io.set_gsi_level(lower as usize, true);
+            io.set_gsi_level(upper as usize, true);
+        }
+        sum += ended(io.end_of_interrupt(vector as u8));
+    }
+    boundary(words) {
+        if first_time != 0 {
+            first_time = 0;
+            sillwander_ioapic_set_gsi_level(words, lower, 1);
+            sillwander_ioapic_set_gsi_level(words, upper, 1);
+        }
+        sum += code_all_ended(sillwander_ioapic_end_of_interrupt(words, vector), vector);
+    }
+    ours(io) {
+        if first_time != 0 {
+            first_time = 0;
+            io.lend(|io| io.set_gsi_level(lower as usize, true));
+            io.lend(|io| io.set_gsi_level(upper as usize, true));
+        }
+        sum += our_all_ended(io.lend(|io| io.end_of_interrupt(vector as u8)), vector);
+    }
 }
 
 macro_rules! window_write {
@@ -527,6 +609,10 @@ pub const ROWS: &[&Row] = &[
     &line_edge_20::ROW,
     &eoi_resend_2::ROW,
     &eoi_unused::ROW,
+    &eoi_unused_v20::ROW,
+    &assert_eoi_2_v20::ROW,
+    &assert_eoi_20_v20::ROW,
+    &Row { is_like_original: false, ..eoi_shared_v20::ROW },
     &write_low_changed::ROW,
     &write_low_same::ROW,
     &write_high::ROW,

@@ -30,6 +30,7 @@ pub const LOCAL: usize = 0xfee0_0000;
 
 unsafe extern "C" {
     pub safe fn sillwander_ioapic_new_default(words: &mut io::Words) -> u64;
+    pub safe fn sillwander_ioapic_new_version(words: &mut io::Words, base: u64, size: u64, version: u64) -> u64;
     pub safe fn sillwander_ioapic_vector_for_gsi(words: &io::Words, gsi: u64) -> u64;
     pub safe fn sillwander_ioapic_assert_gsi(words: &mut io::Words, gsi: u64) -> u64;
     pub safe fn sillwander_ioapic_set_gsi_level(words: &mut io::Words, gsi: u64, asserted: u64) -> u64;
@@ -82,12 +83,47 @@ pub mod io {
     pub fn words(setup: &[(usize, usize)]) -> Words {
         let mut words = [0; 32];
         sillwander_ioapic_new_default(&mut words);
+        programmed(words, setup)
+    }
+
+    pub fn programmed(mut words: Words, setup: &[(usize, usize)]) -> Words {
         for (register, word) in setup {
             for (addr, value) in [(SELECT, register), (WINDOW, word)] {
                 sillwander_ioapic_handle_write(&mut words, addr as u64, 4, *value as u64);
             }
         }
         words
+    }
+
+    pub fn ours(setup: &[(usize, usize)]) -> Ours {
+        let mut io = Ours::new_default();
+        for (register, word) in setup {
+            for (addr, value) in [(SELECT, register), (WINDOW, word)] {
+                io.handle_write(X86GuestPhysAddr::from_usize(addr), sillwander::X86AccessWidth::Dword, *value)
+                    .expect("the window takes it");
+            }
+        }
+        io
+    }
+}
+
+/// The I/O APIC of version 0x20, which the original doesn't have: beside it stands the original's, of version 0x11.
+pub mod io20 {
+    use super::{SELECT, WINDOW, io, sillwander_ioapic_new_version};
+    use sillwander::X86GuestPhysAddr;
+
+    pub type Original = io::Original;
+    pub type Words = io::Words;
+    pub type Ours = sillwander::EmulatedIoApic20;
+
+    pub fn original(setup: &[(usize, usize)]) -> Original {
+        io::original(setup)
+    }
+
+    pub fn words(setup: &[(usize, usize)]) -> Words {
+        let mut words = [0; 32];
+        sillwander_ioapic_new_version(&mut words, SELECT as u64, 0x1000, 0x20);
+        io::programmed(words, setup)
     }
 
     pub fn ours(setup: &[(usize, usize)]) -> Ours {

@@ -1,6 +1,7 @@
 /*
- * The C boundary, called from C: the numbered examples of document 01, the other calls once each, every refusal, and made-up words.
- * What is expected was written from document 01 and from the header's text. The exit status is 0 only if everything was as expected.
+ * The C boundary, called from C: the numbered examples of document 01, the other calls once each, the I/O APIC of version 0x20, every refusal, and made-up words.
+ * What is expected was written from document 01 and from the header's text; in version 0x20, from the I/O Controller Hub's EOI register. The exit status is 0 only
+ * if everything was as expected.
  *
  * The lent words of each chip end where a page ends that nobody may touch, so that a call which reads or writes behind them faults; what stands before
  * them is compared.
@@ -163,6 +164,7 @@ static void start(const char *name)
 /* ---- Short names for the calls that the examples make */
 
 static const uint64_t BASE = 0xfec00000;
+static const uint64_t HIGH = (uint64_t)1 << 32;
 static uint64_t select_register(uint64_t number) { return sillwander_ioapic_handle_write(io, BASE, 4, number); }
 static uint64_t window(uint64_t word) { return sillwander_ioapic_handle_write(io, BASE + 0x10, 4, word); }
 static uint64_t look(void) { return sillwander_ioapic_handle_read(io, BASE + 0x10, 4); }
@@ -367,9 +369,171 @@ static void other_calls(void)
     EXPECT(load(0x120), one(0));
 }
 
-/* ---- Refusals: each leaves what was lent as it was. Numbers that don't fit are refused, and not cut. */
+/* ---- The I/O APIC of version 0x20: an EOI ends every level-triggered entry in flight with the vector, and sends those whose line is up or that were put off */
 
-static const uint64_t HIGH = (uint64_t)1 << 32;
+static uint64_t eoi_register(uint64_t vector) { return sillwander_ioapic_handle_write(io, BASE + 0x40, 4, vector); }
+
+/* A new one of version 0x20, with a low word for each of the lines of a set, whose lines then go up in turn. */
+static void start_20(const char *name, uint32_t lines, uint32_t low)
+{
+    part = name;
+    EXPECT(sillwander_ioapic_new_version(io, BASE, 0x1000, 0x20), NONE);
+    for (unsigned gsi = 0; gsi < 24; gsi++)
+        if (lines >> gsi & 1) {
+            EXPECT(select_register(0x10 + 2 * gsi), NONE);
+            EXPECT(window(low), NONE);
+            EXPECT(line(gsi, 1), two(low & 0xff, 1));
+        }
+}
+
+static void shared_vectors(void)
+{
+    /* last spring's lines: example 4 in version 0x20 */
+    start_20("two held lines", 0x28, 0x8041);
+    for (int again = 0; again < 5; again++)
+        EXPECT(io_eoi(0x41), two(0x28, 0x28));
+    CHECK(io[3] == 0xc041 && io[5] == 0xc041 && io[24] == 0 && io[25] == 0x28);
+
+    start_20("three held lines", 0x800401, 0x8041);
+    EXPECT(io_eoi(0x41), two(0x800401, 0x800401));
+    EXPECT(io_eoi(0x42), NONE);
+    EXPECT(line(10, 0), NONE);
+    EXPECT(io_eoi(0x41), two(0x800401, 0x800001));
+    CHECK(io[0] == 0xc041 && io[10] == 0x8041 && io[23] == 0xc041 && io[25] == 0x800001);
+    EXPECT(io_eoi(0x41), two(0x800001, 0x800001));
+    EXPECT(line(0, 0), NONE);
+    EXPECT(line(23, 0), NONE);
+    EXPECT(io_eoi(0x41), two(0x800001, 0));
+    EXPECT(io_eoi(0x41), NONE);
+
+    start_20("24 held lines", 0xffffff, 0x80ff);
+    for (int again = 0; again < 3; again++) {
+        EXPECT(io_eoi(0xff), two(0xffffff, 0xffffff));
+        EXPECT(eoi_register(0xff), two(0xffffff, 0xffffff));
+    }
+    for (unsigned gsi = 0; gsi < 24; gsi++) {
+        CHECK(io[gsi] == 0xc0ff);
+        EXPECT(line(gsi, 0), NONE);
+    }
+    EXPECT(io_eoi(0xff), two(0xffffff, 0));
+    IDLE(io_lent, io_eoi(0xff));
+    for (unsigned gsi = 0; gsi < 24; gsi++)
+        CHECK(io[gsi] == 0x80ff);
+}
+
+static void put_off_and_dropped(void)
+{
+    start_20("dropped before the EOI", 0x28, 0x8041);
+    EXPECT(line(3, 0), NONE);
+    EXPECT(io_eoi(0x41), two(0x28, 0x20));
+    CHECK(io[3] == 0x8041 && io[5] == 0xc041 && io[25] == 0x20);
+    EXPECT(io_eoi(0x41), two(0x20, 0x20));
+    EXPECT(line(3, 1), two(0x41, 1));
+    EXPECT(io_eoi(0x41), two(0x28, 0x28));
+
+    start_20("put off by a second raise", 0x28, 0x8041);
+    EXPECT(line(3, 1), NONE);
+    CHECK(io[24] == 8);
+    EXPECT(io_eoi(0x41), two(0x28, 0x28)); /* once each */
+    CHECK(io[24] == 0 && io[3] == 0xc041);
+    EXPECT(line(5, 1), NONE);
+    EXPECT(line(5, 0), NONE); /* which takes back what was put off */
+    CHECK(io[24] == 0);
+    EXPECT(io_eoi(0x41), two(0x28, 8));
+
+    part = "put off, the line down";
+    EXPECT(sillwander_ioapic_new_version(io, BASE, 0x1000, 0x20), NONE);
+    EXPECT(select_register(0x18), NONE);
+    EXPECT(window(0x8041), NONE);
+    EXPECT(sillwander_ioapic_assert_gsi(io, 4), two(0x41, 1));
+    EXPECT(sillwander_ioapic_assert_gsi(io, 4), NONE);
+    CHECK(io[24] == 0x10 && io[25] == 0);
+    EXPECT(io_eoi(0x41), two(0x10, 0x10));
+    CHECK(io[24] == 0 && io[4] == 0xc041);
+    EXPECT(io_eoi(0x41), two(0x10, 0));
+    EXPECT(io_eoi(0x41), NONE);
+
+    /* entries that end but can't be sent, lines up and put off: masked, not fixed, a vector below 16; and those that don't end: edge, not in flight, another vector */
+    start_20("ended and not fit to be sent", 1, 0x8041);
+    io[1] = 0x1c041, io[2] = 0xc141, io[3] = 0x4041, io[4] = 0x8041, io[5] = 0xc042, io[6] = 0xff0000000000c041, io[24] = 0x7e, io[25] = 0x7f;
+    EXPECT(io_eoi(0x41), two(0x47, 0x41));
+    CHECK(io[0] == 0xc041 && io[1] == 0x18041 && io[2] == 0x8141 && io[3] == 0x4041 && io[4] == 0x8041 && io[5] == 0xc042);
+    CHECK(io[6] == 0xff0000000000c041 && io[24] == 0x38 && io[25] == 0x7f);
+    io[7] = 0xc00f, io[25] = 0xff;
+    EXPECT(io_eoi(15), two(0x80, 0));
+    CHECK(io[7] == 0x800f);
+}
+
+static void eoi_registers(void)
+{
+    start_20("the EOI register", 0x28, 0x8041);
+    EXPECT(eoi_register(0x41), two(0x28, 0x28));
+    EXPECT(io_eoi(0x41), two(0x28, 0x28));
+    EXPECT(sillwander_ioapic_handle_write(io, BASE + 0x40, 8, 0x41), two(0x28, 0x28));
+    EXPECT(eoi_register(0xffffffffffffff41), two(0x28, 0x28)); /* the low 8 bits */
+    EXPECT(line(5, 0), NONE);
+    EXPECT(eoi_register(0x141), two(0x28, 8));
+    EXPECT(line(3, 0), NONE);
+    EXPECT(eoi_register(0x41), two(8, 0));
+    IDLE(io_lent, eoi_register(0x41));
+    IDLE(io_lent, io_eoi(0x41));
+    EXPECT(line(3, 1), two(0x41, 1));
+    IDLE(io_lent, sillwander_ioapic_handle_write(io, BASE + 0x41, 4, 0x41));
+    IDLE(io_lent, sillwander_ioapic_handle_write(io, BASE + 0x44, 4, 0x41));
+    IDLE(io_lent, sillwander_ioapic_handle_write(io, BASE + HIGH + 0x40, 4, 0x41));
+    REFUSED(io_lent, sillwander_ioapic_handle_write(io, BASE + 0x40, 2, 0x41), SILLWANDER_UNSUPPORTED);
+    REFUSED(io_lent, io_eoi(256 + 0x41), SILLWANDER_OUT_OF_RANGE);
+    EXPECT(sillwander_ioapic_handle_read(io, BASE + 0x40, 4), one(0));
+    CHECK(io[3] == 0xc041);
+
+    start("the EOI register in version 0x11");
+    EXPECT(select_register(0x16), NONE);
+    EXPECT(window(0x8041), NONE);
+    EXPECT(line(3, 1), two(0x41, 1));
+    IDLE(io_lent, eoi_register(0x41));
+    EXPECT(io_eoi(0x41), three(3, 0x41, 1));
+}
+
+static void versions(void)
+{
+    start("version words");
+    EXPECT(select_register(1), NONE);
+    EXPECT(look(), one(0x00170011));
+    EXPECT(sillwander_ioapic_new_version(io, BASE, 0x1000, 0x20), NONE);
+    CHECK(io[27] == BASE && io[28] == 0x1000 && io[29] == 0x20 && io[30] == 0 && io[31] == 0);
+    EXPECT(select_register(1), NONE);
+    EXPECT(look(), one(0x00170020));
+    IDLE(io_lent, window(0x11));
+    EXPECT(look(), one(0x00170020));
+    const uint64_t as_11[] = {0, 0x11, 0x1f, 0x21, 256 + 0x20, HIGH + 0x20, UINT64_MAX};
+    for (unsigned k = 0; k < sizeof as_11 / sizeof *as_11; k++) {
+        io[29] = as_11[k];
+        EXPECT(look(), one(0x00170011));
+    }
+    EXPECT(sillwander_ioapic_new_default(io), NONE);
+    remember(&io_lent);
+    memset(io, 0xff, SILLWANDER_IOAPIC_WORDS * 8);
+    EXPECT(sillwander_ioapic_new_version(io, BASE, 0x1000, 0x11), NONE);
+    CHECK(is_as_before(&io_lent));
+    memset(io, 0xff, SILLWANDER_IOAPIC_WORDS * 8);
+    EXPECT(sillwander_ioapic_new_version(io, BASE, 0x1000, 0x20), NONE);
+    io_lent.before[29] = 0x20;
+    CHECK(is_as_before(&io_lent));
+
+    start_20("refused versions", 0x28, 0x8041);
+    const uint64_t others[] = {0, 1, 0x10, 0x12, 0x1f, 0x21, 256 + 0x11, 256 + 0x20, HIGH + 0x20, 0x00170020, UINT64_MAX};
+    for (unsigned k = 0; k < sizeof others / sizeof *others; k++) {
+        REFUSED(io_lent, sillwander_ioapic_new_version(io, BASE, 0x1000, others[k]), SILLWANDER_UNSUPPORTED);
+        REFUSED(io_lent, sillwander_ioapic_new_version(io, 1, UINT64_MAX, others[k]), SILLWANDER_UNSUPPORTED);
+    }
+    REFUSED(io_lent, sillwander_ioapic_new_version(io, 1, UINT64_MAX, 0x20), SILLWANDER_INVALID_ADDRESS);
+    REFUSED(io_lent, sillwander_ioapic_new_version(io, UINT64_MAX, 1, 0x11), SILLWANDER_INVALID_ADDRESS);
+    EXPECT(sillwander_ioapic_new_version(io, UINT64_MAX, 0, 0x20), NONE);
+    EXPECT(sillwander_ioapic_address_range(io, range), NONE);
+    CHECK(range[0] == UINT64_MAX && range[1] == UINT64_MAX);
+}
+
+/* ---- Refusals: each leaves what was lent as it was. Numbers that don't fit are refused, and not cut. */
 
 static void refusals_of_the_io_apic(void)
 {
@@ -530,7 +694,8 @@ static uint64_t sendable(void)
     return vectors[any % 6] + (any >> 8) % 2 * 0x4000 + ((any >> 16) % 8 ? 0x8000 : 0) + ((any >> 24) % 16 ? 0 : 0x10000) + (any >> 32 << 32);
 }
 
-enum { CALLS = 25 };
+/* The calls by number: the I/O APIC's, the pair's, the local APIC's. */
+enum { NEW_STATES_OF_IO = 3, IO_EOI = 6, IO_WRITE = 9, OF_PAIR = 10, OF_LAPIC = 19, LAPIC_WRITES = 24, CALLS = 26 };
 
 static uint64_t call(unsigned which)
 {
@@ -538,28 +703,29 @@ static uint64_t call(unsigned which)
     switch (which) {
     case 0: return sillwander_ioapic_new(io, a, b);
     case 1: return sillwander_ioapic_new_default(io);
-    case 2: return sillwander_ioapic_vector_for_gsi(io, a);
-    case 3: return sillwander_ioapic_assert_gsi(io, a);
-    case 4: return sillwander_ioapic_set_gsi_level(io, a, b % 2);
-    case 5: return sillwander_ioapic_end_of_interrupt(io, a);
-    case 6: return sillwander_ioapic_address_range(io, range);
-    case 7: return sillwander_ioapic_handle_read(io, d % 2 ? io[27] + a % 32 : a, b);
-    case 8: return sillwander_ioapic_handle_write(io, d % 2 ? io[27] + 16 * (a % 2) : a, b, c);
-    case 9: return sillwander_pic_new(pic);
-    case 10: return sillwander_pic_port_ranges(ranges);
-    case 11: return sillwander_pic_claim_irq(pic, a);
-    case 12: return sillwander_pic_claim_pending_interrupt(pic);
-    case 13: return sillwander_pic_pulse_irq(pic, a);
-    case 14: return sillwander_pic_next_interrupt(pic);
-    case 15: return sillwander_pic_restore_interrupt(pic, d % 2 ? claim_code(a % 257, b % 17, c % 5) : a);
-    case 16: return sillwander_pic_handle_read(pic, a, b);
-    case 17: return sillwander_pic_handle_write(pic, a, b, c);
-    case 18: return sillwander_lapic_new(lapic);
-    case 19: return sillwander_lapic_setup(lapic, a, b, c);
-    case 20: return sillwander_lapic_accept_interrupt(lapic, a, b);
-    case 21: return sillwander_lapic_handle_eoi(lapic);
-    case 22: return sillwander_lapic_handle_read(lapic, a);
-    case 23: return sillwander_lapic_handle_write(lapic, a, b, c, d % 70, e, ipi);
+    case 2: return sillwander_ioapic_new_version(io, a, b, d % 4 == 0 ? c : d % 4 == 1 ? 0x11 : 0x20);
+    case 3: return sillwander_ioapic_vector_for_gsi(io, a);
+    case 4: return sillwander_ioapic_assert_gsi(io, a);
+    case 5: return sillwander_ioapic_set_gsi_level(io, a, b % 2);
+    case 6: return sillwander_ioapic_end_of_interrupt(io, a);
+    case 7: return sillwander_ioapic_address_range(io, range);
+    case 8: return sillwander_ioapic_handle_read(io, d % 2 ? io[27] + a % 32 : a, b);
+    case 9: return sillwander_ioapic_handle_write(io, d % 2 ? io[27] + (a % 3 == 2 ? 0x40 : a % 3 * 16) : a, b, c);
+    case 10: return sillwander_pic_new(pic);
+    case 11: return sillwander_pic_port_ranges(ranges);
+    case 12: return sillwander_pic_claim_irq(pic, a);
+    case 13: return sillwander_pic_claim_pending_interrupt(pic);
+    case 14: return sillwander_pic_pulse_irq(pic, a);
+    case 15: return sillwander_pic_next_interrupt(pic);
+    case 16: return sillwander_pic_restore_interrupt(pic, d % 2 ? claim_code(a % 257, b % 17, c % 5) : a);
+    case 17: return sillwander_pic_handle_read(pic, a, b);
+    case 18: return sillwander_pic_handle_write(pic, a, b, c);
+    case 19: return sillwander_lapic_new(lapic);
+    case 20: return sillwander_lapic_setup(lapic, a, b, c);
+    case 21: return sillwander_lapic_accept_interrupt(lapic, a, b);
+    case 22: return sillwander_lapic_handle_eoi(lapic);
+    case 23: return sillwander_lapic_handle_read(lapic, a);
+    case 24: return sillwander_lapic_handle_write(lapic, a, b, c, d % 70, e, ipi);
     default: return sillwander_lapic_handle_write(lapic, 0x300, a * 0x9e3779b97f4a7c15 >> 44, b % 2 ? 4 : 8, d % 65, e, ipi);
     }
 }
@@ -573,7 +739,7 @@ static void fill(Lent *lent)
 /* Only the two command words of the local APIC may have moved under a refusal. */
 static int refusal_kept_the_words(unsigned which, unsigned number)
 {
-    if (which >= 23 && (number == SILLWANDER_INVALID_DELIVERY || number == SILLWANDER_OUT_OF_RANGE))
+    if (which >= LAPIC_WRITES && (number == SILLWANDER_INVALID_DELIVERY || number == SILLWANDER_OUT_OF_RANGE))
         lapic_lent.before[9] = lapic[9], lapic_lent.before[10] = lapic[10];
     return is_as_before(&io_lent) && is_as_before(&pic_lent) && is_as_before(&lapic_lent);
 }
@@ -587,11 +753,11 @@ static int is_a_code(uint64_t code)
 /* A chip's calls leave the other chips alone. */
 static int only_its_chip_moved(unsigned which)
 {
-    return (which < 9 || is_as_before(&io_lent)) && ((which >= 9 && which < 18) || is_as_before(&pic_lent)) &&
-           (which >= 18 || is_as_before(&lapic_lent));
+    return (which < OF_PAIR || is_as_before(&io_lent)) && ((which >= OF_PAIR && which < OF_LAPIC) || is_as_before(&pic_lent)) &&
+           (which >= OF_LAPIC || is_as_before(&lapic_lent));
 }
 
-static int makes_a_new_state(unsigned which) { return which < 2 || which == 9 || which == 18 || which == 19; }
+static int makes_a_new_state(unsigned which) { return which < NEW_STATES_OF_IO || which == OF_PAIR || which == OF_LAPIC || which == OF_LAPIC + 1; }
 
 static int spare_words_stayed(unsigned which)
 {
@@ -600,15 +766,17 @@ static int spare_words_stayed(unsigned which)
             memcmp(lapic + 42, lapic_lent.before + 42, 48) == 0);
 }
 
-/* Of the I/O APIC a call moves one entry at most, and the two flags of the same entry. Base and size stay. */
-static int one_entry_moved(unsigned which)
+/* Of the I/O APIC a call moves one entry at most, and the two flags of the same entry; an EOI of version 0x20 those that it ended. Base and size stay. */
+static int one_entry_moved(unsigned which, uint64_t code)
 {
-    if (which < 2)
+    if (which < NEW_STATES_OF_IO)
         return 1;
     uint64_t flags = (io[24] ^ io_lent.before[24]) | (io[25] ^ io_lent.before[25]);
     for (unsigned gsi = 0; gsi < 24; gsi++)
         if (io[gsi] != io_lent.before[gsi])
             flags |= (uint64_t)1 << gsi;
+    if (io_lent.before[29] == 0x20 && SILLWANDER_COUNT(code) == 2 && (which == IO_EOI || which == IO_WRITE))
+        flags &= ~(uint64_t)SILLWANDER_OF_TWO(code, 0);
     return (flags & (flags - 1)) == 0 && io[27] == io_lent.before[27] && io[28] == io_lent.before[28];
 }
 
@@ -623,6 +791,8 @@ static void made_up_words(void)
         if (round % 8 < 4)
             for (unsigned gsi = 0; gsi < 24; gsi++)
                 io[gsi] = sendable();
+        if (round % 4 < 2)
+            io[29] = 0x20;
         if (round == 0) {
             memset(io, 0xff, SILLWANDER_IOAPIC_WORDS * 8);
             memset(pic, 0xff, SILLWANDER_PIC_WORDS * 8);
@@ -638,8 +808,40 @@ static void made_up_words(void)
             CHECK(is_a_code(code));
             CHECK(only_its_chip_moved(which));
             CHECK(spare_words_stayed(which));
-            CHECK(one_entry_moved(which));
+            CHECK(one_entry_moved(which, code));
             CHECK(code >> 56 == 0 || refusal_kept_the_words(which, SILLWANDER_REFUSAL(code)));
+        }
+    }
+}
+
+/* EOIs of version 0x20 on made-up words, by both roads: every word and the answer, as the EOI register's text has them. */
+static void made_up_eois(void)
+{
+    part = "made-up words, EOI";
+    dice_state = 20;
+    for (unsigned round = 0; round < 4000; round++) {
+        fill(&io_lent);
+        for (unsigned gsi = 0; gsi < 24 && round % 8 != 0; gsi++)
+            io[gsi] = sendable();
+        io[27] >>= 1, io[29] = 0x20;
+        for (unsigned step = 0; step < 6; step++) {
+            uint64_t vector = round % 8 ? sendable() & 0xff : dice() & 0xff;
+            uint32_t ended = 0, sent = 0;
+            remember(&io_lent);
+            for (unsigned gsi = 0; gsi < 24; gsi++) {
+                uint64_t bit = (uint64_t)1 << gsi, entry = io[gsi];
+                if ((entry & 0xc0ff) != (0xc000 | vector))
+                    continue; /* edge, not in flight, or of another vector */
+                ended |= bit;
+                if (((io[24] | io[25]) & bit) && !(entry & 0x10700) && vector >= 16)
+                    sent |= bit; /* the line is up or it was put off; not masked, fixed, of a vector that can be sent */
+                else
+                    io_lent.before[gsi] = entry & ~(uint64_t)0x4000;
+                io_lent.before[24] &= ~bit;
+            }
+            uint64_t code = dice() % 2 ? io_eoi(vector) : sillwander_ioapic_handle_write(io, io[27] + 0x40, 4, (dice() & ~(uint64_t)0xff) | vector);
+            expect(__LINE__, "an EOI", code, ended ? two(ended, sent) : NONE);
+            CHECK(is_as_before(&io_lent));
         }
     }
 }
@@ -652,6 +854,10 @@ int main(void)
     examples_of_the_pair();
     examples_of_the_local_apic();
     other_calls();
+    shared_vectors();
+    put_off_and_dropped();
+    eoi_registers();
+    versions();
     refusals_of_the_io_apic();
     refusals_of_the_pair();
     refusals_of_the_local_apic();
@@ -659,6 +865,7 @@ int main(void)
     for (unsigned number = 0; number < NUMBERS; number++)
         CHECK(seen[number] > 0);
     made_up_words();
+    made_up_eois();
     part = "after all";
     CHECK(nothing_before_it_was_touched(&io_lent) && nothing_before_it_was_touched(&pic_lent) && nothing_before_it_was_touched(&lapic_lent));
     CHECK(nothing_before_it_was_touched(&ipi_lent) && nothing_before_it_was_touched(&range_lent) && nothing_before_it_was_touched(&ranges_lent));

@@ -1,7 +1,7 @@
 //! Codes, as include/sillwander.h describes them: bits 63..56 why the call was refused or 0, bits 55..48 how many values it answers, one value in bits
 //! 31..0, two of 24 bits each, or three of 16 bits each, from bit 0 up. "Done, and nothing to say" is 0.
 //!
-//! Of two and three values the archives' are bytes: a line, a vector, a level, flags, a kind.
+//! Of two and three values the archives' are bytes: a line, a vector, a level, flags, a kind; but for the two sets of lines that an I/O APIC of version 0x20 answers.
 
 use crate::types::{X86VlapicError, X86VlapicResult};
 
@@ -30,6 +30,12 @@ pub fn value(code: u64) -> usize {
 #[inline]
 pub const fn of_two(code: u64, k: u32) -> u8 {
     (code >> (24 * k)) as u8
+}
+
+/// Value `k`, from 0, of two that are sets of 24 lines.
+#[inline]
+pub const fn set_of_two(code: u64, k: u32) -> u32 {
+    (code >> (24 * k)) as u32 & 0xff_ffff
 }
 
 /// Value `k`, from 0, of three.

@@ -1,14 +1,17 @@
-//! The I/O APIC.
+//! The I/O APIC, in two versions: 0x11, the original's, and 0x20, whose EOI ends every entry of a vector.
 //!
 //! The names and signatures are those of vioapic.rs of x86_vlapic 0.5.4 (Copyright The Axvisor Team, Apache License 2.0; `NOTICE`); behind them are calls of the archive.
+//! The original has no version 0x20: [`EmulatedIoApic20`] and [`IoApicEois`] are ours.
 
 use crate::{
     archives::*,
-    code::{count, done, of_three, of_two, value},
+    code::{count, done, of_three, of_two, set_of_two, value},
     types::{X86AccessWidth, X86GuestPhysAddr, X86GuestPhysAddrRange, X86VlapicResult},
 };
 
+const IOAPIC_BASE: usize = 0xfec0_0000;
 const IOAPIC_SIZE: usize = 0x1000;
+const VERSION_20: u64 = 0x20;
 
 /// An interrupt that the I/O APIC sends.
 #[derive(Clone, Copy, Debug, Eq, PartialEq)]
@@ -28,9 +31,69 @@ pub struct IoApicEoi {
     pub pending: Option<IoApicInterrupt>,
 }
 
-/// A 24-line I/O APIC (82093AA).
+/// What an EOI ended in an I/O APIC of version 0x20, as two sets of lines: bit `gsi` is line `gsi`.
+///
+/// All of them have the vector of the EOI, and all are level-triggered: a line in `sent` is the interrupt of that vector, to be injected now.
+#[derive(Clone, Copy, Debug, Eq, PartialEq)]
+pub struct IoApicEois {
+    /// The lines whose interrupt was in flight with the vector. At least one.
+    pub cleared: u32,
+    /// Those of them whose interrupt is sent again.
+    pub sent: u32,
+}
+
+impl IoApicEois {
+    /// The lines whose interrupt was in flight, from the lowest up.
+    #[inline]
+    pub fn cleared_lines(self) -> impl Iterator<Item = usize> {
+        lines(self.cleared)
+    }
+
+    /// The lines whose interrupt is sent again, from the lowest up.
+    #[inline]
+    pub fn sent_lines(self) -> impl Iterator<Item = usize> {
+        lines(self.sent)
+    }
+
+    /// None where no line was in flight with the vector.
+    #[inline]
+    fn of(code: u64) -> Option<Self> {
+        (code != 0).then(|| Self { cleared: set_of_two(code, 0), sent: set_of_two(code, 1) })
+    }
+}
+
+/// The lines of a set, from the lowest up.
+#[inline]
+fn lines(mut set: u32) -> impl Iterator<Item = usize> {
+    core::iter::from_fn(move || {
+        let line = (set != 0).then(|| set.trailing_zeros() as usize);
+        set &= set.wrapping_sub(1);
+        line
+    })
+}
+
+/// A 24-line I/O APIC of version 0x11 (82093AA).
 #[derive(Debug)]
 pub struct EmulatedIoApic {
+    words: [u64; IOAPIC_WORDS],
+}
+
+/// A 24-line I/O APIC of version 0x20, as in Intel's I/O Controller Hubs: an EOI ends every line in flight with the vector, where version 0x11 ends the first, and a
+/// guest may write it to the register at offset 0x40. So two lines that share a vector and stay up are both sent again at each EOI of it.
+///
+/// ```
+/// # use sillwander::{EmulatedIoApic20, IoApicEois, X86AccessWidth::Dword, X86GuestPhysAddr};
+/// let mut io = EmulatedIoApic20::new_default();
+/// for gsi in [3, 5] {
+///     io.handle_write(X86GuestPhysAddr::from_usize(0xfec0_0000), Dword, 0x10 + 2 * gsi)?; // entry `gsi`, low word
+///     io.handle_write(X86GuestPhysAddr::from_usize(0xfec0_0010), Dword, 0x8041)?; // level, vector 0x41
+///     io.set_gsi_level(gsi, true);
+/// }
+/// assert_eq!(io.end_of_interrupt(0x41), Some(IoApicEois { cleared: 0b101000, sent: 0b101000 }));
+/// # Ok::<(), sillwander::X86VlapicError>(())
+/// ```
+#[derive(Debug)]
+pub struct EmulatedIoApic20 {
     words: [u64; IOAPIC_WORDS],
 }
 
@@ -39,6 +102,56 @@ pub struct EmulatedIoApic {
 fn sent(code: u64) -> Option<IoApicInterrupt> {
     (code != 0).then(|| IoApicInterrupt { vector: of_two(code, 0), level_triggered: of_two(code, 1) != 0 })
 }
+
+/// What is the same in both versions.
+macro_rules! calls_of_both_versions {
+    ($($chip:ident),*) => {$(
+        impl $chip {
+            /// The vector programmed for a line. None where its entry is masked, isn't of fixed delivery or has a vector below 16, and from line 24 up.
+            #[inline]
+            pub fn vector_for_gsi(&self, gsi: usize) -> Option<u8> {
+                let code = sillwander_ioapic_vector_for_gsi(&self.words, gsi as u64);
+                (code != 0).then_some(code as u8)
+            }
+
+            /// Sends a line's interrupt, its level left as it is. None where nothing is to be injected.
+            #[inline]
+            pub fn assert_gsi(&mut self, gsi: usize) -> Option<IoApicInterrupt> {
+                sent(sillwander_ioapic_assert_gsi(&mut self.words, gsi as u64))
+            }
+
+            /// Moves a line up or down. None where nothing is to be injected. A level-triggered line that stays up is sent again at each EOI; one that goes down before
+            /// the EOI isn't.
+            #[inline]
+            pub fn set_gsi_level(&mut self, gsi: usize, asserted: bool) -> Option<IoApicInterrupt> {
+                sent(sillwander_ioapic_set_gsi_level(&mut self.words, gsi as u64, asserted.into()))
+            }
+
+            /// The addresses at which the I/O APIC is.
+            pub fn address_range(&self) -> X86GuestPhysAddrRange {
+                let mut range = [0; 2];
+                let code = sillwander_ioapic_address_range(&self.words, &mut range);
+                debug_assert!(code == 0, "new saw that base + size fits");
+                let [start, end] = range.map(|address| X86GuestPhysAddr::from_usize(address as usize));
+                X86GuestPhysAddrRange { start, end }
+            }
+
+            /// A memory read. [`Unsupported`](crate::X86VlapicError::Unsupported) for a width of 1 or 2 bytes; then
+            /// [`InvalidAddress`](crate::X86VlapicError::InvalidAddress) for an address below the base.
+            #[inline]
+            pub fn handle_read(&self, addr: X86GuestPhysAddr, width: X86AccessWidth) -> X86VlapicResult<usize> {
+                done(sillwander_ioapic_handle_read(&self.words, addr.as_usize() as u64, width.size() as u64)).map(value)
+            }
+        }
+
+        impl Default for $chip {
+            fn default() -> Self {
+                Self::new_default()
+            }
+        }
+    )*};
+}
+calls_of_both_versions!(EmulatedIoApic, EmulatedIoApic20);
 
 impl EmulatedIoApic {
     /// An I/O APIC at a base address, of 0x1000 bytes where no size is given. [`InvalidAddress`](crate::X86VlapicError::InvalidAddress) where base + size is 2^64 or
@@ -57,26 +170,6 @@ impl EmulatedIoApic {
         Self { words }
     }
 
-    /// The vector programmed for a line. None where its entry is masked, isn't of fixed delivery or has a vector below 16, and from line 24 up.
-    #[inline]
-    pub fn vector_for_gsi(&self, gsi: usize) -> Option<u8> {
-        let code = sillwander_ioapic_vector_for_gsi(&self.words, gsi as u64);
-        (code != 0).then_some(code as u8)
-    }
-
-    /// Sends a line's interrupt, its level left as it is. None where nothing is to be injected.
-    #[inline]
-    pub fn assert_gsi(&mut self, gsi: usize) -> Option<IoApicInterrupt> {
-        sent(sillwander_ioapic_assert_gsi(&mut self.words, gsi as u64))
-    }
-
-    /// Moves a line up or down. None where nothing is to be injected. A level-triggered line that stays up is sent again at each EOI; one that goes down before
-    /// the EOI isn't.
-    #[inline]
-    pub fn set_gsi_level(&mut self, gsi: usize, asserted: bool) -> Option<IoApicInterrupt> {
-        sent(sillwander_ioapic_set_gsi_level(&mut self.words, gsi as u64, asserted.into()))
-    }
-
     /// An EOI broadcast of the local APIC. None where no line in flight has the vector.
     #[inline]
     pub fn end_of_interrupt(&mut self, vector: u8) -> Option<IoApicEoi> {
@@ -88,22 +181,6 @@ impl EmulatedIoApic {
         })
     }
 
-    /// The addresses at which the I/O APIC is.
-    pub fn address_range(&self) -> X86GuestPhysAddrRange {
-        let mut range = [0; 2];
-        let code = sillwander_ioapic_address_range(&self.words, &mut range);
-        debug_assert!(code == 0, "new saw that base + size fits");
-        let [start, end] = range.map(|address| X86GuestPhysAddr::from_usize(address as usize));
-        X86GuestPhysAddrRange { start, end }
-    }
-
-    /// A memory read. [`Unsupported`](crate::X86VlapicError::Unsupported) for a width of 1 or 2 bytes; then
-    /// [`InvalidAddress`](crate::X86VlapicError::InvalidAddress) for an address below the base.
-    #[inline]
-    pub fn handle_read(&self, addr: X86GuestPhysAddr, width: X86AccessWidth) -> X86VlapicResult<usize> {
-        done(sillwander_ioapic_handle_read(&self.words, addr.as_usize() as u64, width.size() as u64)).map(value)
-    }
-
     /// A memory write, of the value's low 32 bits. Refused as a read is.
     #[inline]
     pub fn handle_write(&mut self, addr: X86GuestPhysAddr, width: X86AccessWidth, val: usize) -> X86VlapicResult {
@@ -111,8 +188,40 @@ impl EmulatedIoApic {
     }
 }
 
-impl Default for EmulatedIoApic {
-    fn default() -> Self {
-        Self::new_default()
+impl EmulatedIoApic20 {
+    /// An I/O APIC at a base address, of 0x1000 bytes where no size is given. [`InvalidAddress`](crate::X86VlapicError::InvalidAddress) where base + size is 2^64 or
+    /// more.
+    pub fn new(base: X86GuestPhysAddr, size: Option<usize>) -> X86VlapicResult<Self> {
+        let mut words = [0; IOAPIC_WORDS];
+        let size = size.unwrap_or(IOAPIC_SIZE);
+        done(sillwander_ioapic_new_version(&mut words, base.as_usize() as u64, size as u64, VERSION_20))?;
+        Ok(Self { words })
+    }
+
+    /// An I/O APIC at the PC's address, 0xfec00000.
+    pub fn new_default() -> Self {
+        let mut words = [0; IOAPIC_WORDS];
+        let code = sillwander_ioapic_new_version(&mut words, IOAPIC_BASE as u64, IOAPIC_SIZE as u64, VERSION_20);
+        debug_assert!(code == 0, "the version is one, and the range fits");
+        Self { words }
+    }
+
+    /// An EOI broadcast of the local APIC: it ends every line in flight with the vector. None where there is none.
+    #[inline]
+    pub fn end_of_interrupt(&mut self, vector: u8) -> Option<IoApicEois> {
+        IoApicEois::of(sillwander_ioapic_end_of_interrupt(&mut self.words, vector.into()))
+    }
+
+    /// A memory write, of the value's low 32 bits. Refused as a read is. A write at offset 0x40 is an EOI of the value's low 8 bits, and gives what
+    /// [`end_of_interrupt`](Self::end_of_interrupt) gives; any other gives none.
+    #[inline]
+    pub fn handle_write(
+        &mut self,
+        addr: X86GuestPhysAddr,
+        width: X86AccessWidth,
+        val: usize,
+    ) -> X86VlapicResult<Option<IoApicEois>> {
+        done(sillwander_ioapic_handle_write(&mut self.words, addr.as_usize() as u64, width.size() as u64, val as u64))
+            .map(IoApicEois::of)
     }
 }
