@@ -595,7 +595,7 @@ pub fn write_word(selector: u32, entry: Entry, value: u32) -> Entry
     entry.write_high(value)
 }
 
-pub fn good_width(width: u8) -> bool
+pub fn good_width(width: u64) -> bool
     ensures { λ r. ⌜ r ≡ goodWidth width ⌝ }
 {
     if width == 4 {
@@ -741,7 +741,7 @@ impl EmulatedIoApic {
     pub fn handle_read(self, addr: u64, width: u8) -> Read
         ensures { λ r. ⌜ readReply r ≡ handleRead self addr width ⌝ }
     {
-        if !good_width(width) {
+        if !good_width(width as u64) {
             return Read::NotRead(Refusal::Unsupported);
         }
         if addr < self.base {
@@ -755,7 +755,7 @@ impl EmulatedIoApic {
     pub fn handle_write(self, addr: u64, width: u8, val: u64) -> IoApicWriting
         ensures { λ r. ⌜ writingOutcome r ≡ handleWrite self addr width val ⌝ }
     {
-        if !good_width(width) {
+        if !good_width(width as u64) {
             return IoApicWriting {
                 chip: self,
                 answer: Written::NotWritten(Refusal::Unsupported),

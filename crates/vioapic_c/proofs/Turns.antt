@@ -27,23 +27,21 @@ use Rattle.vioapic_c.specs.declared.Ends.{Ends}
 -- ---- one entry's turn
 
 module _ (l : List ℕ) (v : Vector) (g : ℕ) (a : Ends) where
-  pub turn-none : (e : Entry) → e ≡ entryIn l g → awaits v e ≡ false → (l ≡ turnWords l v g) × (a ≡ turnEnds l v g a)
-  turn-none e p h = let k : awaits v (entryIn l g) ≡ false = sym (ap (awaits v) p) ∙ h in (rw k, rw k)
+  pub turn-none : awaits v (entryIn l g) ≡ false → (l ≡ turnWords l v g) × (a ≡ turnEnds l v g a)
+  turn-none k = (rw k, rw k)
 
-  pub turn-sent : (e : Entry) (s : EntryStep) (w : List ℕ) (c t : ℕ) → e ≡ entryIn l g → awaits v e ≡ true → s ≡ endEntry20 e → w ≡ putEntry l g (s .entry)
+  pub turn-sent : (e : Entry) (s : EntryStep) (w : List ℕ) (c t : ℕ) → e ≡ entryIn l g → awaits v (entryIn l g) ≡ true → s ≡ endEntry20 e → w ≡ putEntry l g (s .entry)
       → c ≡ with (a .cleared) g → isRouted (s .answer) ≡ true → t ≡ with (a .sent) g
       → (w ≡ turnWords l v g) × (record { cleared = c; sent = t } ≡ turnEnds l v g a)
-  turn-sent e s w c t p h q x y z u =
-      let k : awaits v (entryIn l g) ≡ true = sym (ap (awaits v) p) ∙ h in
+  turn-sent e s w c t p k q x y z u =
       let m : s ≡ endEntry20 (entryIn l g) = q ∙ ap endEntry20 p in
       let n : isRouted (endEntry20 (entryIn l g) .answer) ≡ true = sym (ap (λ (r : EntryStep). isRouted (r .answer)) m) ∙ z in
       (rw (k, x, m), rw (k, n, y, u))
 
-  pub turn-unsent : (e : Entry) (s : EntryStep) (w : List ℕ) (c : ℕ) → e ≡ entryIn l g → awaits v e ≡ true → s ≡ endEntry20 e → w ≡ putEntry l g (s .entry)
+  pub turn-unsent : (e : Entry) (s : EntryStep) (w : List ℕ) (c : ℕ) → e ≡ entryIn l g → awaits v (entryIn l g) ≡ true → s ≡ endEntry20 e → w ≡ putEntry l g (s .entry)
       → c ≡ with (a .cleared) g → isRouted (s .answer) ≡ false
       → (w ≡ turnWords l v g) × (record { cleared = c; sent = a .sent } ≡ turnEnds l v g a)
-  turn-unsent e s w c p h q x y z =
-      let k : awaits v (entryIn l g) ≡ true = sym (ap (awaits v) p) ∙ h in
+  turn-unsent e s w c p k q x y z =
       let m : s ≡ endEntry20 (entryIn l g) = q ∙ ap endEntry20 p in
       let n : isRouted (endEntry20 (entryIn l g) .answer) ≡ false = sym (ap (λ (r : EntryStep). isRouted (r .answer)) m) ∙ z in
       (rw (k, x, m), rw (k, n, y))

@@ -14,7 +14,7 @@ use Rattle.types.specs.declared.Reply.{Reply}
 use Rattle.types.specs.declared.Reply.the-variants.{Refused, Nothing, One}
 use Rattle.boundary.proofs.Flags.{marked-kept}
 use Rattle.boundary.specs.Lent.{replyCode, marked, isUp, Lent}
-use Rattle.vioapic.specs.Answers.{routedReply, endedReply, gsiVectorReply}
+use Rattle.vioapic.specs.Answers.{routedReply, pendingReply, gsiVectorReply}
 use Rattle.vioapic.specs.IoApic.{goodWidth, fits, isVersion, addressRange, vectorForGsi, handleRead}
 use Rattle.vioapic.specs.Redirection.{awaits, sendEntry, moveLine, endEntry}
 use Rattle.vioapic.specs.Registers.{isEntryWord, entryOf, readFixed, readWord, writeWord, readSelected, readAt}
@@ -236,10 +236,7 @@ module _ (l : List ℕ) (addr width n : ℕ) where
   unfolding writeWords
   write-done x z h k p = p ∙ rw (h, le-leb _ _ k)
 
-pub wide-bad : (width : ℕ) → 256 ≤ width → false ≡ goodWidth width
-wide-bad width h = rw (ne-eqb width 4 (λ e. absurd (omega (arith, e))), ne-eqb width 8 (λ e. absurd (omega (arith, e))))
-
 -- an EOI's answer
-pub ended-is : (l : List ℕ) (g n : ℕ) (e : Entry) (s : EntryStep) (r : Reply) (w : List ℕ) → e ≡ entryIn l g → s ≡ endEntry e → w ≡ putEntry l g (s .entry)
-    → r ≡ endedReply (record { gsi = record { 0 = g }; pending = s .answer }) → n ≡ replyCode r → lent w n ≡ endedWords l g (endEntry (entryIn l g))
-ended-is l g n e s r w p q z y x = ap₂ lent z (x ∙ ap replyCode y) ∙ ap (endedWords l g) (q ∙ ap endEntry p)
+pub ended-is : (l : List ℕ) (g n : ℕ) (e : Entry) (s : EntryStep) (w : List ℕ) → e ≡ entryIn l g → s ≡ endEntry e → w ≡ putEntry l g (s .entry) → n ≡ replyCode (pendingReply g (s .answer))
+    → lent w n ≡ endedWords l g (endEntry (entryIn l g))
+ended-is l g n e s w p q z x = ap₂ lent z x ∙ ap (endedWords l g) (q ∙ ap endEntry p)

@@ -6,21 +6,19 @@ ghost use Prim.Native.Nat.{_<_};
 ghost use lib.ListN.{getD};
 ghost use Rattle.utils.specs.Set.{bit};
 ghost use Rattle.boundary.specs.Lent.{replyCode};
-ghost use Rattle.vioapic.specs.Answers.{interruptReply, routedReply};
-ghost use Rattle.vioapic.specs.IoApic.{goodWidth, isVersion, vectorForGsi, handleRead};
-ghost use Rattle.vioapic.specs.Redirection.{sendEntry, moveLine, endEntry};
+ghost use Rattle.vioapic.specs.Answers.{interruptReply, routedReply, pendingReply};
+ghost use Rattle.vioapic.specs.IoApic.{isVersion, vectorForGsi, handleRead};
+ghost use Rattle.vioapic.specs.Redirection.{awaits, sendEntry, moveLine, endEntry};
 ghost use Rattle.vioapic.specs.Registers.{readSelected, readAt};
 ghost use Rattle.vioapic_c.specs.Words.{entryIn, selectorIn, isNewIn, versionIn, putFlag, putEntry, newWords, view};
 ghost use Rattle.vioapic_c.specs.Calls.{firstIn, steppedWords, assertWords, setLevelWords, endedWords, endFirstWords, turnWords, turnEnds, endEveryWords, endWords, createdWords, rangeWords, writeSelectedWords, writeEoiWords, writeAtWords, writeWords, lent};
 use boundary::code;
 use boundary::is_up;
-use types::Gsi;
 use types::Refusal;
 use types::Reply;
 use types::Vector;
 use utils::set32;
 use utils::set64;
-use vioapic::IoApicEoi;
 use vioapic::redirection::Entry;
 use vioapic::redirection::IoApicInterrupt;
 use vioapic::redirection::Routed;
@@ -110,18 +108,26 @@ fn version_in(words: &[u64; 32]) -> u8
     vioapic::VERSION_11
 }
 
+// Whether an EOI of the vector ends entry g: its register says so, and its flags aren't looked at.
+fn awaits_at(words: &[u64; 32], g: usize, vector: Vector) -> bool
+    requires { ⌜ g < 24 ⌝ }
+    ensures { λ r. ⌜ r ≡ awaits vector (entryIn (now (words .entry)) g) ⌝ }
+{
+    let entry = Entry {
+        word: words[g],
+        pending_level: false,
+        input_level: false,
+    };
+    entry.awaits(vector)
+}
+
 // The lowest entry that an EOI of the vector ends, or 24.
 fn first_awaiting(words: &[u64; 32], vector: Vector) -> usize
     ensures { λ r. ⌜ r ≡ firstIn (now (words .entry)) vector ⌝ }
 {
     let mut g: usize = 0;
     while g < ENTRIES {
-        let entry = Entry {
-            word: words[g],
-            pending_level: false,
-            input_level: false,
-        };
-        if entry.awaits(vector) {
+        if awaits_at(words, g, vector) {
             return g;
         }
         g += 1;
@@ -234,6 +240,22 @@ fn routed_code(answer: Routed) -> u64
     }
 }
 
+// The code of an EOI's answer, likewise.
+fn ended_code(g: usize, pending: Routed) -> u64
+    ensures { λ r. ⌜ r ≡ replyCode (pendingReply g pending) ⌝ }
+{
+    match pending {
+        Routed::NotRouted => code(Reply::One(g as u64)),
+        Routed::Interrupt(interrupt) => {
+            let vector = interrupt.vector;
+            if interrupt.level_triggered {
+                return code(Reply::Three(g as u64, vector.0 as u64, 1));
+            }
+            code(Reply::Three(g as u64, vector.0 as u64, 0))
+        }
+    }
+}
+
 // A step of an entry, which leaves its line as it is.
 fn sent(words: &mut [u64; 32], g: usize) -> u64
     requires { ⌜ g < 24 ⌝ }
@@ -317,11 +339,7 @@ fn ended(words: &mut [u64; 32], g: usize) -> u64
     let after = step.entry;
     let pending = step.answer;
     put_entry(&mut *words, g, entry, after);
-    let eoi = IoApicEoi {
-        gsi: Gsi(g),
-        pending,
-    };
-    code(eoi.reply())
+    ended_code(g, pending)
 }
 
 fn is_new(words: &[u64; 32]) -> bool
@@ -352,10 +370,10 @@ fn end_at(words: &mut [u64; 32], g: usize, vector: Vector, ends: Ends) -> Ends
     requires { ⌜ g < 24 ⌝ }
     ensures { λ r. ⌜ (now (words .exit) ≡ turnWords (now (words .entry)) vector g) × (r ≡ turnEnds (now (words .entry)) vector g ends) ⌝ }
 {
-    let entry = entry_in(&*words, g);
-    if !entry.awaits(vector) {
+    if !awaits_at(&*words, g, vector) {
         return ends;
     }
+    let entry = entry_in(&*words, g);
     let step = entry.end20();
     let after = step.entry;
     let answer = step.answer;
@@ -421,15 +439,6 @@ pub extern "C" fn sillwander_ioapic_address_range(words: &[u64; 32], range: &mut
     code(Reply::Refused(Refusal::InvalidAddress))
 }
 
-fn is_good_width(width: u64) -> bool
-    ensures { λ r. ⌜ r ≡ goodWidth width ⌝ }
-{
-    if width < 256 {
-        return vioapic::good_width(width as u8);
-    }
-    false
-}
-
 fn read_selected(words: &[u64; 32]) -> u64
     ensures { λ r. ⌜ r ≡ readSelected (view (now (words .entry)) .state) ⌝ }
 {
@@ -457,7 +466,7 @@ fn read_at(words: &[u64; 32], offset: u64) -> u64
 pub extern "C" fn sillwander_ioapic_handle_read(words: &[u64; 32], addr: u64, width: u64) -> u64
     ensures { λ r. ⌜ r ≡ replyCode (handleRead (view (now (words .entry))) addr width) ⌝ }
 {
-    if !is_good_width(width) {
+    if !vioapic::good_width(width) {
         return code(Reply::Refused(Refusal::Unsupported));
     }
     let base = words[BASE];
@@ -519,7 +528,7 @@ pub extern "C" fn sillwander_ioapic_handle_write(
 ) -> u64
     ensures { λ r. ⌜ lent (now (words .exit)) r ≡ writeWords (now (words .entry)) addr width value ⌝ }
 {
-    if !is_good_width(width) {
+    if !vioapic::good_width(width) {
         return code(Reply::Refused(Refusal::Unsupported));
     }
     let base = words[BASE];

@@ -12,11 +12,8 @@ end-requires c κs = search needs
 put-entry-requires : tie.Need-put-entry-requires
 put-entry-requires c κs = search needs
 
-reply-requires : tie.Need-reply-requires
-reply-requires c κs = search needs
-
-code-requires : tie.Need-code-requires
-code-requires c κs = search needs
+ended-code-requires : tie.Need-ended-code-requires
+ended-code-requires c κs = search needs
 
 returns : tie.Need-returns
 returns c = search (ended-is)
@@ -24,10 +21,4 @@ returns c = search (ended-is)
 pub ended-spec : {M : Type 1} → statement M
 ended-spec =
     tie.close
-    (tie.spec
-    entry-in-requires
-    end-requires
-    put-entry-requires
-    reply-requires
-    code-requires
-    returns)
+    (tie.spec entry-in-requires end-requires put-entry-requires ended-code-requires returns)

@@ -19,14 +19,8 @@ abbrev μ-loop : tie.MeasureT-loop
 loop-holds : tie.Need-loop-holds Inv-loop μ-loop
 loop-holds c = (omega arith, none-first _)
 
-mul-t6 : tie.Need-mul-t6 Inv-loop μ-loop
-mul-t6 c = search needs
-
-element-copy-out-t9 : tie.Need-element-copy-out-t9 Inv-loop μ-loop
-element-copy-out-t9 c = search needs
-
-awaits-requires : tie.Need-awaits-requires Inv-loop μ-loop
-awaits-requires c κs = search needs
+awaits-at-requires : tie.Need-awaits-at-requires Inv-loop μ-loop
+awaits-at-requires c κs = search needs
 
 returns : tie.Need-returns Inv-loop μ-loop
 unfolding firstIn
@@ -52,9 +46,7 @@ first-awaiting-spec =
     Inv-loop
     μ-loop
     loop-holds
-    mul-t6
-    element-copy-out-t9
-    awaits-requires
+    awaits-at-requires
     returns
     add-g
     loop-less

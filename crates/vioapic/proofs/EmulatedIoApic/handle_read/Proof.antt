@@ -1,7 +1,6 @@
-use Rattle.utils.specs.Cases.{so}
-use Rattle.vioapic.proofs.ChipLaws.{read-served}
-use Rattle.utils.specs.Cases.{cases}
 use Rattle.vioapic.specs.IoApic.{handleRead}
+use Rattle.vioapic.proofs.ChipLaws.{read-served}
+use Rattle.utils.specs.Cases.{cases, so}
 use borrow.Author.Needs.{needs}
 use Rattle.vioapic.proofs.EmulatedIoApic.handle_read.Statement.{statement}
 use Rattle.vioapic.proofs.EmulatedIoApic.handle_read.Tie as tie

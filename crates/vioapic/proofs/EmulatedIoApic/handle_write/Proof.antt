@@ -1,6 +1,6 @@
-use Rattle.utils.specs.Cases.{cases}
-use Rattle.vioapic.proofs.ChipLaws.{wrote-is}
 use Rattle.vioapic.specs.IoApic.{handleWrite}
+use Rattle.vioapic.proofs.ChipLaws.{wrote-is}
+use Rattle.utils.specs.Cases.{cases}
 use borrow.Author.Needs.{needs}
 use Rattle.vioapic.proofs.EmulatedIoApic.handle_write.Statement.{statement}
 use Rattle.vioapic.proofs.EmulatedIoApic.handle_write.Tie as tie
