@@ -427,63 +427,81 @@ row! {
 
 const OPEN: [(usize, usize); 2] = [(0x21, 0), (0xa1, 0)];
 
-row! {
-    pic_claim_eoi_4, pic, OPEN, (irq = 4, master = 0x20, eoi = 0x20), |sum|,
-    original(pic) {
-        sum += vector(pic.claim_irq(irq as u8).map(|claim| claim.vector()));
-        sum += wrote(pic.handle_write((master as u16).into(), x86_vlapic::X86AccessWidth::Byte, eoi as usize));
-    }
-    boundary(words) {
-        sum += first(sillwander_pic_claim_irq(words, irq));
-        sum += code_wrote(sillwander_pic_handle_write(words, master, 1, eoi));
-    }
-    ours(pic) {
-        sum += vector(pic.lend(|pic| pic.claim_irq(irq as u8)).map(|claim| claim.vector()));
-        sum += our_wrote(pic.lend(|pic| pic.handle_write((master as u16).into(), sillwander::X86AccessWidth::Byte, eoi as usize)));
-    }
+macro_rules! pic_claim_eoi_4_row {
+    ($name:ident, $chip:ident) => {
+        row! {
+            $name, $chip, OPEN, (irq = 4, master = 0x20, eoi = 0x20), |sum|,
+            original(pic) {
+                sum += vector(pic.claim_irq(irq as u8).map(|claim| claim.vector()));
+                sum += wrote(pic.handle_write((master as u16).into(), x86_vlapic::X86AccessWidth::Byte, eoi as usize));
+            }
+            boundary(words) {
+                sum += first(sillwander_pic_claim_irq(words, irq));
+                sum += code_wrote(sillwander_pic_handle_write(words, master, 1, eoi));
+            }
+            ours(pic) {
+                sum += vector(pic.lend(|pic| pic.claim_irq(irq as u8)).map(|claim| claim.vector()));
+                sum += our_wrote(pic.lend(|pic| pic.handle_write((master as u16).into(), sillwander::X86AccessWidth::Byte, eoi as usize)));
+            }
+        }
+    };
 }
+pic_claim_eoi_4_row!(pic_claim_eoi_4, pic);
+pic_claim_eoi_4_row!(pic_claim_eoi_4_cascade, cascade);
 
-row! {
-    pic_claim_eoi_12, pic, OPEN, (irq = 12, master = 0x20, slave = 0xa0, eoi = 0x20), |sum|,
-    original(pic) {
-        sum += vector(pic.claim_irq(irq as u8).map(|claim| claim.vector()));
-        sum += wrote(pic.handle_write((slave as u16).into(), x86_vlapic::X86AccessWidth::Byte, eoi as usize));
-        sum += wrote(pic.handle_write((master as u16).into(), x86_vlapic::X86AccessWidth::Byte, eoi as usize));
-    }
-    boundary(words) {
-        sum += first(sillwander_pic_claim_irq(words, irq));
-        sum += code_wrote(sillwander_pic_handle_write(words, slave, 1, eoi));
-        sum += code_wrote(sillwander_pic_handle_write(words, master, 1, eoi));
-    }
-    ours(pic) {
-        sum += vector(pic.lend(|pic| pic.claim_irq(irq as u8)).map(|claim| claim.vector()));
-        sum += our_wrote(pic.lend(|pic| pic.handle_write((slave as u16).into(), sillwander::X86AccessWidth::Byte, eoi as usize)));
-        sum += our_wrote(pic.lend(|pic| pic.handle_write((master as u16).into(), sillwander::X86AccessWidth::Byte, eoi as usize)));
-    }
+macro_rules! pic_claim_eoi_12_row {
+    ($name:ident, $chip:ident) => {
+        row! {
+            $name, $chip, OPEN, (irq = 12, master = 0x20, slave = 0xa0, eoi = 0x20), |sum|,
+            original(pic) {
+                sum += vector(pic.claim_irq(irq as u8).map(|claim| claim.vector()));
+                sum += wrote(pic.handle_write((slave as u16).into(), x86_vlapic::X86AccessWidth::Byte, eoi as usize));
+                sum += wrote(pic.handle_write((master as u16).into(), x86_vlapic::X86AccessWidth::Byte, eoi as usize));
+            }
+            boundary(words) {
+                sum += first(sillwander_pic_claim_irq(words, irq));
+                sum += code_wrote(sillwander_pic_handle_write(words, slave, 1, eoi));
+                sum += code_wrote(sillwander_pic_handle_write(words, master, 1, eoi));
+            }
+            ours(pic) {
+                sum += vector(pic.lend(|pic| pic.claim_irq(irq as u8)).map(|claim| claim.vector()));
+                sum += our_wrote(pic.lend(|pic| pic.handle_write((slave as u16).into(), sillwander::X86AccessWidth::Byte, eoi as usize)));
+                sum += our_wrote(pic.lend(|pic| pic.handle_write((master as u16).into(), sillwander::X86AccessWidth::Byte, eoi as usize)));
+            }
+        }
+    };
 }
+pic_claim_eoi_12_row!(pic_claim_eoi_12, pic);
+pic_claim_eoi_12_row!(pic_claim_eoi_12_cascade, cascade);
 
-row! {
-    pic_claim_restore_12, pic, OPEN, (irq = 12), |sum|,
-    original(pic) {
-        if let Some(claim) = pic.claim_irq(irq as u8) {
-            sum += u64::from(claim.vector());
-            pic.restore_interrupt(claim);
+macro_rules! pic_claim_restore_12_row {
+    ($name:ident, $chip:ident) => {
+        row! {
+            $name, $chip, OPEN, (irq = 12), |sum|,
+            original(pic) {
+                if let Some(claim) = pic.claim_irq(irq as u8) {
+                    sum += u64::from(claim.vector());
+                    pic.restore_interrupt(claim);
+                }
+            }
+            boundary(words) {
+                let code = sillwander_pic_claim_irq(words, irq);
+                if code != 0 {
+                    sum += code & 0xff;
+                    sillwander_pic_restore_interrupt(words, code);
+                }
+            }
+            ours(pic) {
+                if let Some(claim) = pic.lend(|pic| pic.claim_irq(irq as u8)) {
+                    sum += u64::from(claim.vector());
+                    pic.lend(|pic| pic.restore_interrupt(claim));
+                }
+            }
         }
-    }
-    boundary(words) {
-        let code = sillwander_pic_claim_irq(words, irq);
-        if code != 0 {
-            sum += code & 0xff;
-            sillwander_pic_restore_interrupt(words, code);
-        }
-    }
-    ours(pic) {
-        if let Some(claim) = pic.lend(|pic| pic.claim_irq(irq as u8)) {
-            sum += u64::from(claim.vector());
-            pic.lend(|pic| pic.restore_interrupt(claim));
-        }
-    }
+    };
 }
+pic_claim_restore_12_row!(pic_claim_restore_12, pic);
+pic_claim_restore_12_row!(pic_claim_restore_12_cascade, cascade);
 
 row! {
     pic_pending_none, pic, OPEN, (), |sum|,
@@ -500,22 +518,28 @@ row! {
     ours(pic) { sum += vector(pic.lend(|pic| pic.pulse_irq(irq as u8))) + vector(pic.lend(|pic| pic.next_interrupt())); }
 }
 
-row! {
-    pic_mask_write_read, pic, OPEN, (data = 0xa1, mask = 0x0f), |sum|,
-    original(pic) {
-        sum += wrote(pic.handle_write((data as u16).into(), x86_vlapic::X86AccessWidth::Byte, mask as usize));
-        sum += pic.handle_read((data as u16).into(), x86_vlapic::X86AccessWidth::Byte).unwrap_or(1) as u64;
-    }
-    boundary(words) {
-        sum += code_wrote(sillwander_pic_handle_write(words, data, 1, mask));
-        let code = sillwander_pic_handle_read(words, data, 1);
-        sum += if code >> 56 == 0 { code & 0xffff_ffff } else { 1 };
-    }
-    ours(pic) {
-        sum += our_wrote(pic.lend(|pic| pic.handle_write((data as u16).into(), sillwander::X86AccessWidth::Byte, mask as usize)));
-        sum += pic.lend(|pic| pic.handle_read((data as u16).into(), sillwander::X86AccessWidth::Byte)).unwrap_or(1) as u64;
-    }
+macro_rules! pic_mask_write_read_row {
+    ($name:ident, $chip:ident) => {
+        row! {
+            $name, $chip, OPEN, (data = 0xa1, mask = 0x0f), |sum|,
+            original(pic) {
+                sum += wrote(pic.handle_write((data as u16).into(), x86_vlapic::X86AccessWidth::Byte, mask as usize));
+                sum += pic.handle_read((data as u16).into(), x86_vlapic::X86AccessWidth::Byte).unwrap_or(1) as u64;
+            }
+            boundary(words) {
+                sum += code_wrote(sillwander_pic_handle_write(words, data, 1, mask));
+                let code = sillwander_pic_handle_read(words, data, 1);
+                sum += if code >> 56 == 0 { code & 0xffff_ffff } else { 1 };
+            }
+            ours(pic) {
+                sum += our_wrote(pic.lend(|pic| pic.handle_write((data as u16).into(), sillwander::X86AccessWidth::Byte, mask as usize)));
+                sum += pic.lend(|pic| pic.handle_read((data as u16).into(), sillwander::X86AccessWidth::Byte)).unwrap_or(1) as u64;
+            }
+        }
+    };
 }
+pic_mask_write_read_row!(pic_mask_write_read, pic);
+pic_mask_write_read_row!(pic_mask_write_read_cascade, cascade);
 
 // DFR flat, LDR 2: the original's page starts with DFR 0.
 const FLAT: [(usize, usize); 2] = [(0xe0, 0xffff_ffff), (0xd0, 0x0200_0000)];
@@ -624,6 +648,10 @@ pub const ROWS: &[&Row] = &[
     &pic_pending_none::ROW,
     &pic_pulse_masked::ROW,
     &pic_mask_write_read::ROW,
+    &pic_claim_eoi_4_cascade::ROW,
+    &pic_claim_eoi_12_cascade::ROW,
+    &pic_claim_restore_12_cascade::ROW,
+    &pic_mask_write_read_cascade::ROW,
     &accept_eoi_31::ROW,
     &accept_eoi_f1::ROW,
     &icr_self::ROW,

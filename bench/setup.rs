@@ -39,6 +39,7 @@ unsafe extern "C" {
     pub safe fn sillwander_ioapic_handle_read(words: &io::Words, addr: u64, width: u64) -> u64;
     pub safe fn sillwander_ioapic_handle_write(words: &mut io::Words, addr: u64, width: u64, value: u64) -> u64;
     pub safe fn sillwander_pic_new(words: &mut pic::Words) -> u64;
+    pub safe fn sillwander_pic_new_rule(words: &mut pic::Words, rule: u64) -> u64;
     pub safe fn sillwander_pic_claim_irq(words: &mut pic::Words, irq: u64) -> u64;
     pub safe fn sillwander_pic_claim_pending_interrupt(words: &mut pic::Words) -> u64;
     pub safe fn sillwander_pic_pulse_irq(words: &mut pic::Words, irq: u64) -> u64;
@@ -157,6 +158,10 @@ pub mod pic {
     pub fn words(setup: &[(usize, usize)]) -> Words {
         let mut words = [0; 4];
         sillwander_pic_new(&mut words);
+        programmed(words, setup)
+    }
+
+    pub fn programmed(mut words: Words, setup: &[(usize, usize)]) -> Words {
         for (port, byte) in setup {
             sillwander_pic_handle_write(&mut words, *port as u64, 1, *byte as u64);
         }
@@ -164,11 +169,37 @@ pub mod pic {
     }
 
     pub fn ours(setup: &[(usize, usize)]) -> Ours {
-        let mut pic = Ours::new();
+        ours_programmed(Ours::new(), setup)
+    }
+
+    pub fn ours_programmed(mut pic: Ours, setup: &[(usize, usize)]) -> Ours {
         for (port, byte) in setup {
             pic.handle_write((*port as u16).into(), sillwander::X86AccessWidth::Byte, *byte).expect("the port takes it");
         }
         pic
+    }
+}
+
+/// The pair of rule 1, which the original doesn't have: beside it stands the original's.
+pub mod cascade {
+    use super::{pic, sillwander_pic_new_rule};
+
+    pub type Original = pic::Original;
+    pub type Words = pic::Words;
+    pub type Ours = pic::Ours;
+
+    pub fn original(setup: &[(usize, usize)]) -> Original {
+        pic::original(setup)
+    }
+
+    pub fn words(setup: &[(usize, usize)]) -> Words {
+        let mut words = [0; 4];
+        sillwander_pic_new_rule(&mut words, 1);
+        pic::programmed(words, setup)
+    }
+
+    pub fn ours(setup: &[(usize, usize)]) -> Ours {
+        pic::ours_programmed(Ours::new_rule(sillwander::PicRule::Cascade), setup)
     }
 }
 

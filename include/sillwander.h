@@ -38,7 +38,7 @@ extern "C" {
 #define SILLWANDER_OF_THREE(code, k) ((uint32_t)((uint64_t)(code) >> (16 * (k)) & 0xffff))  /* value k, from 0, of three */
 
 /* The numbers of refusals. */
-#define SILLWANDER_UNSUPPORTED 1      /* an access width, or a port that the PIC doesn't have */
+#define SILLWANDER_UNSUPPORTED 1      /* an access width, a port that the PIC doesn't have, or a version or rule that there isn't */
 #define SILLWANDER_INVALID_REGISTER 2 /* a local register not listed for that use, or written in the wrong mode or width */
 #define SILLWANDER_INVALID_DELIVERY 3 /* an interrupt command's delivery mode, or the destination format's model */
 #define SILLWANDER_INVALID_ADDRESS 4  /* an address below the I/O APIC, or a base and size whose sum doesn't fit in 64 bits */
@@ -101,14 +101,21 @@ uint64_t sillwander_ioapic_handle_write(uint64_t words[32], uint64_t addr, uint6
  *          bits 23..16  requests           bit  41      single
  *          bits 31..24  in service         bit  42      automatic EOI
  *                                          bit  43      a command port reads the lines in service
- *    2, 3  spare: 0 in a new state, and no call reads or writes them
+ *    2   the rule: 1; any other number is 0
+ *    3   spare: 0 in a new state, and no call reads or writes it
  *
  * Bits 63..44 of words 0 and 1 are ignored; a new pair has them 0, and every other call keeps them.
+ *
+ * Rule 1 is the 8259A's cascade: a call that changes the pair leaves the master's request 2 set exactly when a request of the slave counts, one that is unmasked and
+ * above every line in service on the slave. By rule 0 request 2 is a latch, which a slave's line sets and one acknowledgement clears for all lines that wait.
  */
 #define SILLWANDER_PIC_WORDS 4
 
-/* A new pair. Answers 0. */
+/* A new pair of rule 0. Answers 0. */
 uint64_t sillwander_pic_new(uint64_t words[4]);
+
+/* A new pair of rule 0 or 1. Refused: 1 for another number. */
+uint64_t sillwander_pic_new_rule(uint64_t words[4], uint64_t rule);
 
 /* Writes the first and last port of the master and of the slave to ranges[0..3]. Answers 0. */
 uint64_t sillwander_pic_port_ranges(uint64_t ranges[4]);

@@ -260,7 +260,7 @@ def local_setups():
 
 
 def one_of_each():
-    """A short script with every tag once."""
+    """A short script with every tag of document 01 once."""
     return [io_read(IO_BASE), select(0x10), line(2, 1), assert_gsi(2), io_eoi(0x30), pic_read(0x21), pic_write(0x21, 0), claim(3),
             claim_pending(), restore(0x0B, 3, 1), accept(0x31, 1), local_write(TPR, 0x2F), local_eoi(), local_read(PPR), setup(1, 2, 3, 7)]
 
@@ -283,6 +283,22 @@ def damages(thin):
     codes = [0, 1, 2, 3, 4, 5, 7, 8, 9, 16, 128, 255] if thin else range(256)
     for tag, code in itertools.product(WITH_WIDTH, codes):
         yield fields[8] + bytes([tag, LENGTH[tag], 0, code]) + bytes(LENGTH[tag] - 1) + fields[9]
+
+
+def choices():
+    """Document 02's choices that name what the Rust is: before all else, before their chip's fields, and too late; and bytes that name nothing."""
+    fields = one_of_each()
+    whole = b"".join(fields)
+    named = {tag: field(tag, byte) for tag, (byte, _) in CHOICES.items()}
+    for order in itertools.permutations(named.values()):
+        yield b"".join(order) + whole
+        yield order[0] + whole + order[0]
+    for (tag, choice), n in itertools.product(named.items(), range(len(fields) + 1)):
+        yield b"".join(fields[:n]) + choice + b"".join(fields[n:])
+        yield b"".join(f for f in fields[:n] if f[0] >> 4 != tag >> 4) + choice + b"".join(fields[n:])
+    for tag, (byte, unjudged) in CHOICES.items():
+        yield from (field(tag, other) + whole for other in (0, 1, 2, 3, 0x10, 0x11, 0x12, 0x20, 0x21, 255) if other != unjudged)
+        yield from (bytes([tag, length, 0]) + bytes([byte] * length) + whole for length in (0, 2, 17))
 
 
 def exactly(size):
@@ -311,6 +327,7 @@ def whole_domains(thin):
     for family in families:
         yield from packed(family)
     yield from damages(thin)
+    yield from choices()
     yield from around_longest()
 
 
@@ -410,7 +427,7 @@ def random_command(dice, x2):
 
 def random_field(dice):
     """A field with a right length and width code, and any numbers; often small ones or the ones that mean something."""
-    tag = dice.pick(list(TAGS))
+    tag = dice.pick([tag for tag in TAGS if tag not in CHOICES])
     values = []
     for part, size in TAGS[tag][1]:
         likely = {

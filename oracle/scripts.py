@@ -3,24 +3,28 @@
 LONGEST = 65536
 IO_BASE = 0xFEC00000
 
-# A tag's name, and its body's parts with their sizes in bytes. (Document 01, "Scripts".)
+# A tag's name, and its body's parts with their sizes in bytes. (Document 01, "Scripts"; 06 and 16, document 02.)
 TAGS = {
     0x01: ("I/O read", [("width", 1), ("address", 8)]),
     0x02: ("I/O write", [("width", 1), ("address", 8), ("value", 8)]),
     0x03: ("line", [("gsi", 1), ("up", 1)]),
     0x04: ("assert", [("gsi", 1)]),
     0x05: ("I/O EOI", [("vector", 1)]),
+    0x06: ("I/O version", [("version", 1)]),
     0x10: ("PIC read", [("width", 1), ("port", 2)]),
     0x11: ("PIC write", [("width", 1), ("port", 2), ("value", 8)]),
     0x12: ("claim", [("line", 1)]),
     0x13: ("claim pending", []),
     0x14: ("restore", [("vector", 1), ("line", 1), ("flags", 1)]),
+    0x16: ("PIC rule", [("rule", 1)]),
     0x20: ("accept", [("vector", 1), ("level", 1)]),
     0x21: ("local write", [("width", 1), ("offset", 2), ("value", 8)]),
     0x22: ("local EOI", []),
     0x23: ("local read", [("offset", 2)]),
     0x24: ("setup", [("x2", 1), ("id", 1), ("count", 1), ("active", 8)]),
 }
+# The choices of what a chip is: the byte that names what the Rust is, and the one to which it has no answer.
+CHOICES = {0x06: (0x11, 0x20), 0x16: (0, 1)}
 LENGTH = {tag: sum(size for _, size in parts) for tag, (_, parts) in TAGS.items()}
 WITH_WIDTH = [tag for tag, (_, parts) in TAGS.items() if parts and parts[0][0] == "width"]
 
@@ -125,9 +129,11 @@ def split(script):
     return fields
 
 
-def is_bad(piece):
-    """Whether a piece of `split` is a bad field."""
+def is_bad(piece, used=()):
+    """Whether a piece of `split` is a bad field, behind fields of the used chips (the high digits of their tags)."""
     right = LENGTH.get(piece[0]) == int.from_bytes(piece[1:3], "little") and len(piece) == 3 + LENGTH[piece[0]]
+    if right and piece[0] in CHOICES:
+        return piece[3] not in CHOICES[piece[0]] or piece[0] >> 4 in used
     return not right or (piece[0] in WITH_WIDTH and piece[3] not in (1, 2, 4, 8))
 
 
@@ -135,8 +141,13 @@ def count_lines(script):
     """How many lines a script prints: one a field, the first bad one included, or one alone if it is too long."""
     if len(script) > LONGEST:
         return 1
-    pieces = split(script)
-    return next((n + 1 for n, piece in enumerate(pieces) if is_bad(piece)), len(pieces))
+    lines, used = 0, set()
+    for piece in split(script):
+        lines += 1
+        if is_bad(piece, used):
+            break
+        used.add(piece[0] >> 4)
+    return lines
 
 
 def describe(piece):

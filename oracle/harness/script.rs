@@ -17,7 +17,7 @@ fn body_length(tag: u8) -> Option<usize> {
         0x01 => 9,
         0x02 => 17,
         0x03 | 0x20 | 0x23 => 2,
-        0x04 | 0x05 | 0x12 => 1,
+        0x04 | 0x05 | 0x06 | 0x12 | 0x16 => 1,
         0x10 | 0x14 => 3,
         0x11 | 0x21 => 11,
         0x13 | 0x22 => 0,
@@ -46,21 +46,26 @@ fn width(code: u8) -> Option<X86AccessWidth> {
     X86AccessWidth::try_from(usize::from(code)).ok()
 }
 
-/// The three chips of one run.
+/// The three chips of one run, and which of them were used, by the high digit of their tags.
 struct Machine {
     io_apic: IoApic,
     pic: Pic,
     local: Local,
+    used: [bool; 3],
 }
 
 impl Machine {
     fn new(alone: bool) -> Self {
-        Self { io_apic: IoApic::new(alone), pic: Pic::new(alone), local: Local::new(alone) }
+        Self { io_apic: IoApic::new(alone), pic: Pic::new(alone), local: Local::new(alone), used: [false; 3] }
     }
 
-    /// Performs a field; nothing if its width code is bad.
+    /// Performs a field; nothing if its width code is bad, or a choice is.
     fn call(&mut self, tag: u8, body: &[u8]) -> Option<Reply> {
+        let used = std::mem::replace(&mut self.used[usize::from(tag >> 4)], true);
         Some(match (tag, body) {
+            // HARNESS: document 02's choices. The Rust is version 0x11 and rule 0, so these change nothing; to the others it has no answer.
+            (0x06, [0x11]) | (0x16, [0]) if !used => Reply::done(Vec::new()).by_harness(),
+            (0x06 | 0x16, _) => return None,
             (0x01, [w, address @ ..]) => self.io_apic.read(width(*w)?, number(address)),
             (0x02, [w, rest @ ..]) => self.io_apic.write(width(*w)?, number(&rest[..8]), number(&rest[8..])),
             (0x03, [gsi, up]) => self.io_apic.line(*gsi, *up != 0),

@@ -535,6 +535,73 @@ static void versions(void)
 
 /* ---- Refusals: each leaves what was lent as it was. Numbers that don't fit are refused, and not cut. */
 
+/* Rule 1, the 8259A's cascade: examples 7 and 8 end otherwise. */
+static void cascade_rule(void)
+{
+    start("example 7 by rule 1");
+    EXPECT(sillwander_pic_new_rule(pic, 1), NONE);
+    CHECK(pic[2] == 1 && pic[3] == 0);
+    open_masks();
+    EXPECT(claim(12), three(0x74, 12, 3));
+    EXPECT(claim(13), NONE);
+    EXPECT(claim(14), NONE);
+    EXPECT(outb(0xa0, 0x20), NONE);
+    EXPECT(outb(0x20, 0x20), NONE);
+    EXPECT(pending(), three(0x75, 13, 3));
+    EXPECT(outb(0xa0, 0x20), NONE);
+    EXPECT(inb(0x20), one(4)); /* the slave asks again */
+    EXPECT(outb(0x20, 0x20), NONE);
+    EXPECT(pending(), three(0x76, 14, 3));
+    EXPECT(inb(0x20), one(0));
+    EXPECT(inb(0xa0), one(0));
+
+    start("example 8 by rule 1");
+    EXPECT(sillwander_pic_new_rule(pic, 1), NONE);
+    open_masks();
+    IDLE(pic_lent, claim(2));
+    IDLE(pic_lent, sillwander_pic_pulse_irq(pic, 2));
+    EXPECT(inb(0x20), one(0));
+
+    start("a claim restored at once, by rule 1");
+    EXPECT(sillwander_pic_new_rule(pic, 1), NONE);
+    open_masks();
+    EXPECT(outb(0xa1, 0x10), NONE); /* line 12 is masked */
+    EXPECT(claim(12), NONE);
+    EXPECT(inb(0x20), one(0));
+    EXPECT(claim(13), three(0x75, 13, 3));
+    EXPECT(sillwander_pic_restore_interrupt(pic, claim_code(0x75, 13, 3)), NONE);
+    EXPECT(inb(0xa0), one(0x30));
+    EXPECT(inb(0x20), one(4));
+    CHECK((pic[0] >> 24 & 0xff) == 0 && (pic[1] >> 24 & 0xff) == 0);
+    EXPECT(outb(0xa1, 0x30), NONE); /* masked, it no longer counts; unmasked, it does */
+    EXPECT(inb(0x20), one(0));
+    EXPECT(outb(0xa1, 0), NONE);
+    EXPECT(inb(0x20), one(4));
+    EXPECT(outb(0x20, 0x11), NONE); /* ICW1 clears the master's requests, and the slave still asks */
+    EXPECT(inb(0x20), one(4));
+    EXPECT(outb(0xa0, 0x11), NONE);
+    EXPECT(inb(0x20), one(0));
+
+    start("a pair that breaks the rule");
+    EXPECT(sillwander_pic_new_rule(pic, 1), NONE);
+    open_masks();
+    pic[0] |= 1 << 18;
+    EXPECT(pending(), three(0x0a, 2, 1));
+    EXPECT(sillwander_pic_restore_interrupt(pic, claim_code(0x0a, 2, 1)), NONE);
+    CHECK((pic[0] >> 16 & 0xffff) == 0);
+
+    start("rules");
+    memset(pic, 0xff, SILLWANDER_PIC_WORDS * 8);
+    EXPECT(sillwander_pic_new_rule(pic, 0), NONE);
+    CHECK(pic[2] == 0 && pic[3] == 0);
+    pic[2] = HIGH + 1; /* any number but 1 is rule 0 */
+    open_masks();
+    EXPECT(claim(2), three(0x0a, 2, 1));
+    uint64_t others[] = {2, 3, 0x11, 256, 257, HIGH, HIGH + 1, UINT64_MAX};
+    for (unsigned k = 0; k < sizeof others / sizeof *others; k++)
+        REFUSED(pic_lent, sillwander_pic_new_rule(pic, others[k]), SILLWANDER_UNSUPPORTED);
+}
+
 static void refusals_of_the_io_apic(void)
 {
     start("refusals of the I/O APIC");
@@ -695,7 +762,7 @@ static uint64_t sendable(void)
 }
 
 /* The calls by number: the I/O APIC's, the pair's, the local APIC's. */
-enum { NEW_STATES_OF_IO = 3, IO_EOI = 6, IO_WRITE = 9, OF_PAIR = 10, OF_LAPIC = 19, LAPIC_WRITES = 24, CALLS = 26 };
+enum { NEW_STATES_OF_IO = 3, IO_EOI = 6, IO_WRITE = 9, OF_PAIR = 10, PIC_PENDING = 14, PIC_READ = 18, OF_LAPIC = 20, LAPIC_WRITES = 25, CALLS = 27 };
 
 static uint64_t call(unsigned which)
 {
@@ -712,20 +779,21 @@ static uint64_t call(unsigned which)
     case 8: return sillwander_ioapic_handle_read(io, d % 2 ? io[27] + a % 32 : a, b);
     case 9: return sillwander_ioapic_handle_write(io, d % 2 ? io[27] + (a % 3 == 2 ? 0x40 : a % 3 * 16) : a, b, c);
     case 10: return sillwander_pic_new(pic);
-    case 11: return sillwander_pic_port_ranges(ranges);
-    case 12: return sillwander_pic_claim_irq(pic, a);
-    case 13: return sillwander_pic_claim_pending_interrupt(pic);
-    case 14: return sillwander_pic_pulse_irq(pic, a);
-    case 15: return sillwander_pic_next_interrupt(pic);
-    case 16: return sillwander_pic_restore_interrupt(pic, d % 2 ? claim_code(a % 257, b % 17, c % 5) : a);
-    case 17: return sillwander_pic_handle_read(pic, a, b);
-    case 18: return sillwander_pic_handle_write(pic, a, b, c);
-    case 19: return sillwander_lapic_new(lapic);
-    case 20: return sillwander_lapic_setup(lapic, a, b, c);
-    case 21: return sillwander_lapic_accept_interrupt(lapic, a, b);
-    case 22: return sillwander_lapic_handle_eoi(lapic);
-    case 23: return sillwander_lapic_handle_read(lapic, a);
-    case 24: return sillwander_lapic_handle_write(lapic, a, b, c, d % 70, e, ipi);
+    case 11: return sillwander_pic_new_rule(pic, d % 4 == 0 ? c : d % 2);
+    case 12: return sillwander_pic_port_ranges(ranges);
+    case 13: return sillwander_pic_claim_irq(pic, a);
+    case 14: return sillwander_pic_claim_pending_interrupt(pic);
+    case 15: return sillwander_pic_pulse_irq(pic, a);
+    case 16: return sillwander_pic_next_interrupt(pic);
+    case 17: return sillwander_pic_restore_interrupt(pic, d % 2 ? claim_code(a % 257, b % 17, c % 5) : a);
+    case 18: return sillwander_pic_handle_read(pic, a, b);
+    case 19: return sillwander_pic_handle_write(pic, a, b, c);
+    case 20: return sillwander_lapic_new(lapic);
+    case 21: return sillwander_lapic_setup(lapic, a, b, c);
+    case 22: return sillwander_lapic_accept_interrupt(lapic, a, b);
+    case 23: return sillwander_lapic_handle_eoi(lapic);
+    case 24: return sillwander_lapic_handle_read(lapic, a);
+    case 25: return sillwander_lapic_handle_write(lapic, a, b, c, d % 70, e, ipi);
     default: return sillwander_lapic_handle_write(lapic, 0x300, a * 0x9e3779b97f4a7c15 >> 44, b % 2 ? 4 : 8, d % 65, e, ipi);
     }
 }
@@ -757,7 +825,7 @@ static int only_its_chip_moved(unsigned which)
            (which >= OF_LAPIC || is_as_before(&lapic_lent));
 }
 
-static int makes_a_new_state(unsigned which) { return which < NEW_STATES_OF_IO || which == OF_PAIR || which == OF_LAPIC || which == OF_LAPIC + 1; }
+static int makes_a_new_state(unsigned which) { return which < NEW_STATES_OF_IO || which == OF_PAIR || which == OF_PAIR + 1 || which == OF_LAPIC || which == OF_LAPIC + 1; }
 
 static int spare_words_stayed(unsigned which)
 {
@@ -780,6 +848,29 @@ static int one_entry_moved(unsigned which, uint64_t code)
     return (flags & (flags - 1)) == 0 && io[27] == io_lent.before[27] && io[28] == io_lent.before[28];
 }
 
+/* The 8259A's output, bit by bit: a request that isn't masked, above every line in service. */
+static int asks(uint64_t chip)
+{
+    for (unsigned line = 0; line < 8; line++) {
+        if (chip >> (24 + line) & 1)
+            return 0;
+        if ((chip >> (16 + line) & 1) && !(chip >> (8 + line) & 1))
+            return 1;
+    }
+    return 0;
+}
+
+/* By rule 1 a call that isn't refused leaves the master's request 2 as the slave's output is: one on a line, a write, a restore, and a claim of something. */
+static int the_cascade_is_settled(unsigned which, uint64_t code)
+{
+    int claims = which == PIC_PENDING || which == PIC_PENDING + 2;
+    if (which <= OF_PAIR + 2 || which >= OF_LAPIC || which == PIC_READ || code >> 56 != 0 || (claims && code == 0))
+        return 1;
+    if ((which == PIC_PENDING - 1 || which == PIC_PENDING + 1) && memcmp(pic, pic_lent.before, 32) == 0)
+        return 1; /* a line that the pair hasn't, or nothing moved */
+    return pic[2] != 1 || (int)(pic[0] >> 18 & 1) == asks(pic[1]);
+}
+
 static void made_up_words(void)
 {
     part = "made-up words";
@@ -793,6 +884,8 @@ static void made_up_words(void)
                 io[gsi] = sendable();
         if (round % 4 < 2)
             io[29] = 0x20;
+        if (round % 2 == 0)
+            pic[2] = 1;
         if (round == 0) {
             memset(io, 0xff, SILLWANDER_IOAPIC_WORDS * 8);
             memset(pic, 0xff, SILLWANDER_PIC_WORDS * 8);
@@ -809,6 +902,7 @@ static void made_up_words(void)
             CHECK(only_its_chip_moved(which));
             CHECK(spare_words_stayed(which));
             CHECK(one_entry_moved(which, code));
+            CHECK(the_cascade_is_settled(which, code));
             CHECK(code >> 56 == 0 || refusal_kept_the_words(which, SILLWANDER_REFUSAL(code)));
         }
     }
@@ -858,6 +952,7 @@ int main(void)
     put_off_and_dropped();
     eoi_registers();
     versions();
+    cascade_rule();
     refusals_of_the_io_apic();
     refusals_of_the_pair();
     refusals_of_the_local_apic();

@@ -5,11 +5,12 @@ use mathlib.Core.List.{List, [], _∷_}
 use lib.Dec.{eqb}
 use lib.ListN.{length, getD}
 use Rattle.vioapic.specs.IoApic.{isVersion}
+use Rattle.vpic.specs.Pair.{isRule}
 use Rattle.fields.specs.declared.IoCall.the-variants as io
 use Rattle.fields.specs.declared.PicCall.the-variants as pic
 use Rattle.fields.specs.declared.ApicCall.the-variants as apic
 use Rattle.fields.specs.declared.Call.{Call}
-use Rattle.fields.specs.declared.Call.the-variants.{Io, IoVersion, Pic, Apic}
+use Rattle.fields.specs.declared.Call.the-variants.{Io, IoVersion, Pic, PicRule, Apic}
 use Rattle.fields.specs.declared.Body.{Body}
 use Rattle.fields.specs.declared.Body.the-variants.{Says, Malformed}
 
@@ -78,6 +79,7 @@ formats =
       «master_in_service» = bit0 (n 2);
       «slave_in_service» = bit1 (n 2);
     })))
+    ∷ format 0x16 isRule (1 ∷ []) (λ n. PicRule (n 0))  -- rule: 0 or 1
     ∷ format 0x20 anything (1 ∷ 1 ∷ []) (λ n. Apic (apic.AcceptInterrupt (record { 0 = n 0 }) (nonzero (n 1))))  -- vector, level
     ∷ format 0x21 isWidth (1 ∷ 2 ∷ 8 ∷ []) (λ n. Apic (apic.HandleWrite (n 1) (n 0) (n 2)))  -- width, offset, value
     ∷ format 0x22 anything [] (λ n. Apic apic.HandleEoi)

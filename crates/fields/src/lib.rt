@@ -10,6 +10,7 @@ use types::VcpuId;
 use types::Vector;
 use vioapic::is_version;
 use vpic::pair::PicInterruptClaim;
+use vpic::pair::is_rule;
 
 // Calls of the I/O APIC.
 pub enum IoCall {
@@ -47,11 +48,12 @@ pub enum ApicCall {
     },
 }
 
-// A call of a chip, or the choice of the I/O APIC's version, which makes a new one.
+// A call of a chip, or a choice, which makes a new one: of the I/O APIC's version, of the pair's rule.
 pub enum Call {
     Io(IoCall),
     IoVersion(u8),
     Pic(PicCall),
+    PicRule(u8),
     Apic(ApicCall),
 }
 
@@ -207,6 +209,10 @@ pub fn decode(tag: u8, body: &[u8]) -> Body
                 slave_in_service: flags / 2 % 2 == 1,
             });
             checked(body, 3, true, Call::Pic(call))
+        }
+        0x16 => {
+            let rule = byte(body, 0);
+            checked(body, 1, is_rule(rule), Call::PicRule(rule))
         }
         0x20 => {
             let call = ApicCall::AcceptInterrupt(Vector(byte(body, 0)), byte(body, 1) != 0);

@@ -28,7 +28,7 @@ fn print_fields(script: &[u8]) {
     let mut turns: usize = 0;
     while turns <= LIMIT {
         turns += 1;
-        let field = next_field(script, machine.io_used, next);
+        let field = next_field(script, machine.used, next);
         match field {
             Field::Good {
                 tag,

@@ -1,3 +1,5 @@
+pub mod Calls
 pub mod Heard
+pub mod Pairs
 pub mod Refusals
 pub mod Runs

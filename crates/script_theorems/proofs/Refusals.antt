@@ -10,7 +10,6 @@ use Rattle.types.specs.declared.Reply.the-variants as reply
 use Rattle.vioapic.specs.declared.EmulatedIoApic.{EmulatedIoApic}
 use Rattle.heard.proofs.Keeps.{refused-keeps}
 use Rattle.vpic.specs.declared.pair.EmulatedPic.{EmulatedPic}
-use Rattle.vpic_claims.specs.Statements as claims
 use Rattle.vpic_claims.proofs.Calls.{refused-unchanged}
 use Rattle.vlapic.specs.declared.VirtualApicRegs.{VirtualApicRegs}
 use Rattle.vlapic.specs.Priority.{findIsrv, broadcasts, acceptInterrupt, endOf, handleEoi}
@@ -20,24 +19,24 @@ use Rattle.vlapic.specs.Regs.{withCommand}
 use Rattle.vlapic_theorems.specs.Refusals as local
 use Rattle.vlapic_theorems.proofs.Refusals.{writes, setups}
 use Rattle.fields.specs.declared.PicCall.{PicCall}
-use Rattle.fields.specs.declared.PicCall.the-variants as pic
 use Rattle.fields.specs.declared.ApicCall.{ApicCall}
 use Rattle.fields.specs.declared.ApicCall.the-variants as apic
 use Rattle.fields.specs.declared.Call.{Call}
-use Rattle.fields.specs.declared.Call.the-variants.{Io, IoVersion, Pic, Apic}
+use Rattle.fields.specs.declared.Call.the-variants.{Io, IoVersion, Pic, PicRule, Apic}
 use Rattle.scripts.specs.declared.Machine.{Machine}
-use Rattle.scripts.specs.Machine.{ioCall, picOutcome, apicOutcome, onApic, withVcpus, setUpBy, setUp, performed}
+use Rattle.scripts.specs.Machine.{usedIo, usedPic, ioCall, picOutcome, apicOutcome, onApic, withVcpus, setUpBy, setUp, performed}
+use Rattle.script_theorems.proofs.Calls.{picCall, as-call}
 use Rattle.script_theorems.specs.Refusals.{isCommand, withWordsOf, having, Kept, RefusedUnchanged}
 
 -- a machine with one chip replaced
 withIo : Machine → EmulatedIoApic → Machine
-withIo m c = record { ioapic = c; pic = m .pic; apic = m .apic; «vcpu_num» = m .«vcpu_num»; «active_vcpus» = m .«active_vcpus»; «io_used» = true }
+withIo m c = record { ioapic = c; pic = m .pic; apic = m .apic; «vcpu_num» = m .«vcpu_num»; «active_vcpus» = m .«active_vcpus»; used = usedIo (m .used) }
 
 withPic : Machine → EmulatedPic → Machine
-withPic m c = record { ioapic = m .ioapic; pic = c; apic = m .apic; «vcpu_num» = m .«vcpu_num»; «active_vcpus» = m .«active_vcpus»; «io_used» = m .«io_used» }
+withPic m c = record { ioapic = m .ioapic; pic = c; apic = m .apic; «vcpu_num» = m .«vcpu_num»; «active_vcpus» = m .«active_vcpus»; used = usedPic (m .used) }
 
 withApic : Machine → VirtualApicRegs → Machine
-withApic m s = record { ioapic = m .ioapic; pic = m .pic; apic = s; «vcpu_num» = m .«vcpu_num»; «active_vcpus» = m .«active_vcpus»; «io_used» = m .«io_used» }
+withApic m s = record { ioapic = m .ioapic; pic = m .pic; apic = s; «vcpu_num» = m .«vcpu_num»; «active_vcpus» = m .«active_vcpus»; used = m .used }
 
 -- the machine itself is kept
 same : (m : Machine) (c : Call) (after : Machine) → after ≡ having m c → Kept m c after
@@ -45,12 +44,7 @@ same m c after e = record { but-words = ap (withWordsOf m) e; whole = λ n. e }
 
 -- a refused call of the pair, as one of its public calls
 pair-kept : (p : EmulatedPic) (c : PicCall) → (replyNumber (picOutcome p c .reply) ≡ 0 → ⊥) → picOutcome p c .state ≡ p
-unfolding claims.outcome
-pair-kept p (pic.HandleRead port width) n = refused-unchanged p (claims.handle-read port width) n
-pair-kept p (pic.HandleWrite port width value) n = refused-unchanged p (claims.handle-write port width value) n
-pair-kept p (pic.ClaimIrq irq) n = refused-unchanged p (claims.claim-irq irq) n
-pair-kept p pic.ClaimPendingInterrupt n = refused-unchanged p claims.claim-pending-interrupt n
-pair-kept p (pic.RestoreInterrupt claim) n = refused-unchanged p (claims.restore-interrupt claim) n
+pair-kept p c n = let k = refused-unchanged p (picCall c) in rw (as-call p c) (k (rw (as-call p c) at n))
 
 -- acceptance and EOI are never refused
 accept-done : (s : VirtualApicRegs) (v : _) (level : Bool) → replyNumber (acceptInterrupt s v level .reply) ≡ 0
@@ -97,4 +91,5 @@ unfolding performed withIo withPic
 machine-unchanged m (Io c) n = same m (Io c) _ (ap (withIo m) (refused-keeps (m .ioapic) (ioCall c) n))
 machine-unchanged m (IoVersion version) n = absurd (n refl)
 machine-unchanged m (Pic c) n = same m (Pic c) _ (ap (withPic m) (pair-kept (m .pic) c n))
+machine-unchanged m (PicRule rule) n = absurd (n refl)
 machine-unchanged m (Apic c) n = apic-kept m c n

@@ -11,6 +11,7 @@ use lib.ListN.{length, getD}
 use borrow.Author.Tests.{le-leb, leb-true, ltb-false}
 use Rattle.types.specs.declared.Reply.{Reply}
 use Rattle.fields.specs.declared.Call.{Call}
+use Rattle.fields.specs.declared.Call.the-variants.{Io, IoVersion, Pic, PicRule, Apic}
 use Rattle.fields.specs.declared.Body.{Body}
 use Rattle.fields.specs.declared.Body.the-variants.{Says, Malformed}
 use Rattle.fields.specs.declared.Cursor.{Cursor}
@@ -18,35 +19,36 @@ use Rattle.fields.specs.declared.Field.{Field}
 use Rattle.fields.specs.declared.Field.the-variants.{Good, Bad, End}
 use Rattle.fields.specs.Format.{decoded}
 use Rattle.fields.specs.Fields.{endAt, bodyAt, fieldOf, fieldAt}
+use Rattle.scripts.specs.declared.Used.{Used}
 use Rattle.scripts.specs.declared.Machine.{Machine}
 use Rattle.scripts.specs.declared.Run.{Run}
 use Rattle.scripts.specs.declared.Stop.{Stop}
 use Rattle.scripts.specs.declared.Stop.the-variants as stop
-use Rattle.scripts.specs.Late.{isIo, isLate, usedAfter, taken, fieldFor}
-use Rattle.scripts.specs.Machine.{newMachine, performed}
+use Rattle.scripts.specs.Late.{isLate, usedAfter, taken, fieldFor}
+use Rattle.scripts.specs.Machine.{unused, newMachine, performed}
 use Rattle.scripts.specs.Run.{byField, fieldCount, placeAfter, stopAfter, callsFrom, afterCalls, replies, runOf}
 use Rattle.scripts.proofs.Runs.{remembers}
-use Rattle.script_theorems.specs.Runs.{Counted, Together, InTwo, answersOf, AnsweredInTwo, anyIo, Remembered, LateIsBad, inTime, InTime, Within, Beyond, Ended, Ends}
+use Rattle.script_theorems.specs.Runs.{Counted, Together, InTwo, answersOf, AnsweredInTwo, bars, barred, Remembered, LateIsBad, inTime, InTime, Within, Beyond, Ended, Ends}
 
 -- ---- the count
 
-calls-counted : (s : List ℕ) (used : Bool) (at n : ℕ) → length (callsFrom s used at n) ≡ fieldCount s used at n
+calls-counted : (s : List ℕ) (used : Used) (at n : ℕ) → length (callsFrom s used at n) ≡ fieldCount s used at n
 unfolding callsFrom fieldCount
 calls-counted s used at zero = refl
 calls-counted s used at (suc n) = go (fieldFor s used at) (λ u next. calls-counted s u next n)
   where
-    go : (f : Field) → ((u : Bool) (next : ℕ) → length (callsFrom s u next n) ≡ fieldCount s u next n)
+    go : (f : Field) → ((u : Used) (next : ℕ) → length (callsFrom s u next n) ≡ fieldCount s u next n)
         → length (byField f (λ call next. call ∷ callsFrom s (usedAfter used call) next n) [] []) ≡ byField f (λ call next. suc (fieldCount s (usedAfter used call) next n)) 0 0
     go (Good tag c next) ih = ap suc (ih (usedAfter used c) (next .at))
     go Bad ih = refl
     go End ih = refl
 
 pub counted : Counted
-counted s m at n = (refl, calls-counted s (m .«io_used») at n)
+counted s m at n = (refl, calls-counted s (m .used) at n)
 
 -- ---- a field that isn't late stands there by itself
 
-taken-good : (used : Bool) (f : Field) (tag : ℕ) (c : Call) (next : Cursor) → taken used f ≡ Good tag c next → f ≡ Good tag c next
+taken-good : (used : Used) (f : Field) (tag : ℕ) (c : Call) (next : Cursor) → taken used f ≡ Good tag c next → f ≡ Good tag c next
 taken-good used (Good t d n) tag c next e = go (isLate used d) e
   where
     go : (b : Bool) → cond b Bad (Good t d n) ≡ Good tag c next → Good t d n ≡ Good tag c next
@@ -55,7 +57,7 @@ taken-good used (Good t d n) tag c next e = go (isLate used d) e
 taken-good used Bad tag c next e = let z : _≡_ {A = ℕ} 0 1 = cc in absurd (omega arith)
 taken-good used End tag c next e = let z : _≡_ {A = ℕ} 0 1 = cc in absurd (omega arith)
 
-taken-end : (used : Bool) (f : Field) → taken used f ≡ End → f ≡ End
+taken-end : (used : Used) (f : Field) → taken used f ≡ End → f ≡ End
 taken-end used (Good t d n) e = go (isLate used d) e
   where
     go : (b : Bool) → cond b Bad (Good t d n) ≡ End → Good t d n ≡ End
@@ -64,11 +66,11 @@ taken-end used (Good t d n) e = go (isLate used d) e
 taken-end used Bad e = let z : _≡_ {A = ℕ} 0 1 = cc in absurd (omega arith)
 taken-end used End e = refl
 
-good-at : (s : List ℕ) (used : Bool) (at tag : ℕ) (c : Call) (next : Cursor) → fieldFor s used at ≡ Good tag c next → fieldAt s at ≡ Good tag c next
+good-at : (s : List ℕ) (used : Used) (at tag : ℕ) (c : Call) (next : Cursor) → fieldFor s used at ≡ Good tag c next → fieldAt s at ≡ Good tag c next
 unfolding fieldFor
 good-at s used at tag c next e = taken-good used (fieldAt s at) tag c next e
 
-good-in-time : (s : List ℕ) (used : Bool) (at tag : ℕ) (c : Call) (next : Cursor) → fieldFor s used at ≡ Good tag c next → isLate used c ≡ false
+good-in-time : (s : List ℕ) (used : Used) (at tag : ℕ) (c : Call) (next : Cursor) → fieldFor s used at ≡ Good tag c next → isLate used c ≡ false
 unfolding fieldFor
 good-in-time s used at tag c next e = go (isLate used c) refl (sym (ap (taken used) (good-at s used at tag c next e)) ∙ e)
   where
@@ -81,7 +83,7 @@ unfolding callsFrom inTime
 in-time s used at zero = refl
 in-time s used at (suc n) = go (fieldFor s used at) refl (λ u next. in-time s u next n)
   where
-    go : (f : Field) → fieldFor s used at ≡ f → ((u : Bool) (next : ℕ) → inTime u (callsFrom s u next n) ≡ true)
+    go : (f : Field) → fieldFor s used at ≡ f → ((u : Used) (next : ℕ) → inTime u (callsFrom s u next n) ≡ true)
         → inTime used (byField f (λ call next. call ∷ callsFrom s (usedAfter used call) next n) [] []) ≡ true
     go (Good tag c next) e ih = rw (good-in-time s used at tag c next e) (ih (usedAfter used c) (next .at))
     go Bad e ih = refl
@@ -94,25 +96,40 @@ either true true c = refl
 either true false c = refl
 either false b c = refl
 
+late-after : (used : Used) (c d : Call) → isLate (usedAfter used c) d ≡ bars c d || isLate used d
+late-after used c (Io d) = refl
+late-after used c (IoVersion version) = refl
+late-after used c (Pic d) = refl
+late-after used c (PicRule rule) = refl
+late-after used c (Apic d) = refl
+
 pub remembered : Remembered
-unfolding afterCalls anyIo
-remembered m [] = refl
-remembered m (c ∷ cs) = remembered (performed m c .state) cs ∙ ap (λ (u : Bool). anyIo cs || u) (remembers m c) ∙ either (isIo c) (anyIo cs) (m .«io_used»)
+unfolding afterCalls barred
+remembered m [] d = refl
+remembered m (c ∷ cs) d =
+    remembered (performed m c .state) cs d ∙ ap (λ (u : Used). barred cs d || isLate u d) (remembers m c) ∙ ap (λ (b : Bool). barred cs d || b) (late-after (m .used) c d) ∙ either (bars c d) (barred cs d) (isLate (m .used) d)
 
 -- and a new machine remembers nothing
 or-false : (b : Bool) → b || false ≡ b
 or-false true = refl
 or-false false = refl
 
-new-unused : newMachine .«io_used» ≡ false
+new-unused : newMachine .used ≡ unused
 unfolding newMachine
 new-unused = refl
 
+never-late : (d : Call) → isLate unused d ≡ false
+never-late (Io d) = refl
+never-late (IoVersion version) = refl
+never-late (Pic d) = refl
+never-late (PicRule rule) = refl
+never-late (Apic d) = refl
+
 pub late-is-bad : LateIsBad
 unfolding fieldFor
-late-is-bad s a tag version next e =
-    let u = remembered newMachine (callsFrom s (newMachine .«io_used») 0 a) in
-    rw (e, u, new-unused, or-false (anyIo (callsFrom s false 0 a)))
+late-is-bad s a tag d next e =
+    let u = remembered newMachine (callsFrom s (newMachine .used) 0 a) d in
+    rw (e, u, new-unused, never-late d, or-false (barred (callsFrom s unused 0 a) d))
 
 -- ---- places
 
@@ -139,20 +156,20 @@ unfolding placeAfter
 within s used at zero h = h
 within s used at (suc n) h = go (fieldFor s used at) refl (λ u next k. within s u next n k)
   where
-    go : (f : Field) → fieldFor s used at ≡ f → ((u : Bool) (next : ℕ) → next ≤ length s → placeAfter s u next n ≤ length s)
+    go : (f : Field) → fieldFor s used at ≡ f → ((u : Used) (next : ℕ) → next ≤ length s → placeAfter s u next n ≤ length s)
         → byField f (λ call next. placeAfter s (usedAfter used call) next n) at at ≤ length s
     go (Good tag c next) e ih = ih (usedAfter used c) (next .at) (good-within s at tag c next (good-at s used at tag c next e))
     go Bad e ih = h
     go End e ih = h
 
-ends-at : (s : List ℕ) (used : Bool) (at : ℕ) → length s ≤ at → fieldFor s used at ≡ End
+ends-at : (s : List ℕ) (used : Used) (at : ℕ) → length s ≤ at → fieldFor s used at ≡ End
 unfolding fieldFor fieldAt
 ends-at s used at h = rw (le-leb (length s) at h)
 
 pub beyond : Beyond
 unfolding callsFrom fieldCount placeAfter afterCalls
 beyond s m at zero h = (refl, (refl, refl))
-beyond s m at (suc n) h = rw (ends-at s (m .«io_used») at h) (refl, (refl, refl))
+beyond s m at (suc n) h = rw (ends-at s (m .used) at h) (refl, (refl, refl))
 
 -- ---- the end
 
@@ -169,7 +186,7 @@ by-end s at e = go (leb (length s) at) (ltb (length s) (at + 3)) (ltb (length s)
     go false false false (Says call) t p = let z : _≡_ {A = ℕ} 0 1 = cc in absurd (omega arith)
     go false false false Malformed t p = let z : _≡_ {A = ℕ} 0 1 = cc in absurd (omega arith)
 
-end-at : (s : List ℕ) (used : Bool) (at : ℕ) → fieldFor s used at ≡ End → fieldAt s at ≡ End
+end-at : (s : List ℕ) (used : Used) (at : ℕ) → fieldFor s used at ≡ End → fieldAt s at ≡ End
 unfolding fieldFor
 end-at s used at e = taken-end used (fieldAt s at) e
 
@@ -183,30 +200,30 @@ one-more s n q h = ⊎-elim (λ w. inl (w .0, ap suc (w .1))) (λ w. inr w) h
 pub ends : Ends
 unfolding callsFrom fieldCount placeAfter stopAfter afterCalls
 ends s m at zero = inl (refl, refl)
-ends s m at (suc n) = go (fieldFor s (m .«io_used») at) refl (λ m′ next. ends s m′ next n)
+ends s m at (suc n) = go (fieldFor s (m .used) at) refl (λ m′ next. ends s m′ next n)
   where
-    go : (f : Field) → fieldFor s (m .«io_used») at ≡ f → ((m′ : Machine) (next : ℕ) → Ended (runOf s m′ next n) s n) → Ended (runOf s m at (suc n)) s (suc n)
+    go : (f : Field) → fieldFor s (m .used) at ≡ f → ((m′ : Machine) (next : ℕ) → Ended (runOf s m′ next n) s n) → Ended (runOf s m at (suc n)) s (suc n)
     go (Good tag c next) e ih =
         rw e (rw (remembers m c) at (one-more s n (runOf s (performed m c .state) (next .at) n) (ih (performed m c .state) (next .at))))
     go Bad e ih = rw e (inr (inr (refl, e)))
-    go End e ih = rw e (inr (inl (refl, by-end s at (end-at s (m .«io_used») at e))))
+    go End e ih = rw e (inr (inl (refl, by-end s at (end-at s (m .used) at e))))
 
 -- ---- in two
 
 -- a run from a place where there is no good field
 record Idle (s : List ℕ) (m : Machine) (at b : ℕ) (why : Stop) : Type 0 where
-  machine : afterCalls m (callsFrom s (m .«io_used») at b) ≡ m
-  answers : replies m (callsFrom s (m .«io_used») at b) ≡ []
-  done : fieldCount s (m .«io_used») at b ≡ 0
-  place : placeAfter s (m .«io_used») at b ≡ at
-  stop : 0 < b → stopAfter s (m .«io_used») at b ≡ why
+  machine : afterCalls m (callsFrom s (m .used) at b) ≡ m
+  answers : replies m (callsFrom s (m .used) at b) ≡ []
+  done : fieldCount s (m .used) at b ≡ 0
+  place : placeAfter s (m .used) at b ≡ at
+  stop : 0 < b → stopAfter s (m .used) at b ≡ why
 
-idle-bad : (s : List ℕ) (m : Machine) (at b : ℕ) → fieldFor s (m .«io_used») at ≡ Bad → Idle s m at b stop.BadField
+idle-bad : (s : List ℕ) (m : Machine) (at b : ℕ) → fieldFor s (m .used) at ≡ Bad → Idle s m at b stop.BadField
 unfolding callsFrom fieldCount placeAfter stopAfter afterCalls replies
 idle-bad s m at zero e = record { machine = refl; answers = refl; done = refl; place = refl; stop = λ h. absurd (omega arith) }
 idle-bad s m at (suc b) e = record { machine = rw e; answers = rw e; done = rw e; place = rw e; stop = λ h. rw e }
 
-idle-end : (s : List ℕ) (m : Machine) (at b : ℕ) → fieldFor s (m .«io_used») at ≡ End → Idle s m at b stop.End
+idle-end : (s : List ℕ) (m : Machine) (at b : ℕ) → fieldFor s (m .used) at ≡ End → Idle s m at b stop.End
 unfolding callsFrom fieldCount placeAfter stopAfter afterCalls replies
 idle-end s m at zero e = record { machine = refl; answers = refl; done = refl; place = refl; stop = λ h. absurd (omega arith) }
 idle-end s m at (suc b) e = record { machine = rw e; answers = rw e; done = rw e; place = rw e; stop = λ h. rw e }
@@ -227,9 +244,9 @@ after-nothing s m at b why w h = record {
 pub in-two : InTwo
 unfolding callsFrom fieldCount placeAfter stopAfter afterCalls
 in-two s m at zero b = rw (zero-add b) (record { machine = refl; done = omega arith; next = refl; stop = λ h. refl })
-in-two s m at (suc a) b = go (fieldFor s (m .«io_used») at) refl (λ m′ next. in-two s m′ next a b)
+in-two s m at (suc a) b = go (fieldFor s (m .used) at) refl (λ m′ next. in-two s m′ next a b)
   where
-    go : (f : Field) → fieldFor s (m .«io_used») at ≡ f
+    go : (f : Field) → fieldFor s (m .used) at ≡ f
         → ((m′ : Machine) (next : ℕ) → Together (runOf s m′ next a) (runOf s (runOf s m′ next a .machine) (runOf s m′ next a .next .at) b) (runOf s m′ next (a + b)) b)
         → Together (runOf s m at (suc a)) (runOf s (runOf s m at (suc a) .machine) (runOf s m at (suc a) .next .at) b) (runOf s m at (suc a + b)) b
     go (Good tag c next) e ih =
@@ -241,9 +258,9 @@ in-two s m at (suc a) b = go (fieldFor s (m .«io_used») at) refl (λ m′ next
 pub answered-in-two : AnsweredInTwo
 unfolding callsFrom fieldCount placeAfter stopAfter afterCalls replies
 answered-in-two s m at zero b = rw (zero-add b)
-answered-in-two s m at (suc a) b = go (fieldFor s (m .«io_used») at) refl (λ m′ next. answered-in-two s m′ next a b)
+answered-in-two s m at (suc a) b = go (fieldFor s (m .used) at) refl (λ m′ next. answered-in-two s m′ next a b)
   where
-    go : (f : Field) → fieldFor s (m .«io_used») at ≡ f
+    go : (f : Field) → fieldFor s (m .used) at ≡ f
         → ((m′ : Machine) (next : ℕ) → answersOf s m′ next (a + b) ≡ answersOf s m′ next a ++ answersOf s (runOf s m′ next a .machine) (runOf s m′ next a .next .at) b)
         → answersOf s m at (suc a + b) ≡ answersOf s m at (suc a) ++ answersOf s (runOf s m at (suc a) .machine) (runOf s m at (suc a) .next .at) b
     go (Good tag c next) e ih =

@@ -1,6 +1,6 @@
 -- The numbered examples 1 to 12 of document 01, about the definitions: one list under one statement, computed. Each is a list of calls on a new machine, what
--- each of them says back (the number, and then the values), and what is looked at in the machine after them. And two more of the same form, of T-01: last spring's lines in
--- both versions.
+-- each of them says back (the number, and then the values), and what is looked at in the machine after them. And four more of the same form: of T-01, last spring's lines in
+-- both versions; of T-02, examples 7 and 8 under the cascade rule.
 use Prim.Native.Nat.{ℕ}
 use mathlib.Core.Bool.{Bool, true, false}
 use mathlib.Core.List.{List, [], _∷_, map}
@@ -24,7 +24,7 @@ use Rattle.fields.specs.declared.IoCall.the-variants as io
 use Rattle.fields.specs.declared.PicCall.the-variants as pic
 use Rattle.fields.specs.declared.ApicCall.the-variants as apic
 use Rattle.fields.specs.declared.Call.{Call}
-use Rattle.fields.specs.declared.Call.the-variants.{Io, IoVersion, Pic, Apic}
+use Rattle.fields.specs.declared.Call.the-variants.{Io, IoVersion, Pic, PicRule, Apic}
 use Rattle.scripts.specs.declared.Machine.{Machine}
 use Rattle.scripts.specs.Machine.{newMachine, setUp, performed}
 use Rattle.scripts.specs.Run.{afterCalls, replies}
@@ -98,6 +98,20 @@ end = Apic apic.HandleEoi
 abbrev nothing : Machine → List ℕ
 nothing m = []
 
+-- examples 7 and 8, which T-02 asks under its rule too
+abbrev seventh : List Call
+seventh =
+    outb 0x21 0 ∷ outb 0xa1 0 ∷ claim 12 ∷ claim 13 ∷ claim 14 ∷ outb 0xa0 0x20 ∷ outb 0x20 0x20 ∷ pending ∷ outb 0xa0 0x20 ∷ outb 0x20 0x20 ∷ pending ∷ inb 0xa0 ∷ []
+
+abbrev eighth : List Call
+eighth =
+    outb 0x21 0 ∷ outb 0xa1 0 ∷ claim 2
+    ∷ Pic (pic.RestoreInterrupt (record { vector = record { 0 = 0x0a }; irq = record { 0 = 2 }; «master_in_service» = true; «slave_in_service» = false }))
+    ∷ []
+
+abbrev masterLines : Machine → List ℕ
+masterLines m = m .pic .state .master .request ∷ m .pic .state .master .«in_service» ∷ []
+
 -- ---- the list
 
 abbrev pub examples : List Example
@@ -146,8 +160,7 @@ examples =
     }
     ∷ record {
       number = 7;
-      calls =
-          outb 0x21 0 ∷ outb 0xa1 0 ∷ claim 12 ∷ claim 13 ∷ claim 14 ∷ outb 0xa0 0x20 ∷ outb 0x20 0x20 ∷ pending ∷ outb 0xa0 0x20 ∷ outb 0x20 0x20 ∷ pending ∷ inb 0xa0 ∷ [];
+      calls = seventh;
       says =
           (0 ∷ []) ∷ (0 ∷ []) ∷ (0 ∷ 0x74 ∷ 12 ∷ 3 ∷ []) ∷ (0 ∷ []) ∷ (0 ∷ []) ∷ (0 ∷ []) ∷ (0 ∷ []) ∷ (0 ∷ 0x75 ∷ 13 ∷ 3 ∷ []) ∷ (0 ∷ []) ∷ (0 ∷ []) ∷ (0 ∷ []) ∷ (0 ∷ 0x40 ∷ []) ∷ [];
       look = nothing;
@@ -155,12 +168,9 @@ examples =
     }
     ∷ record {
       number = 8;
-      calls =
-          outb 0x21 0 ∷ outb 0xa1 0 ∷ claim 2
-          ∷ Pic (pic.RestoreInterrupt (record { vector = record { 0 = 0x0a }; irq = record { 0 = 2 }; «master_in_service» = true; «slave_in_service» = false }))
-          ∷ [];
+      calls = eighth;
       says = (0 ∷ []) ∷ (0 ∷ []) ∷ (0 ∷ 0x0a ∷ 2 ∷ 1 ∷ []) ∷ (0 ∷ []) ∷ [];
-      look = λ m. m .pic .state .master .request ∷ m .pic .state .master .«in_service» ∷ [];
+      look = masterLines;
       seen = 4 ∷ 0 ∷ [];
     }
     ∷ record {
@@ -194,7 +204,7 @@ examples =
     ∷ []
 
 pub examples-hold : Holds examples
-unfolding set.with set.without set.outside set.lowest set.highest set.lastSet32 redirection.sendEntry redirection.raiseEntry redirection.lowerEntry redirection.endEntry redirection.writeLow redirection.writeHigh table.interruptForEntry table.setLevel table.firstAwaiting table.endOfEntry table.endOf table.vectorFor window.readFixed window.readWord window.readSelected window.writeWord window.writeSelected window.readAt window.writeAt vioapic.assertGsi vioapic.setGsiLevel vioapic.endOfInterrupt vioapic.vectorForGsi vioapic.addressRange vioapic.handleRead vioapic.handleWrite ioapic.outcome ioapic.run chip.opened chip.commanded chip.fed chip.commandRead chip.pulsed chip.counts chip.pendingLine chip.pendingIrq chip.acknowledged chip.acknowledge chip.unacknowledged pair.newState pair.latched pair.masterClaim pair.slaveClaim pair.claimPending pair.claimIrq pair.restored pair.portRead pair.writtenAt pair.portWritten pair.newPic vectors.highestFrom icr.destFieldMatched icr.destNoShorthand icr.calculateDest icr.command icr.selfIpi priority.priority priority.updatePpr priority.acceptInterrupt priority.handleEoi registers.handleRead registers.stored registers.writeStored vlapic.setup vlapic.writeIcr vlapic.writeIcrLow vlapic.writeSelfIpi vlapic.handleWrite newMachine setUp performed afterCalls replies
+unfolding set.with set.without set.outside set.lowest set.highest set.lastSet32 redirection.sendEntry redirection.raiseEntry redirection.lowerEntry redirection.endEntry redirection.writeLow redirection.writeHigh table.interruptForEntry table.setLevel table.firstAwaiting table.endOfEntry table.endOf table.vectorFor window.readFixed window.readWord window.readSelected window.writeWord window.writeSelected window.readAt window.writeAt vioapic.assertGsi vioapic.setGsiLevel vioapic.endOfInterrupt vioapic.vectorForGsi vioapic.addressRange vioapic.handleRead vioapic.handleWrite ioapic.outcome ioapic.run chip.opened chip.commanded chip.fed chip.commandRead chip.pulsed chip.counts chip.pendingLine chip.pendingIrq chip.asks chip.driven chip.acknowledged chip.acknowledge chip.unacknowledged pair.newState pair.settled pair.latched pair.masterClaim pair.slaveClaim pair.claimPending pair.claimIrq pair.restored pair.portRead pair.writtenAt pair.portWritten pair.newPic vectors.highestFrom icr.destFieldMatched icr.destNoShorthand icr.calculateDest icr.command icr.selfIpi priority.priority priority.updatePpr priority.acceptInterrupt priority.handleEoi registers.handleRead registers.stored registers.writeStored vlapic.setup vlapic.writeIcr vlapic.writeIcrLow vlapic.writeSelfIpi vlapic.handleWrite newMachine setUp performed afterCalls replies
 examples-hold = ((refl, refl), ((refl, refl), ((refl, refl), ((refl, refl), ((refl, refl), ((refl, refl), ((refl, refl), ((refl, refl), ((refl, refl), ((refl, refl), ((refl, refl), ((refl, refl), tt))))))))))))
 
 -- ---- T-01: lines 3 and 5 are held with one vector. In version 0x11 an EOI reaches line 3 alone, and a write at offset 0x40 is none; in version 0x20 both reach both lines
@@ -230,3 +240,29 @@ springs =
 pub springs-hold : Holds springs
 unfolding set.with set.without set.outside set.lowest set.highest set.lastSet32 redirection.sendEntry redirection.raiseEntry redirection.lowerEntry redirection.endEntry redirection.endEntry20 redirection.writeLow redirection.writeHigh table.interruptForEntry table.setLevel table.firstAwaiting table.endOfEntry table.endOfEvery table.endOf table.vectorFor window.readFixed window.readWord window.readSelected window.writeWord window.writeSelected window.readAt window.writeEoi window.writeAt vioapic.assertGsi vioapic.setGsiLevel vioapic.endOfInterrupt vioapic.vectorForGsi vioapic.addressRange vioapic.handleRead vioapic.handleWrite ioapic.outcome ioapic.run newMachine setUp performed afterCalls replies
 springs-hold = ((refl, refl), ((refl, refl), tt))
+
+-- ---- T-02: examples 7 and 8 under the cascade rule. Line 14 is answered once line 13 is done, and its request is gone; line 2, raised or restored, is no request
+
+abbrev pub cascades : List Example
+cascades =
+    record {
+      number = 7;
+      calls = PicRule 1 ∷ seventh;
+      says =
+          (0 ∷ []) ∷ (0 ∷ []) ∷ (0 ∷ []) ∷ (0 ∷ 0x74 ∷ 12 ∷ 3 ∷ []) ∷ (0 ∷ []) ∷ (0 ∷ []) ∷ (0 ∷ []) ∷ (0 ∷ []) ∷ (0 ∷ 0x75 ∷ 13 ∷ 3 ∷ []) ∷ (0 ∷ []) ∷ (0 ∷ [])
+          ∷ (0 ∷ 0x76 ∷ 14 ∷ 3 ∷ []) ∷ (0 ∷ 0 ∷ []) ∷ [];
+      look = nothing;
+      seen = [];
+    }
+    ∷ record {
+      number = 8;
+      calls = PicRule 1 ∷ eighth;
+      says = (0 ∷ []) ∷ (0 ∷ []) ∷ (0 ∷ []) ∷ (0 ∷ []) ∷ (0 ∷ []) ∷ [];
+      look = masterLines;
+      seen = 0 ∷ 0 ∷ [];
+    }
+    ∷ []
+
+pub cascades-hold : Holds cascades
+unfolding set.with set.without set.outside set.lowest set.highest set.lastSet32 chip.opened chip.commanded chip.fed chip.commandRead chip.pulsed chip.counts chip.pendingLine chip.pendingIrq chip.asks chip.driven chip.acknowledged chip.acknowledge chip.unacknowledged pair.newState pair.settled pair.latched pair.masterClaim pair.slaveClaim pair.claimPending pair.claimIrq pair.restored pair.portRead pair.writtenAt pair.portWritten pair.newPic newMachine setUp performed afterCalls replies
+cascades-hold = ((refl, refl), ((refl, refl), tt))

@@ -1,7 +1,7 @@
 -- Demand 3 for scripts, in both versions: the I/O APIC's fields of a script are a list of its public calls, on a new chip of the version that field 06 chooses, if there is
 -- one; the machine's I/O APIC after a run is the one after those calls, and the fields answer what they answer. So a device that holds its line is heard in every script.
 use Prim.Native.Nat.{ℕ, _+_, _-_}
-use mathlib.Core.Bool.{Bool, true, false}
+use mathlib.Core.Bool.{true, false}
 use mathlib.Core.List.{List, [], _∷_}
 use mathlib.Core.Path.{_≡_}
 use Rattle.types.specs.declared.Gsi.{Gsi}
@@ -17,7 +17,8 @@ use Rattle.heard.specs.Premises.{throughout, demanded}
 use Rattle.heard.specs.Heard20.{eoisAt, heldUp}
 use Rattle.fields.specs.declared.IoCall.the-variants.{SetGsiLevel}
 use Rattle.fields.specs.declared.Call.{Call}
-use Rattle.fields.specs.declared.Call.the-variants.{Io, IoVersion, Pic, Apic}
+use Rattle.fields.specs.declared.Call.the-variants.{Io, IoVersion, Pic, PicRule, Apic}
+use Rattle.scripts.specs.declared.Used.{Used}
 use Rattle.scripts.specs.declared.Machine.{Machine}
 use Rattle.scripts.specs.Machine.{newMachine, ioCall, chosen, performed}
 use Rattle.scripts.specs.Run.{callsFrom, afterCalls, runOf}
@@ -29,6 +30,7 @@ ioCalls [] = []
 ioCalls (Io c ∷ cs) = ioCall c ∷ ioCalls cs
 ioCalls (IoVersion version ∷ cs) = ioCalls cs
 ioCalls (Pic c ∷ cs) = ioCalls cs
+ioCalls (PicRule rule ∷ cs) = ioCalls cs
 ioCalls (Apic c ∷ cs) = ioCalls cs
 
 -- the chip that they are made on: a new one of the version chosen, where that is in time; else the machine's
@@ -37,6 +39,7 @@ startOf chip [] = chip
 startOf chip (Io c ∷ cs) = chip
 startOf chip (IoVersion version ∷ cs) = chosen version .state
 startOf chip (Pic c ∷ cs) = startOf chip cs
+startOf chip (PicRule rule ∷ cs) = startOf chip cs
 startOf chip (Apic c ∷ cs) = startOf chip cs
 
 -- what the I/O APIC's fields among them answer, 06 apart
@@ -45,6 +48,7 @@ ioReplies m [] = []
 ioReplies m (Io c ∷ cs) = performed m (Io c) .reply ∷ ioReplies (performed m (Io c) .state) cs
 ioReplies m (IoVersion version ∷ cs) = ioReplies (performed m (IoVersion version) .state) cs
 ioReplies m (Pic c ∷ cs) = ioReplies (performed m (Pic c) .state) cs
+ioReplies m (PicRule rule ∷ cs) = ioReplies (performed m (PicRule rule) .state) cs
 ioReplies m (Apic c ∷ cs) = ioReplies (performed m (Apic c) .state) cs
 
 -- what a list of public calls answers, one after the other
@@ -58,24 +62,25 @@ scriptSends g m [] = 0
 scriptSends g m (Io c ∷ cs) = sent g (ioCall c) (performed m (Io c) .reply) + scriptSends g (performed m (Io c) .state) cs
 scriptSends g m (IoVersion version ∷ cs) = scriptSends g (performed m (IoVersion version) .state) cs
 scriptSends g m (Pic c ∷ cs) = scriptSends g (performed m (Pic c) .state) cs
+scriptSends g m (PicRule rule ∷ cs) = scriptSends g (performed m (PicRule rule) .state) cs
 scriptSends g m (Apic c ∷ cs) = scriptSends g (performed m (Apic c) .state) cs
 
 -- the machine's I/O APIC after calls of which none is late, as those of every run (`InTime`), and what it answered
 abbrev pub IoApicRuns : Type 0
 IoApicRuns =
-    (used : Bool) (m : Machine) (cs : List Call)
+    (used : Used) (m : Machine) (cs : List Call)
     → inTime used cs ≡ true
     → afterCalls m cs .ioapic ≡ ioapic.run (startOf (m .ioapic) cs) (ioCalls cs)
 
 abbrev pub IoApicAnswers : Type 0
 IoApicAnswers =
-    (used : Bool) (m : Machine) (cs : List Call)
+    (used : Used) (m : Machine) (cs : List Call)
     → inTime used cs ≡ true
     → ioReplies m cs ≡ answers (startOf (m .ioapic) cs) (ioCalls cs)
 
 abbrev pub IoApicSends : Type 0
 IoApicSends =
-    (used : Bool) (g : ℕ) (m : Machine) (cs : List Call)
+    (used : Used) (g : ℕ) (m : Machine) (cs : List Call)
     → inTime used cs ≡ true
     → scriptSends g m cs ≡ sends g (startOf (m .ioapic) cs) (ioCalls cs)
 
@@ -90,7 +95,7 @@ MachinesKeepRules = MachineRules newMachine × ((m : Machine) (cs : List Call) �
 
 -- where a run from a new machine has come after a fields, and the calls of the next b
 abbrev pub callsAfter : List ℕ → ℕ → ℕ → List Call
-callsAfter s a b = callsFrom s (runOf s newMachine 0 a .machine .«io_used») (runOf s newMachine 0 a .next .at) b
+callsAfter s a b = callsFrom s (runOf s newMachine 0 a .machine .used) (runOf s newMachine 0 a .next .at) b
 
 -- demand 3 in version 0x11: after the first a fields of any script on a new machine the next b fields start by raising line g, which sends its level entry with vector v; then, if
 -- demand 3's premises hold while the fields `after` it are performed, the script sends entry g once, and once more for each EOI of v beyond the k that go to the lower entries in flight with v

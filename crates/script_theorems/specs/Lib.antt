@@ -1,4 +1,5 @@
 pub mod Examples
 pub mod Heard
+pub mod Pairs
 pub mod Refusals
 pub mod Runs

@@ -1,4 +1,4 @@
--- Demand 1 for scripts: a refused call hands back the machine that it was given, which remembers a call of the I/O APIC. An interrupt command that is refused for its
+-- Demand 1 for scripts: a refused call hands back the machine that it was given, which remembers a call of the I/O APIC or the pair. An interrupt command that is refused for its
 -- kind or destination has stored its words, and nothing else.
 use Prim.Native.Nat.{ℕ}
 use mathlib.Core.Bool.{Bool, false}
@@ -7,7 +7,7 @@ use lib.Dec.{eqb}
 use Rattle.types.specs.Reply.{Outcome, replyNumber}
 use Rattle.vlapic.specs.Regs.{withCommand}
 use Rattle.fields.specs.declared.Call.{Call}
-use Rattle.fields.specs.declared.Call.the-variants.{Io, IoVersion, Pic, Apic}
+use Rattle.fields.specs.declared.Call.the-variants.{Io, IoVersion, Pic, PicRule, Apic}
 use Rattle.fields.specs.declared.ApicCall.the-variants as apic
 use Rattle.scripts.specs.declared.Machine.{Machine}
 use Rattle.scripts.specs.Late.{usedAfter}
@@ -18,6 +18,7 @@ abbrev pub isCommand : Call → Bool
 isCommand (Io c) = false
 isCommand (IoVersion version) = false
 isCommand (Pic c) = false
+isCommand (PicRule rule) = false
 isCommand (Apic (apic.AcceptInterrupt vector level)) = false
 isCommand (Apic (apic.HandleWrite offset width value)) = eqb offset 0x300
 isCommand (Apic apic.HandleEoi) = false
@@ -32,10 +33,10 @@ withWordsOf m n = record {
   apic = withCommand (n .apic) (m .apic .«icr_lo») (m .apic .«icr_hi»);
   «vcpu_num» = n .«vcpu_num»;
   «active_vcpus» = n .«active_vcpus»;
-  «io_used» = n .«io_used»;
+  used = n .used;
 }
 
--- the machine m, which remembers the call; a call of another chip than the I/O APIC leaves nothing to remember
+-- the machine m, which remembers the call; a call of the local APIC leaves nothing to remember
 abbrev pub having : Machine → Call → Machine
 having m c = record {
   ioapic = m .ioapic;
@@ -43,7 +44,7 @@ having m c = record {
   apic = m .apic;
   «vcpu_num» = m .«vcpu_num»;
   «active_vcpus» = m .«active_vcpus»;
-  «io_used» = usedAfter (m .«io_used») c;
+  used = usedAfter (m .used) c;
 }
 
 pub record Kept (m : Machine) (c : Call) (after : Machine) : Type 0 where

@@ -7,12 +7,13 @@ use mathlib.Core.Path.{_≡_}
 use lib.ListN.{length}
 use Rattle.types.specs.declared.Reply.{Reply}
 use Rattle.fields.specs.declared.Call.{Call}
-use Rattle.fields.specs.declared.Call.the-variants.{IoVersion}
+use Rattle.fields.specs.declared.Call.the-variants.{Io, IoVersion, Pic, PicRule, Apic}
 use Rattle.fields.specs.declared.Cursor.{Cursor}
 use Rattle.fields.specs.declared.Field.the-variants.{Good, Bad}
 use Rattle.fields.specs.Fields.{fieldAt}
-use Rattle.scripts.specs.Late.{isIo, isLate, usedAfter, fieldFor}
-use Rattle.scripts.specs.Machine.{newMachine}
+use Rattle.scripts.specs.Late.{isIo, isPic, isLate, usedAfter, fieldFor}
+use Rattle.scripts.specs.Machine.{unused, newMachine}
+use Rattle.scripts.specs.declared.Used.{Used}
 use Rattle.scripts.specs.declared.Machine.{Machine}
 use Rattle.scripts.specs.declared.Run.{Run}
 use Rattle.scripts.specs.declared.Stop.the-variants as stop
@@ -22,7 +23,7 @@ use Rattle.scripts.specs.Run.{fieldCount, placeAfter, callsFrom, afterCalls, re
 abbrev pub Counted : Type 0
 Counted =
     (s : List ℕ) (m : Machine) (at n : ℕ)
-    → (runOf s m at n .done ≡ fieldCount s (m .«io_used») at n) × (length (callsFrom s (m .«io_used») at n) ≡ fieldCount s (m .«io_used») at n)
+    → (runOf s m at n .done ≡ fieldCount s (m .used) at n) × (length (callsFrom s (m .used) at n) ≡ fieldCount s (m .used) at n)
 
 -- r is what runs p and then q, from where p stopped, come to
 pub record Together (p q r : Run) (b : ℕ) : Type 0 where
@@ -39,7 +40,7 @@ InTwo =
 
 -- and it answers what they answer, one after the other
 abbrev pub answersOf : List ℕ → Machine → ℕ → ℕ → List Reply
-answersOf s m at n = replies m (callsFrom s (m .«io_used») at n)
+answersOf s m at n = replies m (callsFrom s (m .used) at n)
 
 abbrev pub AnsweredInTwo : Type 0
 AnsweredInTwo =
@@ -48,37 +49,45 @@ AnsweredInTwo =
 
 -- ---- fields that come too late
 
--- one of the calls is of fields 01 to 06
-unfoldable pub anyIo : List Call → Bool
-anyIo [] = false
-anyIo (c ∷ cs) = isIo c || anyIo cs
+-- c, performed, makes a later d late: d is a choice of version and c of fields 01 to 06, or d is a choice of rule and c of fields 10 to 16
+abbrev pub bars : Call → Call → Bool
+bars c (Io d) = false
+bars c (IoVersion version) = isIo c
+bars c (Pic d) = false
+bars c (PicRule rule) = isPic c
+bars c (Apic d) = false
+
+-- one of the calls does
+unfoldable pub barred : List Call → Call → Bool
+barred [] d = false
+barred (c ∷ cs) d = bars c d || barred cs d
 
 -- the machine remembers it
 abbrev pub Remembered : Type 0
-Remembered = (m : Machine) (cs : List Call) → afterCalls m cs .«io_used» ≡ anyIo cs || m .«io_used»
+Remembered = (m : Machine) (cs : List Call) (d : Call) → isLate (afterCalls m cs .used) d ≡ barred cs d || isLate (m .used) d
 
--- so after the first a fields of a script a choice of version, which is good by itself, is bad exactly if one of fields 01 to 06 was among them, refused or not
+-- so after the first a fields of a script one that is good by itself is bad exactly if it chooses what a chip is and one of that chip's fields was among them, refused or not
 abbrev pub LateIsBad : Type 0
 LateIsBad =
-    (s : List ℕ) (a tag version : ℕ) (next : Cursor)
-    → fieldAt s (runOf s newMachine 0 a .next .at) ≡ Good tag (IoVersion version) next
-    → fieldFor s (runOf s newMachine 0 a .machine .«io_used») (runOf s newMachine 0 a .next .at)
-    ≡ cond (anyIo (callsFrom s false 0 a)) Bad (Good tag (IoVersion version) next)
+    (s : List ℕ) (a tag : ℕ) (d : Call) (next : Cursor)
+    → fieldAt s (runOf s newMachine 0 a .next .at) ≡ Good tag d next
+    → fieldFor s (runOf s newMachine 0 a .machine .used) (runOf s newMachine 0 a .next .at)
+    ≡ cond (barred (callsFrom s unused 0 a) d) Bad (Good tag d next)
 
 -- none of the calls is late
-unfoldable pub inTime : Bool → List Call → Bool
+unfoldable pub inTime : Used → List Call → Bool
 inTime used [] = true
 inTime used (c ∷ cs) = not (isLate used c) && inTime (usedAfter used c) cs
 
 -- a run performs none that is
 abbrev pub InTime : Type 0
-InTime = (s : List ℕ) (used : Bool) (at n : ℕ) → inTime used (callsFrom s used at n) ≡ true
+InTime = (s : List ℕ) (used : Used) (at n : ℕ) → inTime used (callsFrom s used at n) ≡ true
 
 -- ---- the end
 
 -- a run never passes the end
 abbrev pub Within : Type 0
-Within = (s : List ℕ) (used : Bool) (at n : ℕ) → at ≤ length s → placeAfter s used at n ≤ length s
+Within = (s : List ℕ) (used : Used) (at n : ℕ) → at ≤ length s → placeAfter s used at n ≤ length s
 
 -- from the end on, or beyond it, nothing is performed
 abbrev pub Beyond : Type 0
@@ -91,7 +100,7 @@ Beyond =
 abbrev pub Ended : Run → List ℕ → ℕ → Type 0
 Ended r s n =
     ((r .stop ≡ stop.Allowance) × (r .done ≡ n))
-    ⊎ (((r .stop ≡ stop.End) × (length s ≤ r .next .at)) ⊎ ((r .stop ≡ stop.BadField) × (fieldFor s (r .machine .«io_used») (r .next .at) ≡ Bad)))
+    ⊎ (((r .stop ≡ stop.End) × (length s ≤ r .next .at)) ⊎ ((r .stop ≡ stop.BadField) × (fieldFor s (r .machine .used) (r .next .at) ≡ Bad)))
 
 abbrev pub Ends : Type 0
 Ends = (s : List ℕ) (m : Machine) (at n : ℕ) → Ended (runOf s m at n) s n

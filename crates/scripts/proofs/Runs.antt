@@ -11,7 +11,7 @@ use Rattle.vlapic.specs.declared.VirtualApicRegs.{VirtualApicRegs}
 use Rattle.vlapic.specs.Calls as vlapic
 use Rattle.fields.specs.declared.ApicCall.the-variants as apic
 use Rattle.fields.specs.declared.Call.{Call}
-use Rattle.fields.specs.declared.Call.the-variants.{Io, IoVersion, Pic, Apic}
+use Rattle.fields.specs.declared.Call.the-variants.{Io, IoVersion, Pic, PicRule, Apic}
 use Rattle.fields.specs.declared.Cursor.{Cursor}
 use Rattle.fields.specs.declared.Field.the-variants.{Good, Bad, End}
 use Rattle.scripts.specs.declared.Machine.{Machine}
@@ -22,16 +22,17 @@ use Rattle.scripts.specs.Late.{usedAfter, fieldFor}
 use Rattle.scripts.specs.Machine.{onApic, withVcpus, setUp, performed}
 use Rattle.scripts.specs.Run.{fieldCount, placeAfter, stopAfter, callsFrom, afterCalls, runOf}
 
--- the machine remembers whether its I/O APIC was used
-by-setup : (m : Machine) (o : Outcome VirtualApicRegs) (num active : ℕ) (b : Bool) → cond b (onApic (withVcpus m num active) o) (onApic m o) .state .«io_used» ≡ m .«io_used»
+-- the machine remembers which chips were used
+by-setup : (m : Machine) (o : Outcome VirtualApicRegs) (num active : ℕ) (b : Bool) → cond b (onApic (withVcpus m num active) o) (onApic m o) .state .used ≡ m .used
 by-setup m o num active true = refl
 by-setup m o num active false = refl
 
-pub remembers : (m : Machine) (c : Call) → performed m c .state .«io_used» ≡ usedAfter (m .«io_used») c
+pub remembers : (m : Machine) (c : Call) → performed m c .state .used ≡ usedAfter (m .used) c
 unfolding performed setUp
 remembers m (Io c) = refl
 remembers m (IoVersion version) = refl
 remembers m (Pic c) = refl
+remembers m (PicRule rule) = refl
 remembers m (Apic (apic.AcceptInterrupt v level)) = refl
 remembers m (Apic (apic.HandleWrite offset width value)) = refl
 remembers m (Apic apic.HandleEoi) = refl
@@ -56,18 +57,18 @@ module _ (s : List ℕ) (m : Machine) (at k : ℕ) where
   run-out n e = let z : k + 0 ≡ k = omega arith in rw (e, z)
 
   module _ (n l : ℕ) (e : n ≡ l + 1) where
-    pub run-good : (tag : ℕ) (c : Call) (next : Cursor) (m′ : Machine) → fieldFor s (m .«io_used») at ≡ Good tag c next → m′ ≡ performed m c .state
+    pub run-good : (tag : ℕ) (c : Call) (next : Cursor) (m′ : Machine) → fieldFor s (m .used) at ≡ Good tag c next → m′ ≡ performed m c .state
         → further k (runOf s m at n) ≡ further (k + 1) (runOf s m′ (next .at) l)
     unfolding callsFrom fieldCount placeAfter stopAfter afterCalls
     run-good tag c next m′ f g =
-        let u = usedAfter (m .«io_used») c in
+        let u = usedAfter (m .used) c in
         let z : k + suc (fieldCount s u (next .at) l) ≡ k + 1 + fieldCount s u (next .at) l = omega arith in
         rw (e, add-one l, f, z, g, remembers m c)
 
-    pub run-bad : fieldFor s (m .«io_used») at ≡ Bad → further k (runOf s m at n) ≡ idle m k at stop.BadField
+    pub run-bad : fieldFor s (m .used) at ≡ Bad → further k (runOf s m at n) ≡ idle m k at stop.BadField
     unfolding callsFrom fieldCount placeAfter stopAfter afterCalls
     run-bad f = let z : k + 0 ≡ k = omega arith in rw (e, add-one l, f, z)
 
-    pub run-end : fieldFor s (m .«io_used») at ≡ End → further k (runOf s m at n) ≡ idle m k at stop.End
+    pub run-end : fieldFor s (m .used) at ≡ End → further k (runOf s m at n) ≡ idle m k at stop.End
     unfolding callsFrom fieldCount placeAfter stopAfter afterCalls
     run-end f = let z : k + 0 ≡ k = omega arith in rw (e, add-one l, f, z)

@@ -23,38 +23,49 @@ use Rattle.fields.specs.declared.PicCall.the-variants as pic
 use Rattle.fields.specs.declared.ApicCall.{ApicCall}
 use Rattle.fields.specs.declared.ApicCall.the-variants as apic
 use Rattle.fields.specs.declared.Call.{Call}
-use Rattle.fields.specs.declared.Call.the-variants.{Io, IoVersion, Pic, Apic}
+use Rattle.fields.specs.declared.Call.the-variants.{Io, IoVersion, Pic, PicRule, Apic}
+use Rattle.scripts.specs.declared.Used.{Used}
 use Rattle.scripts.specs.declared.Machine.{Machine}
 use Rattle.scripts.specs.declared.Performed.{Performed}
 use Rattle.scripts.specs.declared.IoStep.{IoStep}
 use Rattle.scripts.specs.declared.PicStep.{PicStep}
 
--- the I/O APIC at 0xfec00000, size 0x1000, unused; the local APIC in xAPIC mode with id 0; one vCPU, and it is active
-unfoldable pub newMachine : Machine
-newMachine = record { ioapic = newDefault; pic = vpic.newPic; apic = start false 0; «vcpu_num» = 1; «active_vcpus» = 1; «io_used» = false }
+-- no chip was used
+abbrev pub unused : Used
+unused = record { io = false; pic = false }
 
--- ---- the machine after a call of one of its chips; of the I/O APIC, it remembers that there was one, refused or not
+-- the I/O APIC at 0xfec00000, size 0x1000; the local APIC in xAPIC mode with id 0; one vCPU, and it is active
+unfoldable pub newMachine : Machine
+newMachine = record { ioapic = newDefault; pic = vpic.newPic; apic = start false 0; «vcpu_num» = 1; «active_vcpus» = 1; used = unused }
+
+-- ---- the machine after a call of one of its chips; of the I/O APIC or the pair, it remembers that there was one, refused or not
+
+abbrev pub usedIo : Used → Used
+usedIo u = record { io = true; pic = u .pic }
+
+abbrev pub usedPic : Used → Used
+usedPic u = record { io = u .io; pic = true }
 
 abbrev pub onIoApic : Machine → Outcome EmulatedIoApic → Outcome Machine
 onIoApic m o = record {
-  state = record { ioapic = o .state; pic = m .pic; apic = m .apic; «vcpu_num» = m .«vcpu_num»; «active_vcpus» = m .«active_vcpus»; «io_used» = true };
+  state = record { ioapic = o .state; pic = m .pic; apic = m .apic; «vcpu_num» = m .«vcpu_num»; «active_vcpus» = m .«active_vcpus»; used = usedIo (m .used) };
   reply = o .reply;
 }
 
 abbrev pub onPic : Machine → Outcome EmulatedPic → Outcome Machine
 onPic m o = record {
-  state = record { ioapic = m .ioapic; pic = o .state; apic = m .apic; «vcpu_num» = m .«vcpu_num»; «active_vcpus» = m .«active_vcpus»; «io_used» = m .«io_used» };
+  state = record { ioapic = m .ioapic; pic = o .state; apic = m .apic; «vcpu_num» = m .«vcpu_num»; «active_vcpus» = m .«active_vcpus»; used = usedPic (m .used) };
   reply = o .reply;
 }
 
 abbrev pub onApic : Machine → Outcome VirtualApicRegs → Outcome Machine
 onApic m o = record {
-  state = record { ioapic = m .ioapic; pic = m .pic; apic = o .state; «vcpu_num» = m .«vcpu_num»; «active_vcpus» = m .«active_vcpus»; «io_used» = m .«io_used» };
+  state = record { ioapic = m .ioapic; pic = m .pic; apic = o .state; «vcpu_num» = m .«vcpu_num»; «active_vcpus» = m .«active_vcpus»; used = m .used };
   reply = o .reply;
 }
 
 abbrev pub withVcpus : Machine → ℕ → ℕ → Machine
-withVcpus m num active = record { ioapic = m .ioapic; pic = m .pic; apic = m .apic; «vcpu_num» = num; «active_vcpus» = active; «io_used» = m .«io_used» }
+withVcpus m num active = record { ioapic = m .ioapic; pic = m .pic; apic = m .apic; «vcpu_num» = num; «active_vcpus» = active; used = m .used }
 
 -- ---- the calls
 
@@ -69,6 +80,10 @@ ioCall (io.EndOfInterrupt vector) = ioapic.EndOfInterrupt vector
 -- the choice of the I/O APIC's version: a new one of it, at the usual address
 abbrev pub chosen : ℕ → Outcome EmulatedIoApic
 chosen version = record { state = chipOf version 0xfec00000 0x1000; reply = Nothing }
+
+-- the choice of the pair's rule: a new pair of it
+abbrev pub ruled : ℕ → Outcome EmulatedPic
+ruled rule = record { state = vpic.pic (vpic.newState rule); reply = Nothing }
 
 abbrev pub picOutcome : EmulatedPic → PicCall → Outcome EmulatedPic
 picOutcome p (pic.HandleRead port width) = vpic.handleRead p port width
@@ -101,6 +116,7 @@ unfoldable pub performed : Machine → Call → Outcome Machine
 performed m (Io c) = onIoApic m (ioapic.outcome (m .ioapic) (ioCall c))
 performed m (IoVersion version) = onIoApic m (chosen version)
 performed m (Pic c) = onPic m (picOutcome (m .pic) c)
+performed m (PicRule rule) = onPic m (ruled rule)
 performed m (Apic c) = apicOutcome m c
 
 -- ---- what the code hands back

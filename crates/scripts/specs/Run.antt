@@ -1,12 +1,12 @@
 -- A run of a script (document 01, "Scripts"): of the fields from a place on as many as are allowed, up to the first bad one or the end. Which fields that are, how
--- many, where the next one starts and why the run ends is read off the bytes, and whether the I/O APIC was used before them; the machine is the one after their calls.
+-- many, where the next one starts and why the run ends is read off the bytes, and which chips were used before them; the machine is the one after their calls.
 use Prim.Native.Nat.{ℕ, zero, suc, _+_}
-use mathlib.Core.Bool.{Bool}
 use mathlib.Core.List.{List, [], _∷_}
 use Rattle.fields.specs.declared.Call.{Call}
 use Rattle.fields.specs.declared.Field.{Field}
 use Rattle.fields.specs.declared.Field.the-variants.{Good, Bad, End}
 use Rattle.types.specs.declared.Reply.{Reply}
+use Rattle.scripts.specs.declared.Used.{Used}
 use Rattle.scripts.specs.declared.Machine.{Machine}
 use Rattle.scripts.specs.declared.Stop.{Stop}
 use Rattle.scripts.specs.declared.Stop.the-variants as stop
@@ -21,22 +21,22 @@ byField Bad good bad end = bad
 byField End good bad end = end
 
 -- how many fields a run performs from a place on if n are allowed: a field that is performed counts, be its call refused or not, and a bad one doesn't
-unfoldable pub fieldCount : List ℕ → Bool → ℕ → ℕ → ℕ
+unfoldable pub fieldCount : List ℕ → Used → ℕ → ℕ → ℕ
 fieldCount s used at zero = 0
 fieldCount s used at (suc n) = byField (fieldFor s used at) (λ call next. suc (fieldCount s (usedAfter used call) next n)) 0 0
 
 -- where the next field starts: at a bad field that is its tag's place, at the end the length
-unfoldable pub placeAfter : List ℕ → Bool → ℕ → ℕ → ℕ
+unfoldable pub placeAfter : List ℕ → Used → ℕ → ℕ → ℕ
 placeAfter s used at zero = at
 placeAfter s used at (suc n) = byField (fieldFor s used at) (λ call next. placeAfter s (usedAfter used call) next n) at at
 
 -- why the run ends: once the allowance is used up the next field isn't looked at
-unfoldable pub stopAfter : List ℕ → Bool → ℕ → ℕ → Stop
+unfoldable pub stopAfter : List ℕ → Used → ℕ → ℕ → Stop
 stopAfter s used at zero = stop.Allowance
 stopAfter s used at (suc n) = byField (fieldFor s used at) (λ call next. stopAfter s (usedAfter used call) next n) stop.BadField stop.End
 
 -- the calls of the fields that are performed
-unfoldable pub callsFrom : List ℕ → Bool → ℕ → ℕ → List Call
+unfoldable pub callsFrom : List ℕ → Used → ℕ → ℕ → List Call
 callsFrom s used at zero = []
 callsFrom s used at (suc n) = byField (fieldFor s used at) (λ call next. call ∷ callsFrom s (usedAfter used call) next n) [] []
 
@@ -52,8 +52,8 @@ replies m (c ∷ cs) = performed m c .reply ∷ replies (performed m c .state) c
 -- a run
 abbrev pub runOf : List ℕ → Machine → ℕ → ℕ → Run
 runOf s m at n = record {
-  machine = afterCalls m (callsFrom s (m .«io_used») at n);
-  done = fieldCount s (m .«io_used») at n;
-  next = record { at = placeAfter s (m .«io_used») at n };
-  stop = stopAfter s (m .«io_used») at n;
+  machine = afterCalls m (callsFrom s (m .used) at n);
+  done = fieldCount s (m .used) at n;
+  next = record { at = placeAfter s (m .used) at n };
+  stop = stopAfter s (m .used) at n;
 }

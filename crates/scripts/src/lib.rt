@@ -2,7 +2,7 @@
 
 ghost use mathlib.Core.Path.{_≡_};
 ghost use Rattle.vioapic.specs.Calls.{outcome};
-ghost use Rattle.scripts.specs.Machine.{newMachine, ioCall, chosen, picOutcome, onIoApic, onPic, onApic, outcomeOf, setUp, apicOutcome, ioStep, picStep, performedOutcome, performed};
+ghost use Rattle.scripts.specs.Machine.{newMachine, ioCall, chosen, ruled, picOutcome, onIoApic, onPic, onApic, outcomeOf, setUp, apicOutcome, ioStep, picStep, performedOutcome, performed};
 ghost use Rattle.scripts.specs.Late.{isLate, taken, fieldFor};
 ghost use Rattle.scripts.specs.Run.{runOf};
 use fields::ApicCall;
@@ -17,15 +17,22 @@ use vioapic::EmulatedIoApic;
 use vioapic::IoApicState;
 use vlapic::VirtualApicRegs;
 use vpic::pair::EmulatedPic;
+use vpic::pair::PicState;
 
-// The three chips, how many vCPUs the VM has, which of them are active, and whether a field of the I/O APIC was performed.
+// Whether a field of the I/O APIC, or of the pair, was performed.
+pub struct Used {
+    pub io: bool,
+    pub pic: bool,
+}
+
+// The three chips, how many vCPUs the VM has, which of them are active, and which chips were used.
 pub struct Machine {
     pub ioapic: EmulatedIoApic,
     pub pic: EmulatedPic,
     pub apic: VirtualApicRegs,
     pub vcpu_num: usize,
     pub active_vcpus: u64,
-    pub io_used: bool,
+    pub used: Used,
 }
 
 // A machine, or one of its chips, after a call, and what the call says back.
@@ -167,27 +174,40 @@ fn call_pic(pic: EmulatedPic, call: PicCall) -> PicStep
     }
 }
 
+// A new pair of that rule.
+fn choose_rule(rule: u8) -> PicStep
+    ensures { λ r. ⌜ picStep r ≡ ruled rule ⌝ }
+{
+    PicStep {
+        pic: EmulatedPic {
+            state: PicState::new(rule),
+        },
+        reply: Reply::Nothing,
+    }
+}
+
 // ---- a field that comes too late
 
-// The I/O APIC's version is chosen before any other field of it is performed.
-fn is_late(call: Call, io_used: bool) -> bool
-    ensures { λ r. ⌜ r ≡ isLate «io_used» call ⌝ }
+// A chip's kind is chosen before any other field of it is performed.
+fn is_late(call: Call, used: Used) -> bool
+    ensures { λ r. ⌜ r ≡ isLate used call ⌝ }
 {
     match call {
         Call::Io(_) => false,
-        Call::IoVersion(_) => io_used,
+        Call::IoVersion(_) => used.io,
         Call::Pic(_) => false,
+        Call::PicRule(_) => used.pic,
         Call::Apic(_) => false,
     }
 }
 
-// A field as a machine takes it whose I/O APIC was used before, or wasn't.
-fn taken(field: Field, io_used: bool) -> Field
-    ensures { λ r. ⌜ r ≡ taken «io_used» field ⌝ }
+// A field as a machine takes it some of whose chips were used before.
+fn taken(field: Field, used: Used) -> Field
+    ensures { λ r. ⌜ r ≡ taken used field ⌝ }
 {
     match field {
         Field::Good { tag, call, next } => {
-            if is_late(call, io_used) {
+            if is_late(call, used) {
                 return Field::Bad;
             }
             Field::Good { tag, call, next }
@@ -198,10 +218,10 @@ fn taken(field: Field, io_used: bool) -> Field
 }
 
 // What stands at a place of the script for such a machine.
-pub fn next_field(script: &[u8], io_used: bool, at: Cursor) -> Field
-    ensures { λ r. ⌜ r ≡ fieldFor (now (script .entry)) «io_used» (at .at) ⌝ }
+pub fn next_field(script: &[u8], used: Used, at: Cursor) -> Field
+    ensures { λ r. ⌜ r ≡ fieldFor (now (script .entry)) used (at .at) ⌝ }
 {
-    taken(at.read(script), io_used)
+    taken(at.read(script), used)
 }
 
 impl Machine {
@@ -215,7 +235,10 @@ impl Machine {
             apic: VirtualApicRegs::new(),
             vcpu_num: 1,
             active_vcpus: 1,
-            io_used: false,
+            used: Used {
+                io: false,
+                pic: false,
+            },
         }
     }
 
@@ -225,7 +248,7 @@ impl Machine {
         let ioapic = step.ioapic;
         let reply = step.reply;
         self.ioapic = ioapic;
-        self.io_used = true;
+        self.used.io = true;
         Performed {
             machine: self,
             reply,
@@ -238,6 +261,7 @@ impl Machine {
         let pic = step.pic;
         let reply = step.reply;
         self.pic = pic;
+        self.used.pic = true;
         Performed {
             machine: self,
             reply,
@@ -321,7 +345,7 @@ impl Machine {
         }
     }
 
-    // Performs one call. Whether a choice of version comes too late is said where its field is read.
+    // Performs one call. Whether a choice comes too late is said where its field is read.
     pub fn perform(self, call: Call) -> Performed
         ensures { λ r. ⌜ performedOutcome r ≡ performed self call ⌝ }
     {
@@ -331,6 +355,7 @@ impl Machine {
             Call::Io(c) => self.with_ioapic(call_ioapic(ioapic, c)),
             Call::IoVersion(version) => self.with_ioapic(choose_version(version)),
             Call::Pic(c) => self.with_pic(call_pic(pic, c)),
+            Call::PicRule(rule) => self.with_pic(choose_rule(rule)),
             Call::Apic(c) => self.call_apic(c),
         }
     }
@@ -343,7 +368,7 @@ impl Machine {
         let mut next = from;
         let mut done: usize = 0;
         while done < allowance {
-            let field = next_field(script, machine.io_used, next);
+            let field = next_field(script, machine.used, next);
             match field {
                 Field::Good {
                     tag: _,

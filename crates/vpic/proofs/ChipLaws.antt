@@ -18,7 +18,7 @@ use Rattle.vpic.specs.declared.chip.PicVector.{PicVector}
 use Rattle.vpic.specs.declared.chip.PicVector.the-variants.{Given, Nothing as NoVector}
 use Rattle.vpic.specs.declared.chip.Acknowledged.{Acknowledged}
 use Rattle.types.proofs.Replies.{outcome-same}
-use Rattle.vpic.specs.Chip.{counts, pendingLine, pendingIrq, irqOf, pendingReply, vectorReply, acknowledgeOutcome, pulsed, specificEoi, unacknowledged}
+use Rattle.vpic.specs.Chip.{counts, pendingLine, pendingIrq, irqOf, pendingReply, vectorReply, acknowledgeOutcome, pulsed, asks, specificEoi, unacknowledged}
 
 -- the highest unmasked request, and the highest line in service
 abbrev pub asked : PicChip → ℕ
@@ -27,10 +27,10 @@ asked c = lowest 8 (outside 8 (c .request) (c .mask))
 abbrev pub served : PicChip → ℕ
 served c = lowest 8 (c .«in_service»)
 
-and-false : (a b : Bool) → a ≡ false → (a && b) ≡ false
+pub and-false : (a b : Bool) → a ≡ false → (a && b) ≡ false
 and-false a b e = rw e
 
-and-no : (a b : Bool) → b ≡ false → (a && b) ≡ false
+pub and-no : (a b : Bool) → b ≡ false → (a && b) ≡ false
 and-no true b e = e
 and-no false b e = refl
 
@@ -124,11 +124,11 @@ pub record Pending (c : PicChip) (k : ℕ) : Type 0 where
   pub asked : bit (c .request) k ≡ true
   pub idle : bit (c .«in_service») k ≡ false
 
-and-first : (a b : Bool) → (a && b) ≡ true → a ≡ true
+pub and-first : (a b : Bool) → (a && b) ≡ true → a ≡ true
 and-first true b e = refl
 and-first false b e = e
 
-and-second : (a b : Bool) → (a && b) ≡ true → b ≡ true
+pub and-second : (a b : Bool) → (a && b) ≡ true → b ≡ true
 and-second true b e = e
 and-second false b e = absurd (true≢false (sym e))
 
@@ -146,3 +146,12 @@ pended c k e =
       asked = and-first (bit (c .request) (k .0)) (not (bit (c .mask) (k .0))) (and-first unmasked (ltb (k .0) (served c)) yes);
       idle = lowest-before 8 (c .«in_service») (k .0) (ltb-true (k .0) (served c) (and-second unmasked (ltb (k .0) (served c)) yes));
     }
+
+-- the chip's output by the code's one comparison
+pub asks-is : (c : PicChip) (o k s : ℕ) → o ≡ outside 8 (c .request) (c .mask) → k ≡ lowest 8 o → s ≡ lowest 8 (c .«in_service») → ltb k s ≡ asks c
+unfolding asks
+asks-is c o k s eo ek es = ap₂ ltb (ek ∙ ap (lowest 8) eo) es ∙ go (ltb (asked c) (served c)) refl ∙ ap (λ (n : ℕ). ltb n 8) (sym (pending-line c))
+  where
+    go : (b : Bool) → ltb (asked c) (served c) ≡ b → ltb (asked c) (served c) ≡ ltb (cond b (asked c) 8) 8
+    go true e = e ∙ sym (lt-ltb (asked c) 8 (omega (arith, ltb-true (asked c) (served c) e, lowest-le 8 (c .«in_service»))))
+    go false e = e

@@ -118,6 +118,14 @@ counts c k = bit (c .request) k && not (bit (c .mask) k) && ltb k (lowest 8 (c .
 unfoldable pub pendingLine : PicChip → ℕ
 pendingLine c = first 8 (counts c)
 
+-- the chip's output, INT: up exactly while a request counts
+unfoldable pub asks : PicChip → Bool
+asks c = ltb (pendingLine c) 8
+
+-- line k driven by a level: its request stands exactly while that is up
+unfoldable pub driven : PicChip → ℕ → Bool → PicChip
+driven c k up = withRequest c (cond up (with (c .request) k) (without (c .request) k))
+
 abbrev pub irqOf : ℕ → PendingIrq
 irqOf k = cond (ltb k 8) (Irq (record { 0 = k })) Nothing
 

@@ -1,4 +1,4 @@
--- Where the pair does other than the 8259A's data sheet: docs/DIFFERENCES.md, D-01 to D-17, each at its smallest case.
+-- Where the pair does other than the 8259A's data sheet: docs/DIFFERENCES.md, D-01 to D-17, each at its smallest case. Rule 0, where the rule matters.
 use Prim.Native.Nat.{ℕ}
 use mathlib.Core.Bool.{Bool, true, false, cond}
 use mathlib.Core.List.{List, [], _∷_}
@@ -10,7 +10,7 @@ use Rattle.types.specs.Departure.{Departure, Shown}
 use Rattle.vpic.specs.declared.chip.PicChip.{PicChip}
 use Rattle.vpic.specs.declared.pair.PicState.{PicState}
 use Rattle.vpic.specs.Chip.{chip, opened, commanded, fed, commandRead, pulsed, counts, pendingLine, pendingIrq, acknowledged, acknowledge, pendingReply}
-use Rattle.vpic.specs.Pair.{chips, newState, latched, masterClaim, slaveClaim, claimPending, claimIrq, portWritten, writtenAt, claimReply, claimVector}
+use Rattle.vpic.specs.Pair.{newState, settled, latched, masterClaim, slaveClaim, claimPending, claimIrq, portWritten, writtenAt, claimReply, claimVector}
 use Rattle.vpic.specs.Chip.{vectorReply}
 
 abbrev pub line : ℕ → PicLine
@@ -20,9 +20,9 @@ line k = record { 0 = k }
 abbrev pub at : ℕ → ℕ → ℕ → PicChip
 at irr imr isr = chip 0 imr irr isr 0 false false false false
 
--- the pair with its masks open
-abbrev pub open' : PicState
-open' = portWritten (portWritten newState 0x21 0) 0xa1 0
+-- the pair of a rule with its masks open
+abbrev pub open' : ℕ → PicState
+open' rule = portWritten (portWritten (newState rule) 0x21 0) 0xa1 0
 
 -- bytes written to a port, one after another
 abbrev pub writes : PicState → ℕ → List ℕ → PicState
@@ -33,9 +33,9 @@ abbrev pub claimedVector : PicState → ℕ → List ℕ
 claimedVector p k = replyValues (vectorReply (claimVector (claimIrq p (line k) .claim)))
 
 -- example 7: lines 12, 13 and 14 one after another, and the EOIs after each
-abbrev pub seventh : PicState
-seventh =
-    let three = claimIrq (claimIrq (claimIrq open' (line 12) .state) (line 13) .state) (line 14) .state in
+abbrev pub seventh : ℕ → PicState
+seventh rule =
+    let three = claimIrq (claimIrq (claimIrq (open' rule) (line 12) .state) (line 13) .state) (line 14) .state in
     let two = claimPending (writes (writes three 0xa0 (0x20 ∷ [])) 0x20 (0x20 ∷ [])) .state in
     writes (writes two 0xa0 (0x20 ∷ [])) 0x20 (0x20 ∷ [])
 
@@ -56,20 +56,20 @@ departures =
     ∷ record { number = 8; computed = pendingLine (commanded (at 3 0 1) 0xa0) ∷ []; ours = 0 ∷ []; text = 1 ∷ [] }
     ∷ record { number = 8; computed = pendingLine (commanded (at 3 0 0) 0xc0) ∷ []; ours = 0 ∷ []; text = 1 ∷ [] }
     -- ICW3 says that no line of the master has a slave
-    ∷ record { number = 9; computed = claimedVector (writes (writes open' 0x20 (0x11 ∷ [])) 0x21 (0x08 ∷ 0 ∷ 1 ∷ [])) 8; ours = 0x70 ∷ []; text = 0x0a ∷ [] }
+    ∷ record { number = 9; computed = claimedVector (writes (writes (open' 0) 0x20 (0x11 ∷ [])) 0x21 (0x08 ∷ 0 ∷ 1 ∷ [])) 8; ours = 0x70 ∷ []; text = 0x0a ∷ [] }
     -- the master's line 2 is in service and the slave asks again
     ∷ record { number = 10; computed = pendingLine (fed (chip 0 0 4 4 3 true false false false) 0x11) ∷ []; ours = 8 ∷ []; text = 2 ∷ [] }
     -- ICW4 with bit 0 clear: the data sheet's chip puts a CALL instruction on the bus
     ∷ record { number = 11; computed = replyValues (acknowledge (pulsed (fed (chip 0x20 0 0 0 3 true false false false) 0) (line 0)) (line 0) .reply); ours = 0x20 ∷ []; text = 0xcd ∷ [] }
-    ∷ record { number = 12; computed = claimedVector (writes (writes open' 0x20 (0x13 ∷ [])) 0x21 (0x08 ∷ 1 ∷ [])) 8; ours = 0x70 ∷ []; text = 0x0a ∷ [] }
-    ∷ record { number = 13; computed = replyValues (claimReply (claimPending seventh .claim)); ours = []; text = 0x76 ∷ 14 ∷ 3 ∷ [] }
+    ∷ record { number = 12; computed = claimedVector (writes (writes (open' 0) 0x20 (0x13 ∷ [])) 0x21 (0x08 ∷ 1 ∷ [])) 8; ours = 0x70 ∷ []; text = 0x0a ∷ [] }
+    ∷ record { number = 13; computed = replyValues (claimReply (claimPending (seventh 0) .claim)); ours = []; text = 0x76 ∷ 14 ∷ 3 ∷ [] }
     ∷ record { number = 14; computed = replyValues (pendingReply (pendingIrq (at 0 0 0))); ours = []; text = 7 ∷ [] }
     -- the line went down before the acknowledgement
     ∷ record { number = 15; computed = pulsed (at 0 0 0) (line 0) .request ∷ []; ours = 1 ∷ []; text = 0 ∷ [] }
-    ∷ record { number = 16; computed = claimedVector open' 2; ours = 0x0a ∷ []; text = 0x77 ∷ [] }
+    ∷ record { number = 16; computed = claimedVector (open' 0) 2; ours = 0x0a ∷ []; text = 0x77 ∷ [] }
     ∷ record { number = 17; computed = replyValues (acknowledge (opened 0x0b) (line 1) .reply); ours = 0x0c ∷ []; text = 0x09 ∷ [] }
     ∷ []
 
 pub departures-hold : Shown departures
-unfolding departures opened commanded fed commandRead pulsed counts pendingLine pendingIrq acknowledged acknowledge newState latched masterClaim slaveClaim claimPending claimIrq portWritten writtenAt with without lowest
+unfolding departures opened commanded fed commandRead pulsed counts pendingLine pendingIrq acknowledged acknowledge newState settled latched masterClaim slaveClaim claimPending claimIrq portWritten writtenAt with without lowest
 departures-hold = ((refl, refl), ((refl, refl), ((refl, refl), ((refl, refl), ((refl, refl), ((refl, refl), ((refl, refl), ((refl, refl), ((refl, refl), ((refl, refl), ((refl, refl), ((refl, refl), ((refl, refl), ((refl, refl), ((refl, refl), ((refl, refl), ((refl, refl), ((refl, refl), ((refl, refl), tt)))))))))))))))))))

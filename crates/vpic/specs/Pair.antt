@@ -1,5 +1,6 @@
 -- The PC's two 8259A chips. Cascade mode: the slave hangs on the master's line 2, and an acknowledgement of that line is answered by the slave. The interrupt
--- sequence; the four ports. Departures from the data sheet are marked D-nn and stand in docs/DIFFERENCES.md.
+-- sequence; the four ports. Departures from the data sheet are marked D-nn and stand in docs/DIFFERENCES.md. Rule 1 (document 02, T-02) is the data sheet's
+-- cascade, rule 0 the Rust's.
 use Prim.Native.Nat.{ℕ, _+_, _*_, _%_}
 use mathlib.Core.Bool.{Bool, true, false, cond}
 use lib.Dec.{ltb, eqb}
@@ -33,29 +34,34 @@ use Rattle.vpic.specs.declared.pair.PicValue.{PicValue}
 use Rattle.vpic.specs.declared.pair.PicValue.the-variants.{Value, Refused as NotRead}
 use Rattle.vpic.specs.declared.pair.PicRead.{PicRead}
 use Rattle.vpic.specs.declared.pair.PortRanges.{PortRanges}
-use Rattle.vpic.specs.Chip.{opened, commanded, fed, commandRead, pulsed, pendingIrq, acknowledged, unacknowledged, vectorReply}
+use Rattle.vpic.specs.Chip.{opened, commanded, fed, commandRead, pulsed, asks, driven, pendingIrq, acknowledged, unacknowledged, vectorReply}
 
-abbrev pub chips : PicChip → PicChip → PicState
-chips m s = record { master = m; slave = s }
+-- p with these chips in it
+abbrev pub chips : PicState → PicChip → PicChip → PicState
+chips p m s = record { rule = p .rule; master = m; slave = s }
 
--- the bases of the PC's first BIOS
-unfoldable pub newState : PicState
-newState = chips (opened 0x08) (opened 0x70)
+-- a new pair of either rule, with the bases of the PC's first BIOS
+unfoldable pub newState : ℕ → PicState
+newState rule = record { rule = rule; master = opened 0x08; slave = opened 0x70 }
+
+-- rule 1; any other number is rule 0
+abbrev pub isCascade : PicState → Bool
+isCascade p = eqb (p .rule) 1
 
 -- the master's line that the slave hangs on
 abbrev pub cascadeIrq : PicLine
 cascadeIrq = record { 0 = 2 }
 
--- what is done at the end of every call. D-13: the slave's output drives no line: request 2 is a latch, set by a slave's edge and cleared by an
--- acknowledgement, so that here nothing is left to do
-abbrev pub settled : PicState → PicState
-settled p = p
+-- what is done at the end of every call. Rule 1: the slave's output drives the master's line 2. D-13, rule 0: it drives no line: request 2 is a latch, set by a
+-- slave's edge and cleared by an acknowledgement, so that nothing is left to do
+unfoldable pub settled : PicState → PicState
+settled p = cond (isCascade p) (chips p (driven (p .master) 2 (asks (p .slave))) (p .slave)) p
 
 -- ---- an edge on a line of the pair
 
 abbrev pub latchedAt : PicState → PicPlace → PicState
-latchedAt p (Master k) = chips (pulsed (p .master) k) (p .slave)
-latchedAt p (Slave k) = chips (pulsed (p .master) cascadeIrq) (pulsed (p .slave) k)
+latchedAt p (Master k) = chips p (pulsed (p .master) k) (p .slave)
+latchedAt p (Slave k) = chips p (pulsed (p .master) cascadeIrq) (pulsed (p .slave) k)
 latchedAt p Nowhere = p
 
 unfoldable pub latched : PicState → PicLine → PicState
@@ -81,12 +87,12 @@ claimed p q v l = record {
 
 -- the master answers for its line k
 unfoldable pub masterClaim : PicState → PicLine → StateClaim
-masterClaim p k = claimed p (chips (acknowledged (p .master) (k .0)) (p .slave)) (lineVector (p .master .«vector_base») k) k
+masterClaim p k = claimed p (chips p (acknowledged (p .master) (k .0)) (p .slave)) (lineVector (p .master .«vector_base») k) k
 
 -- the slave answers for its line k, the pair's line k + 8
 unfoldable pub slaveClaim : PicState → PicLine → StateClaim
 slaveClaim p k =
-    claimed p (chips (acknowledged (p .master) 2) (acknowledged (p .slave) (k .0))) (lineVector (p .slave .«vector_base») k) (record { 0 = k .0 + 8 })
+    claimed p (chips p (acknowledged (p .master) 2) (acknowledged (p .slave) (k .0))) (lineVector (p .slave .«vector_base») k) (record { 0 = k .0 + 8 })
 
 -- the master's line 2 is acknowledged. D-16: with no slave request that counts the master answers for line 2 (in the data sheet the slave, for its line 7)
 abbrev pub cascadePlace : PendingIrq → PicPlace
@@ -120,8 +126,8 @@ claimIrq p l = cond (ltb (l .0) 16) (claimPending (latched p l)) (nothingClaimed
 -- ---- a claim that couldn't be published is put back (not in the data sheet: the Rust's). Below line 8 the slave's flag is ignored
 
 abbrev pub restoredAt : PicState → PicPlace → Bool → Bool → PicState
-restoredAt p (Master k) m s = chips (unacknowledged (p .master) k m) (p .slave)
-restoredAt p (Slave k) m s = chips (unacknowledged (p .master) cascadeIrq m) (unacknowledged (p .slave) k s)
+restoredAt p (Master k) m s = chips p (unacknowledged (p .master) k m) (p .slave)
+restoredAt p (Slave k) m s = chips p (unacknowledged (p .master) cascadeIrq m) (unacknowledged (p .slave) k s)
 restoredAt p Nowhere m s = p
 
 unfoldable pub restored : PicState → PicInterruptClaim → PicState
@@ -142,10 +148,10 @@ isPort port = cond (eqb port 0x20) true (cond (eqb port 0x21) true (cond (eqb po
 
 unfoldable pub writtenAt : PicState → ℕ → ℕ → PicState
 writtenAt p port byte =
-    cond (eqb port 0x20) (chips (commanded (p .master) byte) (p .slave))
-    (cond (eqb port 0x21) (chips (fed (p .master) byte) (p .slave))
-    (cond (eqb port 0xa0) (chips (p .master) (commanded (p .slave) byte))
-    (cond (eqb port 0xa1) (chips (p .master) (fed (p .slave) byte))
+    cond (eqb port 0x20) (chips p (commanded (p .master) byte) (p .slave))
+    (cond (eqb port 0x21) (chips p (fed (p .master) byte) (p .slave))
+    (cond (eqb port 0xa0) (chips p (p .master) (commanded (p .slave) byte))
+    (cond (eqb port 0xa1) (chips p (p .master) (fed (p .slave) byte))
     p)))
 
 unfoldable pub portWritten : PicState → ℕ → ℕ → PicState
@@ -191,8 +197,20 @@ writeOutcome r = record { state = r .pic; reply = doneReply (r .done) }
 abbrev pub readOutcome : PicRead → Outcome EmulatedPic
 readOutcome r = record { state = r .pic; reply = valueReply (r .value) }
 
+abbrev pub refused : EmulatedPic → Refusal → Outcome EmulatedPic
+refused p why = record { state = p; reply = reply.Refused why }
+
+-- `new`: rule 0
 unfoldable pub newPic : EmulatedPic
-newPic = pic newState
+newPic = pic (newState 0)
+
+-- there are two rules
+abbrev pub isRule : ℕ → Bool
+isRule rule = cond (eqb rule 0) true (eqb rule 1)
+
+-- `new_rule`: for another number nothing is created, and a pair of rule 0 stands beside the refusal
+abbrev pub newRule : ℕ → Outcome EmulatedPic
+newRule rule = cond (isRule rule) (record { state = pic (newState rule); reply = reply.Nothing }) (refused newPic Unsupported)
 
 abbrev pub portRanges : PortRanges
 portRanges = record { master = record { start = 0x20; end = 0x21 }; slave = record { start = 0xa0; end = 0xa1 } }
@@ -202,9 +220,6 @@ withClaim r = record { state = pic (r .state); reply = claimReply (r .claim) }
 
 abbrev pub withVector : StateClaim → Outcome EmulatedPic
 withVector r = record { state = pic (r .state); reply = vectorReply (claimVector (r .claim)) }
-
-abbrev pub refused : EmulatedPic → Refusal → Outcome EmulatedPic
-refused p why = record { state = p; reply = reply.Refused why }
 
 abbrev pub restoreInterrupt : EmulatedPic → PicInterruptClaim → Outcome EmulatedPic
 restoreInterrupt p c = cond (ltb (c .irq .0) 16) (record { state = pic (restored (p .state) c); reply = reply.Nothing }) (refused p OutOfRange)

@@ -6,7 +6,7 @@
 ghost use mathlib.Core.Path.{_≡_};
 ghost use Prim.Native.Nat.{_<_};
 ghost use Rattle.utils.specs.Set.{lowest};
-ghost use Rattle.vpic.specs.Chip.{opened, icw1, ocw3, specificEoi, ocw2, commanded, afterIcw3, icw2, icw3, icw4, fed, commandRead, pulsed, pendingIrq, pendingReply, acknowledged, acknowledge, acknowledgeOutcome, unacknowledged};
+ghost use Rattle.vpic.specs.Chip.{opened, icw1, ocw3, specificEoi, ocw2, commanded, afterIcw3, icw2, icw3, icw4, fed, commandRead, pulsed, asks, driven, pendingIrq, pendingReply, acknowledged, acknowledge, acknowledgeOutcome, unacknowledged};
 use types::PicLine;
 use types::Vector;
 use utils::set8;
@@ -206,6 +206,28 @@ impl PicChip {
             return PendingIrq::Irq(PicLine(irq));
         }
         PendingIrq::Nothing
+    }
+
+    // The output, INT: whether a request counts.
+    pub fn asks(self) -> bool
+        ensures { λ r. ⌜ r ≡ asks self ⌝ }
+    {
+        highest_priority(set8::outside(self.request, self.mask)) < highest_priority(self.in_service)
+    }
+
+    // A line that is driven by a level: its request stands exactly while that is up.
+    pub fn driven(mut self, irq: u8, up: bool) -> Self
+        requires { ⌜ irq < 8 ⌝ }
+        ensures { λ r. ⌜ r ≡ driven self irq up ⌝ }
+    {
+        if up {
+            let raised = set8::with(self.request, irq);
+            self.request = raised;
+            return self;
+        }
+        let lowered = set8::without(self.request, irq);
+        self.request = lowered;
+        self
     }
 
     // The interrupt acknowledge sequence of a line, with its vector.

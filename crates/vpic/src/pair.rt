@@ -5,7 +5,7 @@
 
 ghost use mathlib.Core.Path.{_≡_};
 ghost use Prim.Native.Nat.{_<_, _%_};
-ghost use Rattle.vpic.specs.Pair.{newState, settled, latchedAt, latched, claimed, masterClaim, slaveClaim, pendingPlace, claimPending, claimIrq, restoredAt, restored, portRead, writtenAt, portWritten, isPort, claimFlags, claimReply, claimVector, doneReply, valueReply, claimOutcome, vectorOutcome, writeOutcome, readOutcome, newPic, portRanges, withClaim, withVector, refused, restoreInterrupt, handleRead, handleWrite};
+ghost use Rattle.vpic.specs.Pair.{newState, chips, settled, latchedAt, latched, claimed, masterClaim, slaveClaim, pendingPlace, claimPending, claimIrq, restoredAt, restored, portRead, writtenAt, portWritten, isPort, claimFlags, claimReply, claimVector, doneReply, valueReply, claimOutcome, vectorOutcome, writeOutcome, readOutcome, newPic, isRule, newRule, portRanges, withClaim, withVector, refused, restoreInterrupt, handleRead, handleWrite};
 use super::chip::PendingIrq;
 use super::chip::PicChip;
 use super::chip::PicVector;
@@ -25,7 +25,15 @@ pub const SLAVE_DATA: u16 = 0xa1;
 
 pub const CASCADE_IRQ: u8 = 2;
 
+// The slave's output drives no line of the master: the Rust's rule.
+pub const RULE_LATCH: u8 = 0;
+
+// It drives the master's line 2: the 8259A's.
+pub const RULE_CASCADE: u8 = 1;
+
 pub struct PicState {
+    // 1; any other number is 0.
+    pub rule: u8,
     pub master: PicChip,
     pub slave: PicChip,
 }
@@ -51,20 +59,37 @@ pub struct StateClaim {
 }
 
 impl PicState {
-    pub fn new() -> Self
-        ensures { λ r. ⌜ r ≡ newState ⌝ }
+    pub fn new(rule: u8) -> Self
+        ensures { λ r. ⌜ r ≡ newState rule ⌝ }
     {
         PicState {
+            rule,
             master: PicChip::new(0x08),
             slave: PicChip::new(0x70),
         }
     }
 
-    // What every call of the pair does last.
+    // The pair with these chips in it.
+    fn with_chips(self, master: PicChip, slave: PicChip) -> Self
+        ensures { λ r. ⌜ r ≡ chips self master slave ⌝ }
+    {
+        PicState {
+            rule: self.rule,
+            master,
+            slave,
+        }
+    }
+
+    // What every call of the pair does last: by the cascade rule the master's request 2 follows the slave's output.
     fn settle(self) -> Self
         ensures { λ r. ⌜ r ≡ settled self ⌝ }
     {
-        self
+        if self.rule != RULE_CASCADE {
+            return self;
+        }
+        let master = self.master;
+        let slave = self.slave;
+        self.with_chips(master.driven(CASCADE_IRQ, slave.asks()), slave)
     }
 
     // An edge on a line of one of the chips.
@@ -74,14 +99,11 @@ impl PicState {
         let master = self.master;
         let slave = self.slave;
         match place {
-            PicPlace::Master(k) => PicState {
-                master: master.pulse(k),
-                slave,
-            },
-            PicPlace::Slave(k) => PicState {
-                master: master.pulse(PicLine(CASCADE_IRQ)),
-                slave: slave.pulse(k),
-            },
+            PicPlace::Master(k) => self.with_chips(master.pulse(k), slave),
+            PicPlace::Slave(k) => self.with_chips(
+                master.pulse(PicLine(CASCADE_IRQ)),
+                slave.pulse(k),
+            ),
             PicPlace::Nowhere => self,
         }
     }
@@ -89,7 +111,8 @@ impl PicState {
     fn latch(self, irq: PicLine) -> Self
         ensures { λ r. ⌜ r ≡ latched self irq ⌝ }
     {
-        self.latch_at(irq.place()).settle()
+        let edge = self.latch_at(irq.place());
+        edge.settle()
     }
 
     // The claim of a line that turned `self` into `after`.
@@ -115,10 +138,7 @@ impl PicState {
     {
         let master = self.master;
         let slave = self.slave;
-        let after = PicState {
-            master: master.acknowledged(irq.0),
-            slave,
-        };
+        let after = self.with_chips(master.acknowledged(irq.0), slave);
         self.claimed(after, irq.vector(master.vector_base), irq)
     }
 
@@ -129,10 +149,7 @@ impl PicState {
     {
         let master = self.master;
         let slave = self.slave;
-        let after = PicState {
-            master: master.acknowledged(CASCADE_IRQ),
-            slave: slave.acknowledged(irq.0),
-        };
+        let after = self.with_chips(master.acknowledged(CASCADE_IRQ), slave.acknowledged(irq.0));
         self.claimed(after, irq.vector(slave.vector_base), PicLine(irq.0 + 8))
     }
 
@@ -186,14 +203,14 @@ impl PicState {
         let master = self.master;
         let slave = self.slave;
         match place {
-            PicPlace::Master(k) => PicState {
-                master: master.unacknowledged(k, master_in_service),
+            PicPlace::Master(k) => self.with_chips(
+                master.unacknowledged(k, master_in_service),
                 slave,
-            },
-            PicPlace::Slave(k) => PicState {
-                master: master.unacknowledged(PicLine(CASCADE_IRQ), master_in_service),
-                slave: slave.unacknowledged(k, slave_in_service),
-            },
+            ),
+            PicPlace::Slave(k) => self.with_chips(
+                master.unacknowledged(PicLine(CASCADE_IRQ), master_in_service),
+                slave.unacknowledged(k, slave_in_service),
+            ),
             PicPlace::Nowhere => self,
         }
     }
@@ -202,8 +219,8 @@ impl PicState {
         ensures { λ r. ⌜ r ≡ restored self claim ⌝ }
     {
         let irq = claim.irq;
-        self.restore_at(irq.place(), claim.master_in_service, claim.slave_in_service)
-            .settle()
+        let back = self.restore_at(irq.place(), claim.master_in_service, claim.slave_in_service);
+        back.settle()
     }
 }
 
@@ -337,7 +354,22 @@ impl EmulatedPic {
         ensures { λ r. ⌜ r ≡ newPic ⌝ }
     {
         EmulatedPic {
-            state: PicState::new(),
+            state: PicState::new(RULE_LATCH),
+        }
+    }
+
+    // A new pair of either rule.
+    pub fn new_rule(rule: u8) -> PicWritten
+        ensures { λ r. ⌜ writeOutcome r ≡ newRule rule ⌝ }
+    {
+        if !is_rule(rule) {
+            return EmulatedPic::new().refused(Refusal::Unsupported);
+        }
+        PicWritten {
+            pic: EmulatedPic {
+                state: PicState::new(rule),
+            },
+            done: PicDone::Done,
         }
     }
 
@@ -474,6 +506,15 @@ fn with_vector(after: StateClaim) -> PicVectored
     }
 }
 
+pub fn is_rule(rule: u8) -> bool
+    ensures { λ r. ⌜ r ≡ isRule rule ⌝ }
+{
+    if rule == RULE_LATCH {
+        return true;
+    }
+    rule == RULE_CASCADE
+}
+
 fn is_port(port: u16) -> bool
     ensures { λ r. ⌜ r ≡ isPort port ⌝ }
 {
@@ -515,7 +556,8 @@ impl PicState {
     fn write_port(self, port: u16, byte: u8) -> Self
         ensures { λ r. ⌜ r ≡ portWritten self port byte ⌝ }
     {
-        self.write_at(port, byte).settle()
+        let written = self.write_at(port, byte);
+        written.settle()
     }
 
     fn write_at(self, port: u16, byte: u8) -> Self
@@ -524,28 +566,16 @@ impl PicState {
         let master = self.master;
         let slave = self.slave;
         if port == MASTER_COMMAND {
-            return PicState {
-                master: master.command(byte),
-                slave,
-            };
+            return self.with_chips(master.command(byte), slave);
         }
         if port == MASTER_DATA {
-            return PicState {
-                master: master.data(byte),
-                slave,
-            };
+            return self.with_chips(master.data(byte), slave);
         }
         if port == SLAVE_COMMAND {
-            return PicState {
-                master,
-                slave: slave.command(byte),
-            };
+            return self.with_chips(master, slave.command(byte));
         }
         if port == SLAVE_DATA {
-            return PicState {
-                master,
-                slave: slave.data(byte),
-            };
+            return self.with_chips(master, slave.data(byte));
         }
         self
     }

@@ -3,14 +3,17 @@ use mathlib.Core.Path.{_≡_, sym, ap, _∙_}
 use mathlib.Core.Bool.{Bool, true, false, cond, not}
 use Prim.Native.Nat.{ℕ, _+_, _<_, _≤_}
 use native.Mathlib.Omega.{arith}
+use lib.Dec.{eqb}
 use borrow.Author.Tests.{lt-ltb, le-ltb, not-true, not-false}
-use Rattle.utils.specs.Set.{with, without, lowest}
+use Rattle.utils.specs.Set.{with, without, lowest, outside}
 use Rattle.utils.proofs.Laws.{with-lt, without-le}
 use Rattle.types.specs.declared.PicLine.{PicLine}
+use Rattle.types.specs.declared.Reply.the-variants as reply
 use Rattle.vpic.specs.declared.chip.PicChip.{PicChip}
-use Rattle.vpic.specs.Chip.{withRequest, withInService, pulsed, acknowledged, unacknowledged, commanded}
-use Rattle.vpic.specs.Pair.{chips}
+use Rattle.vpic.specs.Chip.{withRequest, withInService, pulsed, asks, driven, acknowledged, unacknowledged, commanded, commandRead}
+use Rattle.boundary.specs.Lent.{replyCode}
 use Rattle.vpic_c.specs.Words.{chipIn, withChip}
+use Rattle.vpic_c.proofs.Quiet.{asks-none, asks-some}
 use Rattle.vpic_c.proofs.Packing.{Bytes, bytes-in, with-same, with-request, without-request, with-service, without-service}
 
 -- ---- chips whose numbers are bytes
@@ -83,6 +86,36 @@ unfolding commanded
 idle-way w k c d f l =
     let m : lowest 8 (chipIn w .«in_service») ≡ k = ap (λ (x : PicChip). lowest 8 (x .«in_service»)) (sym d) ∙ sym f in
     rw (m, le-ltb k 8 l) (sym (with-same w))
+
+pub none-way : (w : ℕ) (c : PicChip) → c ≡ chipIn w → c .«in_service» ≡ 0 → w ≡ withChip w (commanded (chipIn w) 0x20)
+unfolding lowest
+none-way w c d e = idle-way w 8 c d (ap (lowest 8) (sym e)) (omega arith)
+
+pub drive-up : (w r : ℕ) (up : Bool) → up ≡ true → r ≡ with w (2 + 16) → r ≡ withChip w (driven (chipIn w) 2 up)
+unfolding driven
+drive-up w r up h e = rw h (e ∙ request-in w 2 (omega arith))
+
+pub drive-down : (w r : ℕ) (up : Bool) → up ≡ false → r ≡ without w (2 + 16) → r ≡ withChip w (driven (chipIn w) 2 up)
+unfolding driven
+drive-down w r up h e = rw h (e ∙ request-out w 2 (omega arith))
+
+pub asked-way : (w : ℕ) (c : PicChip) (r : Bool) → c ≡ chipIn w → r ≡ asks c → r ≡ asks (chipIn w)
+asked-way w c r e q = q ∙ ap asks e
+
+pub none-asked : (w o : ℕ) (c : PicChip) → c ≡ chipIn w → o ≡ outside 8 (c .request) (c .mask) → o ≡ 0 → false ≡ asks (chipIn w)
+none-asked w o c e q h = sym (asks-none c (sym q ∙ h)) ∙ ap asks e
+
+pub some-asked : (w o : ℕ) (c : PicChip) → c ≡ chipIn w → o ≡ outside 8 (c .request) (c .mask) → (o ≡ 0 → ⊥) → c .«in_service» ≡ 0 → true ≡ asks (chipIn w)
+some-asked w o c e q h s = sym (asks-some c (λ z. h (q ∙ z)) s) ∙ ap asks e
+
+pub idle-is : (w o : ℕ) (c : PicChip) → c ≡ chipIn w → o ≡ outside 8 (c .request) (c .mask) → eqb o 0 ≡ eqb (outside 8 (chipIn w .request) (chipIn w .mask)) 0
+idle-is w o c e q = ap (λ (n : ℕ). eqb n 0) (q ∙ ap (λ (x : PicChip). outside 8 (x .request) (x .mask)) e)
+
+pub read-command-way : (w v r : ℕ) (c : PicChip) → c ≡ chipIn w → v ≡ commandRead c → r ≡ replyCode (reply.One v) → r ≡ replyCode (reply.One (commandRead (chipIn w)))
+read-command-way w v r c e q h = h ∙ ap (λ (n : ℕ). replyCode (reply.One n)) (q ∙ ap commandRead e)
+
+pub read-mask-way : (w r : ℕ) (c : PicChip) → c ≡ chipIn w → r ≡ replyCode (reply.One (c .mask)) → r ≡ replyCode (reply.One (chipIn w .mask))
+read-mask-way w r c e h = h ∙ ap (λ (x : PicChip). replyCode (reply.One (x .mask))) e
 
 pub through-way : (f : PicChip → PicChip) (w r : ℕ) (c d : PicChip) → c ≡ chipIn w → d ≡ f c → r ≡ withChip w d → r ≡ withChip w (f (chipIn w))
 through-way f w r c d e q h = h ∙ ap (withChip w) (q ∙ ap f e)

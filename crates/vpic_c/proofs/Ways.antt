@@ -8,9 +8,9 @@ use lib.Dec.{eqb, ltb}
 use lib.ListN.{getD, set, length}
 use lib.Pow.{pow-pos}
 use lib.Seq.{getD-set-other, set-getD}
-use borrow.Author.Tests.{ltb-true, lt-ltb, le-ltb, eq-eqb, ne-eqb, eqb-true, eqb-false}
-use Rattle.utils.specs.Set.{bit, with}
-use Rattle.utils.proofs.Laws.{with-lt}
+use borrow.Author.Tests.{not-true, ltb-true, ltb-false, lt-ltb, le-ltb, eq-eqb, ne-eqb, eqb-true, eqb-false}
+use Rattle.utils.specs.Set.{bit, with, outside, lowest}
+use Rattle.utils.proofs.Laws.{lowest-le}
 use Rattle.types.specs.declared.PicLine.{PicLine}
 use Rattle.types.specs.declared.PicPlace.{PicPlace}
 use Rattle.types.specs.declared.PicPlace.the-variants.{Master, Slave, Nowhere}
@@ -20,6 +20,7 @@ use Rattle.types.specs.declared.Reply.{Reply}
 use Rattle.types.specs.declared.Reply.the-variants as reply
 use Rattle.types.specs.Counters.{placeOf, lineVector}
 use Rattle.vpic.specs.declared.chip.PicChip.{PicChip}
+use Rattle.vpic.specs.declared.chip.PendingIrq.the-variants.{Nothing}
 use Rattle.vpic.specs.declared.pair.PicState.{PicState}
 use Rattle.vpic.specs.declared.pair.PicClaim.{PicClaim}
 use Rattle.vpic.specs.declared.pair.PicClaim.the-variants.{Claimed, Nothing as NoClaim}
@@ -27,15 +28,16 @@ use Rattle.vpic.specs.declared.pair.EmulatedPic.{EmulatedPic}
 use Rattle.vpic.specs.declared.pair.PicValue.{PicValue}
 use Rattle.vpic.specs.declared.pair.PortRanges.{PortRanges}
 use Rattle.vpic.specs.declared.pair.StateClaim.{StateClaim}
-use Rattle.vpic.specs.Chip.{withRequest, pulsed, acknowledged, unacknowledged, commanded, fed, vectorReply}
-use Rattle.vpic.specs.Pair.{newState, portRanges, chips, pic, grew, cascadeIrq, latched, latchedAt, masterClaim, slaveClaim, pendingPlace, claimAt, claimPending, claimIrq, claimFlags, claimReply, claimVector, withClaim, withVector, restored, portRead, writtenAt, portWritten, valueReply}
-use Rattle.vpic.proofs.ChipLaws.{Pending}
-use Rattle.vpic.proofs.PairLaws.{ready-master, ready-slave}
+use Rattle.vpic.specs.Chip.{pulsed, asks, driven, pendingIrq, pendingReply, acknowledged, unacknowledged, commanded, fed, commandRead, vectorReply}
+use Rattle.vpic.specs.Pair.{newState, isRule, portRanges, chips, pic, isCascade, settled, grew, cascadeIrq, latched, latchedAt, masterClaim, slaveClaim, pendingPlace, claimAt, claimPending, claimIrq, claimFlags, claimReply, claimVector, withClaim, withVector, restoredAt, restored, portRead, isPort, writtenAt, portWritten, valueReply}
+use Rattle.vpic.proofs.ChipLaws.{Pending, pending-none}
+use Rattle.vpic.proofs.PairLaws.{place-nowhere, ready-master, ready-slave}
 use Rattle.boundary.specs.Lent.{Lent, replyCode}
-use Rattle.vpic_c.specs.Words.{chipIn, wordOf, withChip, view, put}
-use Rattle.vpic_c.specs.Calls.{lent, line, after, newWords, rangeWords, claimIrqWords, claimPendingWords, pulseIrqWords, nextInterruptWords, claimWith, isClaim, restoreWords, readWords, writeWords}
-use Rattle.vpic_c.proofs.Packing.{Bytes, bytes-in, chip-back, with-with, with-same}
-use Rattle.vpic_c.proofs.InPlace.{bytes-request}
+use Rattle.vpic_c.specs.Words.{chipIn, wordOf, withChip, isCascadeIn, ruleIn, view, put}
+use Rattle.vpic_c.specs.Calls.{lent, line, after, newPair, newWords, masterTaken, slaveTaken, rangeWords, claimIrqWords, claimPendingWords, pulseIrqWords, nextInterruptWords, claimWith, isClaim, restoreWords, readWords, writeWords}
+use Rattle.vpic_c.proofs.Packing.{bytes-in, chip-back, with-with, with-same}
+use Rattle.vpic_c.proofs.Quiet.{and-true, asks-taken, settled-quiet, taken-down}
+use Rattle.vpic_c.proofs.Kept.{bytes-acknowledged, Both, both-settled, both-latched, both-restored, both-written}
 
 lent-same : {l m : List ℕ} {c d : ℕ} → l ≡ m → c ≡ d → lent l c ≡ lent m d
 lent-same p q = λ i. lent (p i) (q i)
@@ -49,13 +51,13 @@ one-not-zero : _≡_ {A = ℕ} 1 0 → ⊥
 one-not-zero e = omega arith
 
 -- one chip alone is put back
-pub put-master : (l : List ℕ) (c : PicChip) → set l 0 (withChip (getD l 0 0) c) ≡ put l (chips c (view l .state .slave))
+pub put-master : (l : List ℕ) (c : PicChip) → set l 0 (withChip (getD l 0 0) c) ≡ put l (chips (view l .state) c (view l .state .slave))
 unfolding put view
 put-master l c =
     let x = withChip (getD l 0 0) c in
     sym (ap (λ (v : ℕ). set (set l 0 x) 1 v) (with-same (getD l 1 0) ∙ sym (getD-set-other l 0 1 x 0 one-not-zero)) ∙ set-getD (set l 0 x) 1 0)
 
-pub put-slave : (l : List ℕ) (c : PicChip) → set l 1 (withChip (getD l 1 0) c) ≡ put l (chips (view l .state .master) c)
+pub put-slave : (l : List ℕ) (c : PicChip) → set l 1 (withChip (getD l 1 0) c) ≡ put l (chips (view l .state) (view l .state .master) c)
 unfolding put view
 put-slave l c = sym (ap (λ (m : List ℕ). set m 1 (withChip (getD l 1 0) c)) (ap (set l 0) (with-same (getD l 0 0)) ∙ set-getD l 0 0))
 
@@ -65,31 +67,68 @@ unfolding put view
 put-same l = sym (put-master l (chipIn (getD l 0 0))) ∙ ap (set l 0) (with-same (getD l 0 0)) ∙ set-getD l 0 0
 
 -- both chips, the slave's read after the master's was stored
-put-both : (l : List ℕ) (a b v : ℕ) (c d : PicChip) → a ≡ withChip (getD l 0 0) c → v ≡ getD (set l 0 a) 1 0 → b ≡ withChip v d → set (set l 0 a) 1 b ≡ put l (chips c d)
+put-both : (l : List ℕ) (p : PicState) (a b v : ℕ) (c d : PicChip) → a ≡ withChip (getD l 0 0) c → v ≡ getD (set l 0 a) 1 0 → b ≡ withChip v d → set (set l 0 a) 1 b ≡ put l (chips p c d)
 unfolding put
-put-both l a b v c d e q f =
+put-both l p a b v c d e q f =
     let w : v ≡ getD l 1 0 = q ∙ getD-set-other l 0 1 a 0 one-not-zero in
     ap₂ (λ (x y : ℕ). set (set l 0 x) 1 y) e (f ∙ ap (λ (x : ℕ). withChip x d) w)
 
-pub record Both (p : PicState) : Type 0 where
-  pub master : Bytes (p .master)
-  pub slave : Bytes (p .slave)
-
-pub both-in : (l : List ℕ) → Both (view l .state)
+pub both-in : (l : List ℕ) → Both (ruleIn l) (view l .state)
 unfolding view
-both-in l = record { master = bytes-in (getD l 0 0); slave = bytes-in (getD l 1 0) }
+both-in l = record { rule = refl; master = bytes-in (getD l 0 0); slave = bytes-in (getD l 1 0) }
 
-pub view-put : (l : List ℕ) (p : PicState) → 1 < length l → Both p → view (put l p) ≡ pic p
+pub pair-way : (l : List ℕ) (n : ℕ) (a b : PicChip) → n ≡ ruleIn l → a ≡ chipIn (getD l 0 0) → b ≡ chipIn (getD l 1 0)
+    → _≡_ {A = PicState} (record { rule = n; master = a; slave = b }) (view l .state)
+unfolding view
+pair-way l n a b e f g = λ i. record { rule = e i; master = f i; slave = g i }
+
+pub view-put : (l : List ℕ) (p : PicState) → 1 < length l → Both (ruleIn l) p → view (put l p) ≡ pic p
 unfolding view put
 view-put [] p h b = absurd (omega arith)
 view-put (x ∷ []) p h b = absurd (omega arith)
-view-put (x ∷ y ∷ t) p h b = λ i. pic (chips (chip-back x (p .master) (b .master) i) (chip-back y (p .slave) (b .slave) i))
+view-put (x ∷ y ∷ t) p h b =
+    λ i. pic (record { rule = sym (b .rule) i; master = chip-back x (p .master) (b .master) i; slave = chip-back y (p .slave) (b .slave) i })
 
-pub put-put : (l : List ℕ) (p q : PicState) → 1 < length l → Both p → put (put l p) q ≡ put l q
+pub put-put : (l : List ℕ) (p q : PicState) → 1 < length l → Both (ruleIn l) p → put (put l p) q ≡ put l q
 unfolding put
 put-put [] p q h b = absurd (omega arith)
 put-put (x ∷ []) p q h b = absurd (omega arith)
 put-put (x ∷ y ∷ t) p q h b = λ i. with-with x (p .master) (q .master) (b .master) i ∷ with-with y (p .slave) (q .slave) (b .slave) i ∷ t
+
+-- ---- the rule
+
+pub settled-off : (p : PicState) → isCascade p ≡ false → settled p ≡ p
+unfolding settled
+settled-off p h = rw h
+
+settled-on : (p : PicState) → isCascade p ≡ true → settled p ≡ chips p (driven (p .master) 2 (asks (p .slave))) (p .slave)
+unfolding settled
+settled-on p h = rw h
+
+rule-is : (b : Bool) → eqb (cond b 1 0) 1 ≡ b
+rule-is true = refl
+rule-is false = refl
+
+cascade-is : (l : List ℕ) (b : Bool) → isCascadeIn l ≡ b → isCascade (view l .state) ≡ b
+unfolding view
+cascade-is l b h = rule-is (isCascadeIn l) ∙ h
+
+pub settle-off : (l : List ℕ) → isCascadeIn l ≡ false → l ≡ put l (settled (view l .state))
+settle-off l h = sym (ap (put l) (settled-off (view l .state) (cascade-is l false h)) ∙ put-same l)
+
+pub settle-on : (l : List ℕ) (a : ℕ) (up : Bool) → isCascadeIn l ≡ true → up ≡ asks (chipIn (getD l 1 0)) → a ≡ withChip (getD l 0 0) (driven (chipIn (getD l 0 0)) 2 up)
+    → set l 0 a ≡ put l (settled (view l .state))
+unfolding view
+settle-on l a up h e q =
+    let p = view l .state in
+    ap (set l 0) (q ∙ ap (λ (b : Bool). withChip (getD l 0 0) (driven (chipIn (getD l 0 0)) 2 b)) e) ∙ put-master l (driven (p .master) 2 (asks (p .slave)))
+    ∙ ap (put l) (sym (settled-on p (cascade-is l true h)))
+
+-- chips were put into the words, and then the pair was settled
+pub after-settle : (l m n : List ℕ) (p : PicState) → length l ≡ 4 → Both (ruleIn l) p → m ≡ put l p → n ≡ put m (settled (view m .state)) → n ≡ put l (settled p)
+after-settle l m n p h b e q =
+    let v : view m .state ≡ p = ap (λ (x : List ℕ). view x .state) e ∙ ap (λ (x : EmulatedPic). x .state) (view-put l p (omega arith) b) in
+    q ∙ ap₂ (λ (x : List ℕ) (y : PicState). put x (settled y)) e v ∙ put-put l p (settled p) (omega arith) b
 
 -- ---- a claim
 
@@ -122,28 +161,28 @@ claimed-at l x m r e p q = lent-same p q ∙ ap (λ (y : PicPlace). after l (wit
 
 pub master-way : (l : List ℕ) (k : PicLine) (c : PicChip) (a r : ℕ) (v : Vector) (s : Bool) → pendingPlace (view l .state) ≡ Master k → c ≡ chipIn (getD l 0 0)
     → a ≡ withChip (getD l 0 0) (acknowledged (chipIn (getD l 0 0)) (k .0)) → v ≡ lineVector (c .«vector_base») k → s ≡ not (chipIn (getD l 0 0) .«auto_eoi»)
-    → r ≡ replyCode (claimReply (Claimed (record { vector = v; irq = k; «master_in_service» = s; «slave_in_service» = false }))) → lent (set l 0 a) r ≡ claimPendingWords l
-unfolding masterClaim view
+    → r ≡ replyCode (claimReply (Claimed (record { vector = v; irq = k; «master_in_service» = s; «slave_in_service» = false }))) → lent (set l 0 a) r ≡ masterTaken l k
+unfolding masterTaken masterClaim view
 master-way l k c a r v s e ec ea ev es er =
     let p = view l .state in
     let m : s ≡ grew (p .master) (acknowledged (p .master) (k .0)) = es ∙ sym (served (p .master) (k .0) (ready-master p k e)) in
     let f : v ≡ lineVector (p .master .«vector_base») k = ev ∙ ap (λ (x : PicChip). lineVector (x .«vector_base») k) ec in
-    claimed-at l (Master k) (set l 0 a) r e (ap (set l 0) ea ∙ put-master l (acknowledged (p .master) (k .0)))
+    lent-same (ap (set l 0) ea ∙ put-master l (acknowledged (p .master) (k .0)))
     (er ∙ (λ i. replyCode (claimReply (Claimed (record { vector = f i; irq = k; «master_in_service» = m i; «slave_in_service» = grew-none (p .slave) i })))))
 
 pub slave-way : (l : List ℕ) (k : PicLine) (c : PicChip) (a b r : ℕ) (v : Vector) (s t : Bool) → pendingPlace (view l .state) ≡ Slave k → c ≡ chipIn (getD l 1 0)
     → a ≡ withChip (getD l 0 0) (acknowledged (chipIn (getD l 0 0)) 2) → b ≡ withChip (getD l 1 0) (acknowledged (chipIn (getD l 1 0)) (k .0))
     → v ≡ lineVector (c .«vector_base») k → s ≡ not (chipIn (getD l 0 0) .«auto_eoi») → t ≡ not (chipIn (getD l 1 0) .«auto_eoi»)
     → r ≡ replyCode (claimReply (Claimed (record { vector = v; irq = record { 0 = k .0 + 8 }; «master_in_service» = s; «slave_in_service» = t })))
-    → lent (set (set l 0 a) 1 b) r ≡ claimPendingWords l
-unfolding slaveClaim view put
+    → lent (set (set l 0 a) 1 b) r ≡ slaveTaken l k
+unfolding slaveTaken slaveClaim view put
 slave-way l k c a b r v s t e ec ea eb ev es et er =
     let p = view l .state in
     let h = ready-slave p k e in
     let m : s ≡ grew (p .master) (acknowledged (p .master) 2) = es ∙ sym (served (p .master) 2 (h .0)) in
     let n : t ≡ grew (p .slave) (acknowledged (p .slave) (k .0)) = et ∙ sym (served (p .slave) (k .0) (h .1)) in
     let f : v ≡ lineVector (p .slave .«vector_base») k = ev ∙ ap (λ (x : PicChip). lineVector (x .«vector_base») k) ec in
-    claimed-at l (Slave k) (set (set l 0 a) 1 b) r e (ap₂ (λ (x y : ℕ). set (set l 0 x) 1 y) ea eb)
+    lent-same (ap₂ (λ (x y : ℕ). set (set l 0 x) 1 y) ea eb)
     (er ∙ (λ i. replyCode (claimReply (Claimed (record { vector = f i; irq = record { 0 = k .0 + 8 }; «master_in_service» = m i; «slave_in_service» = n i })))))
 
 pub nothing-way : (l : List ℕ) (p : PicState) (x : PicPlace) (r : ℕ) → p ≡ view l .state → x ≡ pendingPlace p → x ≡ Nowhere → r ≡ replyCode reply.Nothing → lent l r ≡ claimPendingWords l
@@ -152,54 +191,118 @@ nothing-way l p x r d e f q = claimed-at l Nowhere l r (ap pendingPlace (sym d) 
 pub place-of : (l : List ℕ) (p : PicState) (x y : PicPlace) → p ≡ view l .state → x ≡ pendingPlace p → x ≡ y → pendingPlace (view l .state) ≡ y
 place-of l p x y d e f = ap pendingPlace (sym d) ∙ sym e ∙ f
 
+-- no request of the master is unmasked
+pub idle-way : (l : List ℕ) (r : ℕ) → eqb (outside 8 (chipIn (getD l 0 0) .request) (chipIn (getD l 0 0) .mask)) 0 ≡ true → r ≡ replyCode reply.Nothing → lent l r ≡ claimPendingWords l
+unfolding view lowest
+idle-way l r h q =
+    let c = chipIn (getD l 0 0) in
+    let o : 0 ≡ outside 8 (c .request) (c .mask) = sym (eqb-true (outside 8 (c .request) (c .mask)) 0 h) in
+    let n : reply.Nothing ≡ pendingReply (pendingIrq c) = pending-none c 0 8 (lowest 8 (c .«in_service»)) o refl refl (lowest-le 8 (c .«in_service»)) in
+    nothing-way l (view l .state) Nowhere r refl (place-nowhere (view l .state) Nothing n refl) refl q
+
+-- the chips after a line of the master was taken, and after one of the slave was
+abbrev byMaster : List ℕ → PicLine → PicState
+byMaster l k = chips (view l .state) (acknowledged (view l .state .master) (k .0)) (view l .state .slave)
+
+abbrev bySlave : List ℕ → PicLine → PicState
+bySlave l k = chips (view l .state) (acknowledged (view l .state .master) 2) (acknowledged (view l .state .slave) (k .0))
+
+module _ (l m : List ℕ) (p : PicState) (x : PicPlace) (k : PicLine) (r : ℕ) (d : p ≡ view l .state) (e : x ≡ pendingPlace p) where
+  -- rule 0 leaves nothing to do
+  pub taken-master : x ≡ Master k → isCascadeIn l ≡ false → lent m r ≡ masterTaken l k → lent m r ≡ claimPendingWords l
+  unfolding masterTaken masterClaim
+  taken-master f h t =
+      let w = words-of (lent m r) (masterTaken l k) t in
+      claimed-at l (Master k) m r (place-of l p x (Master k) d e f) (w .0 ∙ ap (put l) (sym (settled-off (byMaster l k) (cascade-is l false h)))) (w .1)
+
+  pub taken-slave : x ≡ Slave k → isCascadeIn l ≡ false → lent m r ≡ slaveTaken l k → lent m r ≡ claimPendingWords l
+  unfolding slaveTaken slaveClaim
+  taken-slave f h t =
+      let w = words-of (lent m r) (slaveTaken l k) t in
+      claimed-at l (Slave k) m r (place-of l p x (Slave k) d e f) (w .0 ∙ ap (put l) (sym (settled-off (bySlave l k) (cascade-is l false h)))) (w .1)
+
+  -- by either rule it is settled; a line of the slave that went into service leaves nothing to settle
+  pub quiet-slave : (b : Bool) → x ≡ Slave k → b ≡ not (chipIn (getD l 1 0) .«auto_eoi») → b ≡ true → lent m r ≡ slaveTaken l k → lent m r ≡ claimPendingWords l
+  unfolding slaveTaken slaveClaim view
+  quiet-slave b f s y t =
+      let w = words-of (lent m r) (slaveTaken l k) t in
+      let a = place-of l p x (Slave k) d e f in
+      let q = asks-taken (chipIn (getD l 1 0)) (k .0) (ready-slave (view l .state) k a .1) (not-true (chipIn (getD l 1 0) .«auto_eoi») (sym s ∙ y)) in
+      claimed-at l (Slave k) m r a
+      (w .0 ∙ ap (put l) (sym (settled-quiet (view l .state) (acknowledged (chipIn (getD l 0 0)) 2) (acknowledged (chipIn (getD l 1 0)) (k .0)) (taken-down (chipIn (getD l 0 0))) q))) (w .1)
+
+  pub settled-master : (n : List ℕ) → length l ≡ 4 → x ≡ Master k → lent m r ≡ masterTaken l k → n ≡ put m (settled (view m .state)) → lent n r ≡ claimPendingWords l
+  unfolding masterTaken masterClaim
+  settled-master n h f t s =
+      let w = words-of (lent m r) (masterTaken l k) t in
+      let a = place-of l p x (Master k) d e f in
+      let b = both-in l in
+      claimed-at l (Master k) n r a
+      (after-settle l m n (byMaster l k) h (record { rule = b .rule; master = bytes-acknowledged (view l .state .master) (k .0) (line-master l k a) (b .master); slave = b .slave }) (w .0) s) (w .1)
+
+  pub settled-slave : (n : List ℕ) → length l ≡ 4 → x ≡ Slave k → lent m r ≡ slaveTaken l k → n ≡ put m (settled (view m .state)) → lent n r ≡ claimPendingWords l
+  unfolding slaveTaken slaveClaim
+  settled-slave n h f t s =
+      let w = words-of (lent m r) (slaveTaken l k) t in
+      let a = place-of l p x (Slave k) d e f in
+      let b = both-in l in
+      claimed-at l (Slave k) n r a
+      (after-settle l m n (bySlave l k) h (record {
+        rule = b .rule;
+        master = bytes-acknowledged (view l .state .master) 2 (omega arith) (b .master);
+        slave = bytes-acknowledged (view l .state .slave) (k .0) (line-slave l k a) (b .slave);
+      }) (w .0) s) (w .1)
+
 -- ---- an edge
 
-pub bytes-pulsed : (c : PicChip) (k : PicLine) → Bytes c → Bytes (pulsed c k)
-unfolding pulsed
-bytes-pulsed c k h = go (ltb (k .0) 8) refl
-  where
-    go : (b : Bool) → ltb (k .0) 8 ≡ b → Bytes (cond b (withRequest c (with (c .request) (k .0))) c)
-    go true q = bytes-request c (with (c .request) (k .0)) h (with-lt 8 (c .request) (k .0) (h .request) (ltb-true (k .0) 8 q))
-    go false q = h
+-- the pair's line k is latched
+abbrev edge : List ℕ → ℕ → PicState
+edge l k = latchedAt (view l .state) (placeOf (line k))
 
-pub both-latched : (p : PicState) (k : PicLine) → Both p → Both (latched p k)
-unfolding latched
-both-latched p k h = go (placeOf k)
-  where
-    go : (x : PicPlace) → Both (latchedAt p x)
-    go (Master j) = record { master = bytes-pulsed (p .master) j (h .master); slave = h .slave }
-    go (Slave j) = record { master = bytes-pulsed (p .master) cascadeIrq (h .master); slave = bytes-pulsed (p .slave) j (h .slave) }
-    go Nowhere = h
-
-pub latch-low : (l : List ℕ) (k a : ℕ) → k < 8 → a ≡ withChip (getD l 0 0) (pulsed (chipIn (getD l 0 0)) (line k)) → set l 0 a ≡ put l (latched (view l .state) (line k))
-unfolding latched view
-latch-low l k a h e = rw (lt-ltb k 8 h) (ap (set l 0) e ∙ put-master l (pulsed (chipIn (getD l 0 0)) (line k)))
+pub latch-low : (l : List ℕ) (k a : ℕ) → k < 8 → a ≡ withChip (getD l 0 0) (pulsed (chipIn (getD l 0 0)) (line k)) → (set l 0 a ≡ put l (edge l k)) × (true ≡ ltb k 16)
+unfolding view
+latch-low l k a h e = rw (lt-ltb k 8 h) (ap (set l 0) e ∙ put-master l (pulsed (chipIn (getD l 0 0)) (line k)), sym (lt-ltb k 16 (omega arith)))
 
 pub latch-high : (l : List ℕ) (k a b v : ℕ) → k < 16 → 8 ≤ k → a ≡ withChip (getD l 0 0) (pulsed (chipIn (getD l 0 0)) cascadeIrq) → v ≡ getD (set l 0 a) 1 0
-    → b ≡ withChip v (pulsed (chipIn v) (line (k - 8))) → set (set l 0 a) 1 b ≡ put l (latched (view l .state) (line k))
-unfolding latched view
+    → b ≡ withChip v (pulsed (chipIn v) (line (k - 8))) → (set (set l 0 a) 1 b ≡ put l (edge l k)) × (true ≡ ltb k 16)
+unfolding view
 latch-high l k a b v h g e q f =
     let w : v ≡ getD l 1 0 = q ∙ getD-set-other l 0 1 a 0 one-not-zero in
     rw (le-ltb k 8 g, lt-ltb k 16 h)
-    (put-both l a b v (pulsed (chipIn (getD l 0 0)) cascadeIrq) (pulsed (chipIn (getD l 1 0)) (line (k - 8))) e q (f ∙ ap (λ (x : ℕ). withChip v (pulsed (chipIn x) (line (k - 8)))) w))
+    (put-both l (view l .state) a b v (pulsed (chipIn (getD l 0 0)) cascadeIrq) (pulsed (chipIn (getD l 1 0)) (line (k - 8))) e q (f ∙ ap (λ (x : ℕ). withChip v (pulsed (chipIn x) (line (k - 8)))) w), refl)
+
+-- a line that the pair hasn't
+edge-none : (l : List ℕ) (k : ℕ) → 16 ≤ k → put l (edge l k) ≡ l
+edge-none l k h = rw (le-ltb k 8 (omega arith), le-ltb k 16 h) (put-same l)
+
+pub latch-none : (l : List ℕ) (k : ℕ) → 16 ≤ k → (l ≡ put l (edge l k)) × (false ≡ ltb k 16)
+latch-none l k h = (sym (edge-none l k h), sym (le-ltb k 16 h))
 
 -- what is claimed of words that chips were put into
-claims-after : (l : List ℕ) (p : PicState) → 1 < length l → Both p → claimPendingWords (put l p) ≡ after l (withClaim (claimPending p))
+claims-after : (l : List ℕ) (p : PicState) → 1 < length l → Both (ruleIn l) p → claimPendingWords (put l p) ≡ after l (withClaim (claimPending p))
 unfolding claimPendingWords
 claims-after l p h b =
     let q = claimPending p in
     ap (λ (x : PicState). after (put l p) (withClaim (claimPending x))) (ap (λ (x : EmulatedPic). x .state) (view-put l p h b))
     ∙ lent-same (put-put l p (q .state) h b) refl
 
-pub irq-none : (l : List ℕ) (k r : ℕ) → 16 ≤ k → r ≡ replyCode reply.Nothing → lent l r ≡ claimIrqWords l k
+pub irq-none : (l m : List ℕ) (k r : ℕ) → m ≡ put l (latchedAt (view l .state) (placeOf (line k))) → ltb k 16 ≡ false → r ≡ replyCode reply.Nothing → lent m r ≡ claimIrqWords l k
 unfolding claimIrqWords claimIrq
-irq-none l k r h e = rw (le-ltb k 16 h) (lent-same (sym (put-same l)) e)
+irq-none l m k r d h e = rw h (lent-same (d ∙ edge-none l k (ltb-false k 16 h) ∙ sym (put-same l)) e)
 
-pub irq-some : (l m n : List ℕ) (k r : ℕ) → length l ≡ 4 → k < 16 → m ≡ put l (latched (view l .state) (line k)) → lent n r ≡ claimPendingWords m → lent n r ≡ claimIrqWords l k
+latch-settled : (l m n : List ℕ) (k : ℕ) → length l ≡ 4 → m ≡ put l (latchedAt (view l .state) (placeOf (line k))) → n ≡ put m (settled (view m .state))
+    → (n ≡ put l (latched (view l .state) (line k))) × Both (ruleIn l) (latched (view l .state) (line k))
+unfolding latched
+latch-settled l m n k h d s =
+    let b = both-latched (ruleIn l) (view l .state) (placeOf (line k)) (both-in l) in
+    (after-settle l m n (edge l k) h b d s, both-settled (ruleIn l) (edge l k) b)
+
+pub irq-some : (l m n o : List ℕ) (k r : ℕ) → length l ≡ 4 → ltb k 16 ≡ true → m ≡ put l (latchedAt (view l .state) (placeOf (line k))) → n ≡ put m (settled (view m .state))
+    → lent o r ≡ claimPendingWords n → lent o r ≡ claimIrqWords l k
 unfolding claimIrqWords claimIrq
-irq-some l m n k r h g e q =
-    rw (lt-ltb k 16 g)
-    (q ∙ ap claimPendingWords e ∙ claims-after l (latched (view l .state) (line k)) (omega arith) (both-latched (view l .state) (line k) (both-in l)))
+irq-some l m n o k r h g d s q =
+    let b = latch-settled l m n k h d s in
+    rw g (q ∙ ap claimPendingWords (b .0) ∙ claims-after l (latched (view l .state) (line k)) (omega arith) (b .1))
 
 -- ---- the vector alone
 
@@ -236,42 +339,45 @@ pub next-way : (l n : List ℕ) (c r : ℕ) → lent n c ≡ claimPendingWords l
 unfolding nextInterruptWords claimPendingWords claimPending
 next-way l n c r e f = alone-way l n (claimPending (view l .state)) c r (claim-fits (view l .state) (pendingPlace (view l .state))) e f
 
-pub pulse-none : (l : List ℕ) (k r : ℕ) → 16 ≤ k → r ≡ replyCode reply.Nothing → lent l r ≡ pulseIrqWords l k
-unfolding pulseIrqWords claimIrq
-pulse-none l k r h e = rw (le-ltb k 16 h) (lent-same (sym (put-same l)) e)
+irq-fits : (p : PicState) (k : ℕ) → VectorFits (claimIrq p (line k) .claim)
+unfolding claimIrq claimPending
+irq-fits p k = go (ltb k 16)
+  where
+    go : (b : Bool) → VectorFits (cond b (claimPending (latched p (line k))) (record { state = p; claim = NoClaim }) .claim)
+    go true = claim-fits (latched p (line k)) (pendingPlace (latched p (line k)))
+    go false = tt
 
-pub pulse-some : (l m n : List ℕ) (k c r : ℕ) → length l ≡ 4 → k < 16 → m ≡ put l (latched (view l .state) (line k)) → lent n c ≡ claimPendingWords m
-    → r ≡ c / 2 ^ 48 % 2 * 2 ^ 48 + c % 2 ^ 8 → lent n r ≡ pulseIrqWords l k
-unfolding pulseIrqWords claimIrq claimPending
-pulse-some l m n k c r h g e q f =
-    let p = latched (view l .state) (line k) in
-    rw (lt-ltb k 16 g)
-    (alone-way l n (claimPending p) c r (claim-fits p (pendingPlace p))
-    (q ∙ ap claimPendingWords e ∙ claims-after l p (omega arith) (both-latched (view l .state) (line k) (both-in l))) f)
+pub pulse-way : (l n : List ℕ) (k c r : ℕ) → lent n c ≡ claimIrqWords l k → r ≡ c / 2 ^ 48 % 2 * 2 ^ 48 + c % 2 ^ 8 → lent n r ≡ pulseIrqWords l k
+unfolding pulseIrqWords claimIrqWords
+pulse-way l n k c r e f = alone-way l n (claimIrq (view l .state) (line k)) c r (irq-fits (view l .state) k) e f
 
 -- ---- a claim taken back
 
-pub restore-low : (l : List ℕ) (k f a : ℕ) → k < 8 → a ≡ withChip (getD l 0 0) (unacknowledged (chipIn (getD l 0 0)) (line k) (eqb (f % 2) 1))
-    → set l 0 a ≡ put l (restored (view l .state) (claimWith 0 k f))
-unfolding restored view
+-- line k with flags f, the pair not settled yet
+abbrev back : List ℕ → ℕ → ℕ → PicState
+back l k f = restoredAt (view l .state) (placeOf (line k)) (eqb (f % 2) 1) (eqb (f / 2) 1)
+
+pub restore-low : (l : List ℕ) (k f a : ℕ) → k < 8 → a ≡ withChip (getD l 0 0) (unacknowledged (chipIn (getD l 0 0)) (line k) (eqb (f % 2) 1)) → set l 0 a ≡ put l (back l k f)
+unfolding view
 restore-low l k f a j e =
     rw (lt-ltb k 8 j) (ap (set l 0) e ∙ put-master l (unacknowledged (chipIn (getD l 0 0)) (line k) (eqb (f % 2) 1)))
 
 pub restore-high : (l : List ℕ) (k f a b w : ℕ) → 8 ≤ k → k < 16 → a ≡ withChip (getD l 0 0) (unacknowledged (chipIn (getD l 0 0)) cascadeIrq (eqb (f % 2) 1))
-    → w ≡ getD (set l 0 a) 1 0 → b ≡ withChip w (unacknowledged (chipIn w) (line (k - 8)) (eqb (f / 2) 1))
-    → set (set l 0 a) 1 b ≡ put l (restored (view l .state) (claimWith 0 k f))
-unfolding restored view
+    → w ≡ getD (set l 0 a) 1 0 → b ≡ withChip w (unacknowledged (chipIn w) (line (k - 8)) (eqb (f / 2) 1)) → set (set l 0 a) 1 b ≡ put l (back l k f)
+unfolding view
 restore-high l k f a b w i j e d x =
     let s : w ≡ getD l 1 0 = d ∙ getD-set-other l 0 1 a 0 one-not-zero in
     rw (le-ltb k 8 i, lt-ltb k 16 j)
-    (put-both l a b w (unacknowledged (chipIn (getD l 0 0)) cascadeIrq (eqb (f % 2) 1)) (unacknowledged (chipIn (getD l 1 0)) (line (k - 8)) (eqb (f / 2) 1)) e d
+    (put-both l (view l .state) a b w (unacknowledged (chipIn (getD l 0 0)) cascadeIrq (eqb (f % 2) 1)) (unacknowledged (chipIn (getD l 1 0)) (line (k - 8)) (eqb (f / 2) 1)) e d
     (x ∙ ap (λ (y : ℕ). withChip w (unacknowledged (chipIn y) (line (k - 8)) (eqb (f / 2) 1))) s))
 
--- what a claim's code holds
-both-true : (a b : Bool) → (a && b) ≡ true → (a ≡ true) × (b ≡ true)
-both-true true b e = (refl, e)
-both-true false b e = absurd (true≢false (sym e))
+pub restore-settled : (l m n : List ℕ) (k f : ℕ) → length l ≡ 4 → m ≡ put l (restoredAt (view l .state) (placeOf (line k)) (eqb (f % 2) 1) (eqb (f / 2) 1))
+    → n ≡ put m (settled (view m .state)) → n ≡ put l (restored (view l .state) (claimWith 0 k f))
+unfolding restored
+restore-settled l m n k f h d s =
+    after-settle l m n (back l k f) h (both-restored (ruleIn l) (view l .state) (placeOf (line k)) (eqb (f % 2) 1) (eqb (f / 2) 1) (both-in l)) d s
 
+-- what a claim's code holds
 pub record Claim (c : ℕ) : Type 0 where
   pub three : c / 2 ^ 48 ≡ 3
   pub vector : c % 2 ^ 16 < 256
@@ -280,9 +386,9 @@ pub record Claim (c : ℕ) : Type 0 where
 
 pub claim-holds : (c : ℕ) → isClaim c ≡ true → Claim c
 claim-holds c e =
-    let p = both-true (eqb (c / 2 ^ 48) 3) (ltb (c % 2 ^ 16) 256 && (ltb (c / 2 ^ 16 % 2 ^ 16) 16 && ltb (c / 2 ^ 32 % 2 ^ 16) 4)) e in
-    let q = both-true (ltb (c % 2 ^ 16) 256) (ltb (c / 2 ^ 16 % 2 ^ 16) 16 && ltb (c / 2 ^ 32 % 2 ^ 16) 4) (p .1) in
-    let r = both-true (ltb (c / 2 ^ 16 % 2 ^ 16) 16) (ltb (c / 2 ^ 32 % 2 ^ 16) 4) (q .1) in
+    let p = and-true (eqb (c / 2 ^ 48) 3) (ltb (c % 2 ^ 16) 256 && (ltb (c / 2 ^ 16 % 2 ^ 16) 16 && ltb (c / 2 ^ 32 % 2 ^ 16) 4)) e in
+    let q = and-true (ltb (c % 2 ^ 16) 256) (ltb (c / 2 ^ 16 % 2 ^ 16) 16 && ltb (c / 2 ^ 32 % 2 ^ 16) 4) (p .1) in
+    let r = and-true (ltb (c / 2 ^ 16 % 2 ^ 16) 16) (ltb (c / 2 ^ 32 % 2 ^ 16) 4) (q .1) in
     record { three = eqb-true (c / 2 ^ 48) 3 (p .0); vector = ltb-true (c % 2 ^ 16) 256 (q .0); irq = ltb-true (c / 2 ^ 16 % 2 ^ 16) 16 (r .0); flags = ltb-true (c / 2 ^ 32 % 2 ^ 16) 4 (r .1) }
 
 -- in one number: what lies outside the three values and their ranges
@@ -326,6 +432,9 @@ outer-claim c e =
     let t : c / 2 ^ 34 / 2 ^ 14 ≡ 3 = rw d in
     record { three = sym (count-part c) ∙ t; vector = omega (arith, a, low-part c); irq = omega (arith, b, mid-part c); flags = omega (arith, f, top-part c) }
 
+claim-is : (c : ℕ) → Claim c → isClaim c ≡ true
+claim-is c h = rw (eq-eqb (c / 2 ^ 48) 3 (h .three), lt-ltb (c % 2 ^ 16) 256 (h .vector), lt-ltb (c / 2 ^ 16 % 2 ^ 16) 16 (h .irq), lt-ltb (c / 2 ^ 32 % 2 ^ 16) 4 (h .flags))
+
 pub claim-test : (c : ℕ) → eqb (outer c) 0x3000000000000 ≡ isClaim c
 claim-test c = go (eqb (outer c) 0x3000000000000) refl (isClaim c) refl
   where
@@ -335,8 +444,7 @@ claim-test c = go (eqb (outer c) 0x3000000000000) refl (isClaim c) refl
     go false p true q = absurd (eqb-false (outer c) 0x3000000000000 p (outer-is c (claim-holds c q)))
     go true p false q =
         let h = outer-claim c (eqb-true (outer c) 0x3000000000000 p) in
-        let z : isClaim c ≡ true = rw (eq-eqb (c / 2 ^ 48) 3 (h .three), lt-ltb (c % 2 ^ 16) 256 (h .vector), lt-ltb (c / 2 ^ 16 % 2 ^ 16) 16 (h .irq), lt-ltb (c / 2 ^ 32 % 2 ^ 16) 4 (h .flags)) in
-        sym z ∙ q
+        sym (claim-is c h) ∙ q
 
 -- the vector is no matter
 vector-unasked : (p : PicState) (v k f : ℕ) → restored p (claimWith 0 k f) ≡ restored p (claimWith v k f)
@@ -351,6 +459,25 @@ restore-done l w c r h e q =
     rw (h, lt-ltb (c / 2 ^ 16 % 2 ^ 16) 16 k)
     (lent-same (e ∙ ap (put l) (vector-unasked (view l .state) (c % 2 ^ 16) (c / 2 ^ 16 % 2 ^ 16) (c / 2 ^ 32 % 2 ^ 16))) q)
 
+-- the usual claim of a slave's line: in one number, what lies outside its vector and line
+pub usual-holds : (c : ℕ) → eqb (c / 2 ^ 19 * 2 ^ 19 + c / 2 ^ 8 % 2 ^ 8 * 2 ^ 8) 0x3000300080000 ≡ true → Claim c × (c / 2 ^ 32 % 2 ^ 16 ≡ 3)
+usual-holds c e =
+    let q : c / 2 ^ 19 * 2 ^ 19 + c / 2 ^ 8 % 2 ^ 8 * 2 ^ 8 ≡ 0x3000300080000 = eqb-true (c / 2 ^ 19 * 2 ^ 19 + c / 2 ^ 8 % 2 ^ 8 * 2 ^ 8) 0x3000300080000 e in
+    let d : c / 2 ^ 19 ≡ 0x60006001 = omega (arith, q) in
+    let a : c / 2 ^ 8 % 2 ^ 8 ≡ 0 = omega (arith, q, d) in
+    let t : c / 2 ^ 48 ≡ 3 = omega (arith, d) in
+    let u : c / 2 ^ 32 ≡ 0x30003 = omega (arith, d) in
+    let i : c / 2 ^ 16 ≡ 0x300030008 + c / 2 ^ 16 % 8 = omega (arith, d) in
+    let v : c / 2 ^ 16 / 2 ^ 16 ≡ c / 2 ^ 32 = omega arith in
+    let f : c / 2 ^ 32 % 2 ^ 16 ≡ 3 = rw u in
+    (record { three = t; vector = omega (arith, a, low-part c); irq = omega (arith, i, v, u); flags = omega (arith, f) }, f)
+
+pub restore-usual : (l w : List ℕ) (c r : ℕ) → eqb (c / 2 ^ 19 * 2 ^ 19 + c / 2 ^ 8 % 2 ^ 8 * 2 ^ 8) 0x3000300080000 ≡ true
+    → w ≡ put l (restored (view l .state) (claimWith 0 (c / 2 ^ 16 % 2 ^ 16) 3)) → r ≡ replyCode reply.Nothing → lent w r ≡ restoreWords l c
+restore-usual l w c r h e q =
+    let u = usual-holds c h in
+    restore-done l w c r (claim-is c (u .0)) (e ∙ ap (λ (f : ℕ). put l (restored (view l .state) (claimWith 0 (c / 2 ^ 16 % 2 ^ 16) f))) (sym (u .1))) q
+
 pub restore-other : (l : List ℕ) (c r : ℕ) → isClaim c ≡ false → r ≡ replyCode (reply.Refused OutOfRange) → lent l r ≡ restoreWords l c
 unfolding restoreWords
 restore-other l c r h e = rw h (lent-same refl e)
@@ -361,55 +488,100 @@ pub read-width : (l : List ℕ) (p w r : ℕ) → (w ≡ 1 → ⊥) → r ≡ re
 unfolding readWords
 read-width l p w r h e = rw (ne-eqb w 1 h) (lent-same refl e)
 
-pub read-port : (l : List ℕ) (p w r : ℕ) → w ≡ 1 → 65535 < p → r ≡ replyCode (reply.Refused Unsupported) → lent l r ≡ readWords l p w
-unfolding readWords portRead
-read-port l p w r h g e =
-    rw (eq-eqb w 1 h, ne-eqb p 0x20 (omega arith), ne-eqb p 0x21 (omega arith), ne-eqb p 0xa0 (omega arith), ne-eqb p 0xa1 (omega arith)) (lent-same refl e)
+module _ (l : List ℕ) (p w r : ℕ) (h : w ≡ 1) where
+  pub read-none : (p ≡ 0x20 → ⊥) → (p ≡ 0x21 → ⊥) → (p ≡ 0xa0 → ⊥) → (p ≡ 0xa1 → ⊥) → r ≡ replyCode (reply.Refused Unsupported) → lent l r ≡ readWords l p w
+  unfolding readWords portRead
+  read-none a b c d e = rw (eq-eqb w 1 h, ne-eqb p 0x20 a, ne-eqb p 0x21 b, ne-eqb p 0xa0 c, ne-eqb p 0xa1 d) (lent-same refl e)
 
-pub read-value : (l : List ℕ) (q : PicState) (p w r : ℕ) (v : PicValue) (y : Reply) → w ≡ 1 → q ≡ view l .state → v ≡ portRead q p → y ≡ valueReply v → r ≡ replyCode y
-    → lent l r ≡ readWords l p w
-unfolding readWords
-read-value l q p w r v y h d e f g =
-    rw (eq-eqb w 1 h) (lent-same refl (g ∙ ap replyCode (f ∙ ap valueReply (e ∙ ap (λ (s : PicState). portRead s p) d))))
+  pub read-master-command : p ≡ 0x20 → r ≡ replyCode (reply.One (commandRead (chipIn (getD l 0 0)))) → lent l r ≡ readWords l p w
+  unfolding readWords portRead view
+  read-master-command g e = rw (eq-eqb w 1 h, g) (lent-same refl e)
+
+  pub read-master-data : p ≡ 0x21 → r ≡ replyCode (reply.One (chipIn (getD l 0 0) .mask)) → lent l r ≡ readWords l p w
+  unfolding readWords portRead view
+  read-master-data g e = rw (eq-eqb w 1 h, g) (lent-same refl e)
+
+  pub read-slave-command : p ≡ 0xa0 → r ≡ replyCode (reply.One (commandRead (chipIn (getD l 1 0)))) → lent l r ≡ readWords l p w
+  unfolding readWords portRead view
+  read-slave-command g e = rw (eq-eqb w 1 h, g) (lent-same refl e)
+
+  pub read-slave-data : p ≡ 0xa1 → r ≡ replyCode (reply.One (chipIn (getD l 1 0) .mask)) → lent l r ≡ readWords l p w
+  unfolding readWords portRead view
+  read-slave-data g e = rw (eq-eqb w 1 h, g) (lent-same refl e)
 
 pub write-width : (l : List ℕ) (p w x r : ℕ) → (w ≡ 1 → ⊥) → r ≡ replyCode (reply.Refused Unsupported) → lent l r ≡ writeWords l p w x
 unfolding writeWords
 write-width l p w x r h e = rw (ne-eqb w 1 h) (lent-same (sym (put-same l)) e)
 
-pub write-port : (l : List ℕ) (p w x r : ℕ) → w ≡ 1 → (p ≡ 0x20 → ⊥) → (p ≡ 0x21 → ⊥) → (p ≡ 0xa0 → ⊥) → (p ≡ 0xa1 → ⊥) → r ≡ replyCode (reply.Refused Unsupported)
-    → lent l r ≡ writeWords l p w x
-unfolding writeWords
-write-port l p w x r h a b c d e = rw (eq-eqb w 1 h, ne-eqb p 0x20 a, ne-eqb p 0x21 b, ne-eqb p 0xa0 c, ne-eqb p 0xa1 d) (lent-same (sym (put-same l)) e)
+-- a byte is written, the pair not settled yet
+abbrev Written : List ℕ → List ℕ → ℕ → ℕ → Bool → Type 0
+Written l m p b r = (m ≡ put l (writtenAt (view l .state) p b)) × (r ≡ isPort p)
 
-module _ (l : List ℕ) (p w x a r : ℕ) (h : w ≡ 1) (q : r ≡ replyCode reply.Nothing) where
-  pub write-master-command : p ≡ 0x20 → a ≡ withChip (getD l 0 0) (commanded (chipIn (getD l 0 0)) (x % 256)) → lent (set l 0 a) r ≡ writeWords l p w x
-  unfolding writeWords portWritten writtenAt view
-  write-master-command g e = rw (eq-eqb w 1 h, g) (lent-same (ap (set l 0) e ∙ put-master l (commanded (chipIn (getD l 0 0)) (x % 256))) q)
+pub write-none : (l : List ℕ) (p b : ℕ) → (p ≡ 0x20 → ⊥) → (p ≡ 0x21 → ⊥) → (p ≡ 0xa0 → ⊥) → (p ≡ 0xa1 → ⊥) → Written l l p b false
+unfolding writtenAt
+write-none l p b e f g h = rw (ne-eqb p 0x20 e, ne-eqb p 0x21 f, ne-eqb p 0xa0 g, ne-eqb p 0xa1 h) (sym (put-same l), refl)
 
-  pub write-master-end : p ≡ 0x20 → x % 256 ≡ 0x20 → a ≡ withChip (getD l 0 0) (commanded (chipIn (getD l 0 0)) 0x20) → lent (set l 0 a) r ≡ writeWords l p w x
-  write-master-end g f e = write-master-command g (e ∙ ap (λ (b : ℕ). withChip (getD l 0 0) (commanded (chipIn (getD l 0 0)) b)) (sym f))
+module _ (l : List ℕ) (p b a : ℕ) where
+  pub write-master-command : p ≡ 0x20 → a ≡ withChip (getD l 0 0) (commanded (chipIn (getD l 0 0)) b) → Written l (set l 0 a) p b true
+  unfolding writtenAt view
+  write-master-command g e = rw g (ap (set l 0) e ∙ put-master l (commanded (chipIn (getD l 0 0)) b), refl)
 
-  pub write-master-data : p ≡ 0x21 → a ≡ withChip (getD l 0 0) (fed (chipIn (getD l 0 0)) (x % 256)) → lent (set l 0 a) r ≡ writeWords l p w x
-  unfolding writeWords portWritten writtenAt view
-  write-master-data g e = rw (eq-eqb w 1 h, g) (lent-same (ap (set l 0) e ∙ put-master l (fed (chipIn (getD l 0 0)) (x % 256))) q)
+  pub write-master-end : p ≡ 0x20 → b ≡ 0x20 → a ≡ withChip (getD l 0 0) (commanded (chipIn (getD l 0 0)) 0x20) → Written l (set l 0 a) p b true
+  write-master-end g f e = write-master-command g (e ∙ ap (λ (x : ℕ). withChip (getD l 0 0) (commanded (chipIn (getD l 0 0)) x)) (sym f))
 
-  pub write-slave-command : p ≡ 0xa0 → a ≡ withChip (getD l 1 0) (commanded (chipIn (getD l 1 0)) (x % 256)) → lent (set l 1 a) r ≡ writeWords l p w x
-  unfolding writeWords portWritten writtenAt view
-  write-slave-command g e = rw (eq-eqb w 1 h, g) (lent-same (ap (set l 1) e ∙ put-slave l (commanded (chipIn (getD l 1 0)) (x % 256))) q)
+  pub write-master-data : p ≡ 0x21 → a ≡ withChip (getD l 0 0) (fed (chipIn (getD l 0 0)) b) → Written l (set l 0 a) p b true
+  unfolding writtenAt view
+  write-master-data g e = rw g (ap (set l 0) e ∙ put-master l (fed (chipIn (getD l 0 0)) b), refl)
 
-  pub write-slave-end : p ≡ 0xa0 → x % 256 ≡ 0x20 → a ≡ withChip (getD l 1 0) (commanded (chipIn (getD l 1 0)) 0x20) → lent (set l 1 a) r ≡ writeWords l p w x
-  write-slave-end g f e = write-slave-command g (e ∙ ap (λ (b : ℕ). withChip (getD l 1 0) (commanded (chipIn (getD l 1 0)) b)) (sym f))
+  pub write-slave-command : p ≡ 0xa0 → a ≡ withChip (getD l 1 0) (commanded (chipIn (getD l 1 0)) b) → Written l (set l 1 a) p b true
+  unfolding writtenAt view
+  write-slave-command g e = rw g (ap (set l 1) e ∙ put-slave l (commanded (chipIn (getD l 1 0)) b), refl)
 
-  pub write-slave-data : p ≡ 0xa1 → a ≡ withChip (getD l 1 0) (fed (chipIn (getD l 1 0)) (x % 256)) → lent (set l 1 a) r ≡ writeWords l p w x
-  unfolding writeWords portWritten writtenAt view
-  write-slave-data g e = rw (eq-eqb w 1 h, g) (lent-same (ap (set l 1) e ∙ put-slave l (fed (chipIn (getD l 1 0)) (x % 256))) q)
+  pub write-slave-end : p ≡ 0xa0 → b ≡ 0x20 → a ≡ withChip (getD l 1 0) (commanded (chipIn (getD l 1 0)) 0x20) → Written l (set l 1 a) p b true
+  write-slave-end g f e = write-slave-command g (e ∙ ap (λ (x : ℕ). withChip (getD l 1 0) (commanded (chipIn (getD l 1 0)) x)) (sym f))
+
+  pub write-slave-data : p ≡ 0xa1 → a ≡ withChip (getD l 1 0) (fed (chipIn (getD l 1 0)) b) → Written l (set l 1 a) p b true
+  unfolding writtenAt view
+  write-slave-data g e = rw g (ap (set l 1) e ∙ put-slave l (fed (chipIn (getD l 1 0)) b), refl)
+
+-- a port that the pair hasn't
+unwritten : (a b c d : Bool) (s t u v w : PicState) → cond a true (cond b true (cond c true d)) ≡ false → cond a s (cond b t (cond c u (cond d v w))) ≡ w
+unwritten true b c d s t u v w h = absurd (true≢false h)
+unwritten false true c d s t u v w h = absurd (true≢false h)
+unwritten false false true d s t u v w h = absurd (true≢false h)
+unwritten false false false true s t u v w h = absurd (true≢false h)
+unwritten false false false false s t u v w h = refl
+
+pub write-refused : (l m : List ℕ) (p w x r : ℕ) → w ≡ 1 → m ≡ put l (writtenAt (view l .state) p (x % 256)) → isPort p ≡ false → r ≡ replyCode (reply.Refused Unsupported)
+    → lent m r ≡ writeWords l p w x
+unfolding writeWords writtenAt
+write-refused l m p w x r h d n e =
+    rw (eq-eqb w 1 h, n) (lent-same (d ∙ ap (put l) (unwritten (eqb p 0x20) (eqb p 0x21) (eqb p 0xa0) (eqb p 0xa1) _ _ _ _ (view l .state) n)) e)
+
+pub write-done : (l m n : List ℕ) (p w x r : ℕ) → length l ≡ 4 → w ≡ 1 → m ≡ put l (writtenAt (view l .state) p (x % 256)) → isPort p ≡ true
+    → n ≡ put m (settled (view m .state)) → r ≡ replyCode reply.Nothing → lent n r ≡ writeWords l p w x
+unfolding writeWords portWritten
+write-done l m n p w x r k h d y s e =
+    rw (eq-eqb w 1 h, y) (lent-same (after-settle l m n (writtenAt (view l .state) p (x % 256)) k (both-written (ruleIn l) (view l .state) p (x % 256) (omega arith) (both-in l)) d s) e)
 
 -- ---- a new pair, and the ports
 
-pub new-way : (l : List ℕ) (s : PicState) (a b r : ℕ) → s ≡ newState → a ≡ wordOf (s .master) → b ≡ wordOf (s .slave) → r ≡ replyCode reply.Nothing
-    → lent (set (set (set (set l 0 a) 1 b) 2 0) 3 0) r ≡ newWords l
-new-way l s a b r e p q h =
-    lent-same (ap₂ (λ (x y : ℕ). set (set (set (set l 0 x) 1 y) 2 0) 3 0) (p ∙ ap (λ (x : PicState). wordOf (x .master)) e) (q ∙ ap (λ (x : PicState). wordOf (x .slave)) e)) h
+pub new-way : (l : List ℕ) (s : PicState) (a b rule : ℕ) → s ≡ newState 0 → a ≡ wordOf (s .master) → b ≡ wordOf (s .slave)
+    → set (set (set (set l 0 a) 1 b) 2 rule) 3 0 ≡ newPair l rule
+unfolding newState
+new-way l s a b rule e p q =
+    ap₂ (λ (x y : ℕ). set (set (set (set l 0 x) 1 y) 2 rule) 3 0) (p ∙ ap (λ (x : PicState). wordOf (x .master)) e) (q ∙ ap (λ (x : PicState). wordOf (x .slave)) e)
+
+pub new-made : (l w : List ℕ) (rule r : ℕ) → isRule rule ≡ true → w ≡ newPair l rule → r ≡ replyCode reply.Nothing → lent w r ≡ newWords l rule
+unfolding newWords
+new-made l w rule r h e q = rw h (lent-same e q)
+
+pub new-unknown : (l : List ℕ) (rule r : ℕ) → isRule rule ≡ false → r ≡ replyCode (reply.Refused Unsupported) → lent l r ≡ newWords l rule
+unfolding newWords
+new-unknown l rule r h q = rw h (lent-same refl q)
+
+pub wide-rule : (rule : ℕ) → 256 ≤ rule → false ≡ isRule rule
+wide-rule rule h = rw (ne-eqb rule 0 (λ e. absurd (omega (arith, e))), ne-eqb rule 1 (λ e. absurd (omega (arith, e))))
 
 pub range-way : (l : List ℕ) (q : PortRanges) (r : ℕ) → q ≡ portRanges → r ≡ replyCode reply.Nothing
     → lent (set (set (set (set l 0 (q .master .start)) 1 (q .master .end)) 2 (q .slave .start)) 3 (q .slave .end)) r ≡ rangeWords l

@@ -5,12 +5,13 @@ use mathlib.Core.List.{List}
 use lib.Dec.{ltb, eqb}
 use lib.ListN.{set}
 use Rattle.types.specs.declared.PicLine.{PicLine}
-use Rattle.types.specs.declared.Refusal.the-variants.{OutOfRange}
+use Rattle.types.specs.declared.Refusal.the-variants.{Unsupported, OutOfRange}
 use Rattle.types.specs.declared.Reply.the-variants.{Nothing}
 use Rattle.types.specs.Reply.{Outcome}
 use Rattle.vpic.specs.declared.pair.EmulatedPic.{EmulatedPic}
 use Rattle.vpic.specs.declared.pair.PicInterruptClaim.{PicInterruptClaim}
-use Rattle.vpic.specs.Pair.{newState, portRanges, claimIrq, claimPending, withClaim, withVector, restoreInterrupt, handleRead, handleWrite}
+use Rattle.vpic.specs.Chip.{acknowledged}
+use Rattle.vpic.specs.Pair.{newState, isRule, portRanges, chips, masterClaim, slaveClaim, claimReply, claimIrq, claimPending, withClaim, withVector, restoreInterrupt, handleRead, handleWrite}
 use Rattle.boundary.specs.Lent.{Lent, replyCode, refusing, answering}
 use Rattle.vpic_c.specs.Words.{wordOf, view, put}
 
@@ -24,8 +25,13 @@ line k = record { 0 = k }
 abbrev pub after : List ℕ → Outcome EmulatedPic → Lent
 after l o = lent (put l (o .state .state)) (replyCode (o .reply))
 
-abbrev pub newWords : List ℕ → Lent
-newWords l = lent (set (set (set (set l 0 (wordOf (newState .master))) 1 (wordOf (newState .slave))) 2 0) 3 0) (replyCode Nothing)
+-- a new pair of a rule: two new chips, the rule, 0
+abbrev pub newPair : List ℕ → ℕ → List ℕ
+newPair l rule = set (set (set (set l 0 (wordOf (newState rule .master))) 1 (wordOf (newState rule .slave))) 2 rule) 3 0
+
+-- new_rule, and new with 0: refused, the words stay as they were
+unfoldable pub newWords : List ℕ → ℕ → Lent
+newWords l rule = cond (isRule rule) (answering (newPair l rule) Nothing) (refusing l Unsupported)
 
 -- the first and the last port of each chip
 abbrev pub rangeWords : List ℕ → Lent
@@ -34,6 +40,15 @@ rangeWords l =
 
 unfoldable pub claimIrqWords : List ℕ → ℕ → Lent
 claimIrqWords l irq = after l (withClaim (claimIrq (view l .state) (line irq)))
+
+-- a line of the master, and one of the slave, is taken, and the pair isn't settled yet
+unfoldable pub masterTaken : List ℕ → PicLine → Lent
+masterTaken l k =
+    lent (put l (chips (view l .state) (acknowledged (view l .state .master) (k .0)) (view l .state .slave))) (replyCode (claimReply (masterClaim (view l .state) k .claim)))
+
+unfoldable pub slaveTaken : List ℕ → PicLine → Lent
+slaveTaken l k =
+    lent (put l (chips (view l .state) (acknowledged (view l .state .master) 2) (acknowledged (view l .state .slave) (k .0)))) (replyCode (claimReply (slaveClaim (view l .state) k .claim)))
 
 unfoldable pub claimPendingWords : List ℕ → Lent
 claimPendingWords l = after l (withClaim (claimPending (view l .state)))

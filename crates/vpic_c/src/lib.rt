@@ -5,23 +5,27 @@
 // each which fields can change, and leaves the others alone.
 
 ghost use mathlib.Core.Path.{_≡_};
-ghost use mathlib.Core.Bool.{not};
+ghost use mathlib.Core.Bool.{true, false, not};
 ghost use Prim.Native.Nat.{_≤_, _<_, _+_, _*_, _/_, _%_, _^_};
+ghost use lib.Dec.{eqb, ltb};
+ghost use Rattle.utils.specs.Set.{outside};
+ghost use Rattle.types.specs.Counters.{placeOf};
 ghost use Rattle.types.specs.Reply.{flag};
 ghost use Rattle.types.specs.declared.Reply.the-variants as reply;
 ghost use Rattle.types.specs.declared.PicPlace.the-variants as place;
 ghost use Rattle.vpic.specs.declared.pair.PicClaim.the-variants as claim;
 ghost use Rattle.boundary.specs.Lent.{replyCode};
-ghost use Rattle.vpic.specs.Chip.{pulsed, acknowledged, unacknowledged, commanded, fed};
-ghost use Rattle.vpic.specs.Pair.{claimReply, latched, pendingPlace, restored};
-ghost use Rattle.vpic_c.specs.Words.{chipIn, wordOf, withChip, view, put};
-ghost use Rattle.vpic_c.specs.Calls.{lent, line, newWords, rangeWords, claimIrqWords, claimPendingWords, pulseIrqWords, nextInterruptWords, claimWith, isClaim, restoreWords, readWords, writeWords};
+ghost use Rattle.vpic.specs.Chip.{pulsed, acknowledged, unacknowledged, commanded, fed, commandRead, asks, driven};
+ghost use Rattle.vpic.specs.Pair.{claimReply, isRule, settled, latchedAt, pendingPlace, restoredAt, restored, writtenAt, isPort};
+ghost use Rattle.vpic_c.specs.Words.{chipIn, wordOf, withChip, isCascadeIn, ruleIn, view, put};
+ghost use Rattle.vpic_c.specs.Calls.{lent, line, newPair, newWords, rangeWords, claimIrqWords, masterTaken, slaveTaken, claimPendingWords, pulseIrqWords, nextInterruptWords, claimWith, isClaim, restoreWords, readWords, writeWords};
 use boundary::code;
 use types::PicLine;
 use types::PicPlace;
 use types::Refusal;
 use types::Reply;
 use types::Vector;
+use utils::set8;
 use utils::set64;
 use vpic::chip::PicChip;
 use vpic::chip::highest_priority;
@@ -32,6 +36,8 @@ use vpic::pair::MASTER_DATA;
 use vpic::pair::PicClaim;
 use vpic::pair::PicInterruptClaim;
 use vpic::pair::PicState;
+use vpic::pair::RULE_CASCADE;
+use vpic::pair::RULE_LATCH;
 use vpic::pair::SLAVE_COMMAND;
 use vpic::pair::SLAVE_DATA;
 
@@ -84,11 +90,28 @@ fn with_chip(word: u64, chip: PicChip) -> u64
     word / 0x1000_0000_0000 * 0x1000_0000_0000 + word_of(chip)
 }
 
+// Whether the pair follows the cascade rule.
+fn is_cascade(words: &[u64; 4]) -> bool
+    ensures { λ r. ⌜ r ≡ isCascadeIn (now (words .entry)) ⌝ }
+{
+    words[2] == RULE_CASCADE as u64
+}
+
+fn rule_in(words: &[u64; 4]) -> u8
+    ensures { λ r. ⌜ r ≡ ruleIn (now (words .entry)) ⌝ }
+{
+    if is_cascade(words) {
+        return RULE_CASCADE;
+    }
+    RULE_LATCH
+}
+
 // The pair that the words stand for.
 fn pair_of(words: &[u64; 4]) -> PicState
     ensures { λ r. ⌜ r ≡ view (now (words .entry)) .state ⌝ }
 {
     PicState {
+        rule: rule_in(words),
         master: chip_of(words[0]),
         slave: chip_of(words[1]),
     }
@@ -140,11 +163,47 @@ fn unacknowledge(word: u64, line: PicLine, in_service: bool) -> u64
     set64::without(again, line.0 as u64 + 24)
 }
 
+// A chip's output. Two cases are seen without a search.
+fn asks(word: u64) -> bool
+    ensures { λ r. ⌜ r ≡ asks (chipIn word) ⌝ }
+{
+    let chip = chip_of(word);
+    if set8::outside(chip.request, chip.mask) == 0 {
+        return false;
+    }
+    if chip.in_service == 0 {
+        return true;
+    }
+    chip.asks()
+}
+
+// The master's line 2, driven by the slave's output.
+fn drive(word: u64, up: bool) -> u64
+    ensures { λ r. ⌜ r ≡ withChip word (driven (chipIn word) 2 up) ⌝ }
+{
+    if up {
+        return set64::with(word, CASCADE_IRQ as u64 + 16);
+    }
+    set64::without(word, CASCADE_IRQ as u64 + 16)
+}
+
+// By the cascade rule the master's request 2 follows the slave's output. No other function makes it do so.
+fn settle(words: &mut [u64; 4])
+    ensures { λ _. ⌜ now (words .exit) ≡ put (now (words .entry)) (settled (view (now (words .entry)) .state)) ⌝ }
+{
+    if is_cascade(&*words) {
+        words[0] = drive(words[0], asks(words[1]));
+    }
+}
+
 // 0x20 is written to a chip's command port, as guests mostly do: the end of the highest line in service.
 fn end_highest(word: u64) -> u64
     ensures { λ r. ⌜ r ≡ withChip word (commanded (chipIn word) 0x20) ⌝ }
 {
     let chip = chip_of(word);
+    if chip.in_service == 0 {
+        return word;
+    }
     let line = highest_priority(chip.in_service);
     if line < 8 {
         return set64::without(word, line as u64 + 24);
@@ -193,7 +252,7 @@ fn claimed(vector: Vector, irq: PicLine, master_in_service: bool, slave_in_servi
 // The master answers for one of its lines.
 fn take_master(words: &mut [u64; 4], line: PicLine) -> u64
     requires { ⌜ pendingPlace (view (now words) .state) ≡ place.Master line ⌝ }
-    ensures { λ r. ⌜ lent (now (words .exit)) r ≡ claimPendingWords (now (words .entry)) ⌝ }
+    ensures { λ r. ⌜ lent (now (words .exit)) r ≡ masterTaken (now (words .entry)) line ⌝ }
 {
     let master = words[0];
     let chip = chip_of(master);
@@ -204,7 +263,7 @@ fn take_master(words: &mut [u64; 4], line: PicLine) -> u64
 // The slave answers for one of its lines, through the master's line 2.
 fn take_slave(words: &mut [u64; 4], line: PicLine) -> u64
     requires { ⌜ pendingPlace (view (now words) .state) ≡ place.Slave line ⌝ }
-    ensures { λ r. ⌜ lent (now (words .exit)) r ≡ claimPendingWords (now (words .entry)) ⌝ }
+    ensures { λ r. ⌜ lent (now (words .exit)) r ≡ slaveTaken (now (words .entry)) line ⌝ }
 {
     let master = words[0];
     let slave = words[1];
@@ -222,7 +281,7 @@ fn take_slave(words: &mut [u64; 4], line: PicLine) -> u64
 // The same with the usual mode apart, in which a line taken is in service.
 fn claim_master(words: &mut [u64; 4], line: PicLine) -> u64
     requires { ⌜ pendingPlace (view (now words) .state) ≡ place.Master line ⌝ }
-    ensures { λ r. ⌜ lent (now (words .exit)) r ≡ claimPendingWords (now (words .entry)) ⌝ }
+    ensures { λ r. ⌜ lent (now (words .exit)) r ≡ masterTaken (now (words .entry)) line ⌝ }
 {
     if serves(words[0]) {
         return take_master(&mut *words, line);
@@ -232,7 +291,7 @@ fn claim_master(words: &mut [u64; 4], line: PicLine) -> u64
 
 fn claim_slave(words: &mut [u64; 4], line: PicLine) -> u64
     requires { ⌜ pendingPlace (view (now words) .state) ≡ place.Slave line ⌝ }
-    ensures { λ r. ⌜ lent (now (words .exit)) r ≡ claimPendingWords (now (words .entry)) ⌝ }
+    ensures { λ r. ⌜ lent (now (words .exit)) r ≡ slaveTaken (now (words .entry)) line ⌝ }
 {
     if serves(words[0]) {
         if serves(words[1]) {
@@ -242,15 +301,63 @@ fn claim_slave(words: &mut [u64; 4], line: PicLine) -> u64
     take_slave(&mut *words, line)
 }
 
-// What can be delivered is claimed.
-fn claim(words: &mut [u64; 4]) -> u64
+// Whether no request of a chip is unmasked: then nothing is claimed, which is seen without a search.
+fn is_idle(word: u64) -> bool
+    ensures { λ r. ⌜ r ≡ eqb (outside 8 (chipIn word .request) (chipIn word .mask)) 0 ⌝ }
+{
+    let chip = chip_of(word);
+    set8::outside(chip.request, chip.mask) == 0
+}
+
+// What can be delivered is claimed, by rule 0.
+fn take(words: &mut [u64; 4]) -> u64
+    requires { ⌜ isCascadeIn (now words) ≡ false ⌝ }
     ensures { λ r. ⌜ lent (now (words .exit)) r ≡ claimPendingWords (now (words .entry)) ⌝ }
 {
+    if is_idle(words[0]) {
+        return code(Reply::Nothing);
+    }
     match pair_of(&*words).pending_place() {
         PicPlace::Master(k) => claim_master(&mut *words, k),
         PicPlace::Slave(k) => claim_slave(&mut *words, k),
         PicPlace::Nowhere => code(Reply::Nothing),
     }
+}
+
+// The same by either rule: what was claimed is settled. A slave's line that went into service leaves nothing to settle: no other of the slave's lines counts then.
+fn take_settled(words: &mut [u64; 4]) -> u64
+    ensures { λ r. ⌜ lent (now (words .exit)) r ≡ claimPendingWords (now (words .entry)) ⌝ }
+{
+    if is_idle(words[0]) {
+        return code(Reply::Nothing);
+    }
+    seen(&*words);
+    match pair_of(&*words).pending_place() {
+        PicPlace::Master(k) => {
+            let taken = take_master(&mut *words, k);
+            settle(&mut *words);
+            taken
+        }
+        PicPlace::Slave(k) => {
+            if serves(words[1]) {
+                return claim_slave(&mut *words, k);
+            }
+            let taken = take_slave(&mut *words, k);
+            settle(&mut *words);
+            taken
+        }
+        PicPlace::Nowhere => code(Reply::Nothing),
+    }
+}
+
+// What can be delivered is claimed.
+fn claim(words: &mut [u64; 4]) -> u64
+    ensures { λ r. ⌜ lent (now (words .exit)) r ≡ claimPendingWords (now (words .entry)) ⌝ }
+{
+    if is_cascade(&*words) {
+        return take_settled(&mut *words);
+    }
+    take(&mut *words)
 }
 
 // Of a claim's answer the vector alone.
@@ -263,29 +370,71 @@ fn vector_alone(claimed: u64) -> u64
 // Nothing: lent as a slice, the words are known to be four.
 fn seen(words: &[u64]) {}
 
-// An edge on a line of one of the chips.
-fn latch(words: &mut [u64; 4], irq: u64)
-    requires { ⌜ irq < 16 ⌝ }
-    ensures { λ r. ⌜ now (words .exit) ≡ put (now (words .entry)) (latched (view (now (words .entry)) .state) (line irq)) ⌝ }
+// An edge on a line of one of the chips; whether the pair has that line.
+fn latch(words: &mut [u64; 4], irq: u64) -> bool
+    ensures { λ r. ⌜ (now (words .exit) ≡ put (now (words .entry)) (latchedAt (view (now (words .entry)) .state) (placeOf (line irq)))) × (r ≡ ltb irq 16) ⌝ }
 {
     if irq < 8 {
         words[0] = pulse(words[0], PicLine(irq as u8));
-        return;
+        return true;
     }
-    words[0] = pulse(words[0], PicLine(CASCADE_IRQ));
-    words[1] = pulse(words[1], PicLine(irq as u8 - 8));
+    if irq < 16 {
+        words[0] = pulse(words[0], PicLine(CASCADE_IRQ));
+        words[1] = pulse(words[1], PicLine(irq as u8 - 8));
+        return true;
+    }
+    false
+}
+
+// A line is latched, and what can be delivered is claimed.
+fn claim_line(words: &mut [u64; 4], irq: u64) -> u64
+    ensures { λ r. ⌜ lent (now (words .exit)) r ≡ claimIrqWords (now (words .entry)) irq ⌝ }
+{
+    seen(&*words);
+    if !latch(&mut *words, irq) {
+        return code(Reply::Nothing);
+    }
+    settle(&mut *words);
+    claim(&mut *words)
+}
+
+// Both chips new, and the rule; the last word is spare.
+fn put_new(words: &mut [u64; 4], rule: u64)
+    ensures { λ _. ⌜ now (words .exit) ≡ newPair (now (words .entry)) rule ⌝ }
+{
+    let state = PicState::new(RULE_LATCH);
+    words[0] = word_of(state.master);
+    words[1] = word_of(state.slave);
+    words[2] = rule;
+    words[3] = 0;
+}
+
+// A number at its full width: no rule from 256 up.
+fn is_rule(rule: u64) -> bool
+    ensures { λ r. ⌜ r ≡ isRule rule ⌝ }
+{
+    if rule < 256 {
+        return vpic::pair::is_rule(rule as u8);
+    }
+    false
+}
+
+#[no_mangle]
+pub extern "C" fn sillwander_pic_new_rule(words: &mut [u64; 4], rule: u64) -> u64
+    ensures { λ r. ⌜ lent (now (words .exit)) r ≡ newWords (now (words .entry)) rule ⌝ }
+{
+    if !is_rule(rule) {
+        return refused(Refusal::Unsupported);
+    }
+    put_new(&mut *words, rule);
+    code(Reply::Nothing)
 }
 
 #[no_mangle]
 pub extern "C" fn sillwander_pic_new(words: &mut [u64; 4]) -> u64
-    ensures { λ r. ⌜ lent (now (words .exit)) r ≡ newWords (now (words .entry)) ⌝ }
+    ensures { λ r. ⌜ lent (now (words .exit)) r ≡ newWords (now (words .entry)) 0 ⌝ }
 {
-    let state = PicState::new();
-    words[0] = word_of(state.master);
-    words[1] = word_of(state.slave);
-    words[2] = 0;
-    words[3] = 0;
-    code(Reply::Nothing)
+    sillwander_pic_new_rule(&mut *words, RULE_LATCH as u64)
 }
 
 #[no_mangle]
@@ -304,12 +453,7 @@ pub extern "C" fn sillwander_pic_port_ranges(ranges: &mut [u64; 4]) -> u64
 pub extern "C" fn sillwander_pic_claim_irq(words: &mut [u64; 4], irq: u64) -> u64
     ensures { λ r. ⌜ lent (now (words .exit)) r ≡ claimIrqWords (now (words .entry)) irq ⌝ }
 {
-    if irq >= 16 {
-        return code(Reply::Nothing);
-    }
-    seen(&*words);
-    latch(&mut *words, irq);
-    claim(&mut *words)
+    claim_line(&mut *words, irq)
 }
 
 #[no_mangle]
@@ -323,12 +467,7 @@ pub extern "C" fn sillwander_pic_claim_pending_interrupt(words: &mut [u64; 4]) -
 pub extern "C" fn sillwander_pic_pulse_irq(words: &mut [u64; 4], irq: u64) -> u64
     ensures { λ r. ⌜ lent (now (words .exit)) r ≡ pulseIrqWords (now (words .entry)) irq ⌝ }
 {
-    if irq >= 16 {
-        return code(Reply::Nothing);
-    }
-    seen(&*words);
-    latch(&mut *words, irq);
-    vector_alone(claim(&mut *words))
+    vector_alone(claim_line(&mut *words, irq))
 }
 
 #[no_mangle]
@@ -348,10 +487,10 @@ fn is_claim(claim: u64) -> bool
         == 0x3_0000_0000_0000
 }
 
-// A claim of a line with these flags is taken back.
-fn restore(words: &mut [u64; 4], irq: u64, flags: u64)
+// A claim of a line with these flags is taken back, the rule left aside.
+fn unclaim(words: &mut [u64; 4], irq: u64, flags: u64)
     requires { ⌜ (irq < 16) × (flags < 4) ⌝ }
-    ensures { λ _. ⌜ now (words .exit) ≡ put (now (words .entry)) (restored (view (now (words .entry)) .state) (claimWith 0 irq flags)) ⌝ }
+    ensures { λ _. ⌜ now (words .exit) ≡ put (now (words .entry)) (restoredAt (view (now (words .entry)) .state) (placeOf (line irq)) (eqb (flags % 2) 1) (eqb (flags / 2) 1)) ⌝ }
 {
     let master_in_service = flags % 2 == 1;
     let slave_in_service = flags / 2 == 1;
@@ -363,11 +502,32 @@ fn restore(words: &mut [u64; 4], irq: u64, flags: u64)
     words[1] = unacknowledge(words[1], PicLine(irq as u8 - 8), slave_in_service);
 }
 
+// And the pair is settled.
+fn restore(words: &mut [u64; 4], irq: u64, flags: u64)
+    requires { ⌜ (irq < 16) × (flags < 4) ⌝ }
+    ensures { λ _. ⌜ now (words .exit) ≡ put (now (words .entry)) (restored (view (now (words .entry)) .state) (claimWith 0 irq flags)) ⌝ }
+{
+    seen(&*words);
+    unclaim(&mut *words, irq, flags);
+    settle(&mut *words);
+}
+
+// Whether it is the usual claim of a slave's line: both chips' in-service bits were set by it.
+fn is_usual(claim: u64) -> bool
+    ensures { λ r. ⌜ r ≡ eqb (claim / 2 ^ 19 * 2 ^ 19 + claim / 2 ^ 8 % 2 ^ 8 * 2 ^ 8) 0x3000300080000 ⌝ }
+{
+    claim / 0x8_0000 * 0x8_0000 + claim / 0x100 % 0x100 * 0x100 == 0x3_0003_0008_0000
+}
+
 // The claim is the code that a claim answered.
 #[no_mangle]
 pub extern "C" fn sillwander_pic_restore_interrupt(words: &mut [u64; 4], claim: u64) -> u64
     ensures { λ r. ⌜ lent (now (words .exit)) r ≡ restoreWords (now (words .entry)) claim ⌝ }
 {
+    if is_usual(claim) {
+        restore(&mut *words, claim / 0x1_0000 % 0x1_0000, 3);
+        return code(Reply::Nothing);
+    }
     if !is_claim(claim) {
         return refused(Refusal::OutOfRange);
     }
@@ -379,6 +539,22 @@ pub extern "C" fn sillwander_pic_restore_interrupt(words: &mut [u64; 4], claim: 
     code(Reply::Nothing)
 }
 
+// What a read of a chip's command port answers.
+fn read_command(word: u64) -> u64
+    ensures { λ r. ⌜ r ≡ replyCode (reply.One (commandRead (chipIn word))) ⌝ }
+{
+    let chip = chip_of(word);
+    code(Reply::One(chip.read_command() as u64))
+}
+
+// And of its data port.
+fn read_mask(word: u64) -> u64
+    ensures { λ r. ⌜ r ≡ replyCode (reply.One (chipIn word .mask)) ⌝ }
+{
+    let chip = chip_of(word);
+    code(Reply::One(chip.mask as u64))
+}
+
 #[no_mangle]
 pub extern "C" fn sillwander_pic_handle_read(words: &[u64; 4], port: u64, width: u64) -> u64
     ensures { λ r. ⌜ lent (now (words .entry)) r ≡ readWords (now (words .entry)) port width ⌝ }
@@ -386,11 +562,50 @@ pub extern "C" fn sillwander_pic_handle_read(words: &[u64; 4], port: u64, width:
     if width != 1 {
         return refused(Refusal::Unsupported);
     }
-    if port > 0xffff {
-        return refused(Refusal::Unsupported);
+    if port == MASTER_COMMAND as u64 {
+        return read_command(words[0]);
     }
-    let value = pair_of(words).read_port(port as u16);
-    code(value.reply())
+    if port == MASTER_DATA as u64 {
+        return read_mask(words[0]);
+    }
+    if port == SLAVE_COMMAND as u64 {
+        return read_command(words[1]);
+    }
+    if port == SLAVE_DATA as u64 {
+        return read_mask(words[1]);
+    }
+    refused(Refusal::Unsupported)
+}
+
+// A byte is written to a port; whether the pair has that port.
+fn write_port(words: &mut [u64; 4], port: u64, byte: u8) -> bool
+    ensures { λ r. ⌜ (now (words .exit) ≡ put (now (words .entry)) (writtenAt (view (now (words .entry)) .state) port byte)) × (r ≡ isPort port) ⌝ }
+{
+    if port == MASTER_COMMAND as u64 {
+        if byte == 0x20 {
+            words[0] = end_highest(words[0]);
+            return true;
+        }
+        words[0] = command(words[0], byte);
+        return true;
+    }
+    if port == MASTER_DATA as u64 {
+        words[0] = data(words[0], byte);
+        return true;
+    }
+    if port == SLAVE_COMMAND as u64 {
+        if byte == 0x20 {
+            words[1] = end_highest(words[1]);
+            return true;
+        }
+        words[1] = command(words[1], byte);
+        return true;
+    }
+    if port == SLAVE_DATA as u64 {
+        words[1] = data(words[1], byte);
+        return true;
+    }
+    false
 }
 
 #[no_mangle]
@@ -405,30 +620,10 @@ pub extern "C" fn sillwander_pic_handle_write(
     if width != 1 {
         return refused(Refusal::Unsupported);
     }
-    let byte = (value % 256) as u8;
-    if port == MASTER_COMMAND as u64 {
-        if byte == 0x20 {
-            words[0] = end_highest(words[0]);
-            return code(Reply::Nothing);
-        }
-        words[0] = command(words[0], byte);
-        return code(Reply::Nothing);
+    seen(&*words);
+    if !write_port(&mut *words, port, (value % 256) as u8) {
+        return refused(Refusal::Unsupported);
     }
-    if port == MASTER_DATA as u64 {
-        words[0] = data(words[0], byte);
-        return code(Reply::Nothing);
-    }
-    if port == SLAVE_COMMAND as u64 {
-        if byte == 0x20 {
-            words[1] = end_highest(words[1]);
-            return code(Reply::Nothing);
-        }
-        words[1] = command(words[1], byte);
-        return code(Reply::Nothing);
-    }
-    if port == SLAVE_DATA as u64 {
-        words[1] = data(words[1], byte);
-        return code(Reply::Nothing);
-    }
-    refused(Refusal::Unsupported)
+    settle(&mut *words);
+    code(Reply::Nothing)
 }

@@ -1,2 +1,4 @@
+pub mod Settled
 pub mod Restore
 pub mod Calls
+pub mod Rule

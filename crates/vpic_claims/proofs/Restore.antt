@@ -22,9 +22,11 @@ use Rattle.vpic.specs.declared.pair.PicClaim.{PicClaim}
 use Rattle.vpic.specs.declared.pair.PicClaim.the-variants.{Claimed, Nothing as NoClaim}
 use Rattle.vpic.specs.declared.pair.StateClaim.{StateClaim}
 use Rattle.vpic.specs.Chip.{opened, commanded, fed, pulsed, counts, pendingLine, pendingIrq, acknowledged, unacknowledged, withRequest, withInService, specificEoi}
-use Rattle.vpic.specs.Pair.{chips, pic, grew, newState, latched, cascadeIrq, claimed, masterClaim, slaveClaim, cascadePlace, placeFrom, claimAt, claimPending, claimIrq, portWritten, writtenAt, restored, restoreInterrupt}
+use Rattle.vpic.specs.Pair.{chips, pic, grew, newState, settled, latchedAt, latched, cascadeIrq, claimed, masterClaim, slaveClaim, cascadePlace, placeFrom, claimAt, claimPending, claimIrq, portWritten, writtenAt, restored, restoreInterrupt}
 use Rattle.vpic.proofs.ChipLaws.{Pending, pended}
-use Rattle.vpic_claims.specs.Statements.{RestoredAtOnce, RestoredAfterRaise, Served, ServedBy, HighestServed, SecondCallerUnheard}
+use Rattle.vpic_claims.specs.Rule.{LatchedKeeps}
+use Rattle.vpic_claims.proofs.Settled.{settled-between, settled-kept, settled-keeps}
+use Rattle.vpic_claims.specs.Statements.{Keeps, RestoredAtOnce, RestoredAfterRaise, Served, ServedBy, HighestServed, SecondCallerUnheard}
 
 -- ---- one chip: acknowledged, and taken back
 
@@ -58,20 +60,27 @@ place-high k h = rw (le-ltb (k .0 + 8) 8 (omega arith), lt-ltb (k .0 + 8) 16 (om
 the-claim : (p q : PicState) (v : Vector) (l : PicLine) → PicInterruptClaim
 the-claim p q v l = record { vector = v; irq = l; «master_in_service» = grew (p .master) (q .master); «slave_in_service» = grew (p .slave) (q .slave) }
 
-master-back : (p : PicState) (k : PicLine) (c : PicInterruptClaim) → Pending (p .master) (k .0) → masterClaim p k .claim ≡ Claimed c → restored (masterClaim p k .state) c ≡ p
+master-back : (p : PicState) (k : PicLine) (c : PicInterruptClaim) → Keeps p → Pending (p .master) (k .0) → masterClaim p k .claim ≡ Claimed c
+    → restored (masterClaim p k .state) c ≡ p
 unfolding masterClaim restored the-claim
-master-back p k c h e =
-    let q = chips (acknowledged (p .master) (k .0)) (p .slave) in
+master-back p k c keeps h e =
+    let q = chips p (acknowledged (p .master) (k .0)) (p .slave) in
     let f : c ≡ the-claim p q (lineVector (p .master .«vector_base») k) k = cc in
-    rw (f, place-low k (h .low)) (ap (λ (m : PicChip). chips m (p .slave)) (chip-back (p .master) k h))
+    rw (f, place-low k (h .low))
+    (settled-between q k (grew (p .master) (q .master)) (λ s. s) (h .low)
+    ∙ ap (λ (m : PicChip). settled (chips p m (p .slave))) (chip-back (p .master) k h)
+    ∙ settled-kept p keeps)
 
-slave-back : (p : PicState) (k : PicLine) (c : PicInterruptClaim) → Pending (p .master) 2 → Pending (p .slave) (k .0) → slaveClaim p k .claim ≡ Claimed c
+slave-back : (p : PicState) (k : PicLine) (c : PicInterruptClaim) → Keeps p → Pending (p .master) 2 → Pending (p .slave) (k .0) → slaveClaim p k .claim ≡ Claimed c
     → restored (slaveClaim p k .state) c ≡ p
 unfolding slaveClaim restored the-claim
-slave-back p k c m h e =
-    let q = chips (acknowledged (p .master) 2) (acknowledged (p .slave) (k .0)) in
+slave-back p k c keeps m h e =
+    let q = chips p (acknowledged (p .master) 2) (acknowledged (p .slave) (k .0)) in
     let f : c ≡ the-claim p q (lineVector (p .slave .«vector_base») k) (record { 0 = k .0 + 8 }) = cc in
-    rw (f, place-high k (h .low)) (ap₂ chips (chip-back (p .master) cascadeIrq m) (chip-back (p .slave) k h))
+    rw (f, place-high k (h .low))
+    (settled-between q cascadeIrq (grew (p .master) (q .master)) (λ s. unacknowledged s k (grew (p .slave) (q .slave))) (m .low)
+    ∙ ap₂ (λ (a b : PicChip). settled (chips p a b)) (chip-back (p .master) cascadeIrq m) (chip-back (p .slave) k h)
+    ∙ settled-kept p keeps)
 
 -- ---- any claim is one of the two
 
@@ -114,15 +123,19 @@ below-16 p =
 pub restored-at-once : RestoredAtOnce
 restored-at-once p c keeps e =
     rw (lt-ltb (c .irq .0) 16 (below-16 p c e))
-    (rw (by-claim (λ r d. restored (r .state) d ≡ p) p (λ k d h f. master-back p k d h f) (λ k d m h f. slave-back p k d m h f) c e))
+    (rw (by-claim (λ r d. restored (r .state) d ≡ p) p (λ k d h f. master-back p k d keeps h f) (λ k d m h f. slave-back p k d keeps m h f) c e))
+
+pub latched-keeps : LatchedKeeps
+unfolding latched
+latched-keeps p l = settled-keeps (latchedAt p (placeOf l))
 
 pub restored-after-raise : RestoredAfterRaise
 unfolding claimIrq
-restored-after-raise p l c keeps e = go (ltb (l .0) 16) e
+restored-after-raise p l c e = go (ltb (l .0) 16) e
   where
     go : (b : Bool) → cond b (claimPending (latched p l)) (record { state = p; claim = NoClaim }) .claim ≡ Claimed c
         → restoreInterrupt (pic (cond b (claimPending (latched p l)) (record { state = p; claim = NoClaim }) .state)) c ≡ record { state = pic (latched p l); reply = reply.Nothing }
-    go true f = restored-at-once (latched p l) c keeps f
+    go true f = restored-at-once (latched p l) c (latched-keeps p l) f
     go false f = let z : _≡_ {A = ℕ} 0 1 = cc in absurd (omega arith)
 
 -- ---- the highest request is served
@@ -133,6 +146,9 @@ serves c k h = record { counted = h .counted; highest = h .highest; done = refl 
 master-serves : (p : PicState) (k : PicLine) → Pending (p .master) (k .0) → ServedBy p (masterClaim p k .state) (k .0)
 unfolding masterClaim
 master-serves p k h = record {
+  m = acknowledged (p .master) (k .0);
+  s = p .slave;
+  settles = refl;
   master = λ l. serves (p .master) (k .0) h;
   alone = λ l. refl;
   cascade = λ l. absurd (omega (arith, h .low));
@@ -142,6 +158,9 @@ master-serves p k h = record {
 slave-serves : (p : PicState) (k : PicLine) → Pending (p .master) 2 → Pending (p .slave) (k .0) → ServedBy p (slaveClaim p k .state) (k .0 + 8)
 unfolding slaveClaim
 slave-serves p k m h = record {
+  m = acknowledged (p .master) 2;
+  s = acknowledged (p .slave) (k .0);
+  settles = refl;
   master = λ l. absurd (omega arith);
   alone = λ l. absurd (omega arith);
   cascade = λ l. serves (p .master) 2 m;
@@ -154,5 +173,5 @@ highest-served p =
     (λ k c m h e. rw (slave-line p k c e) (slave-serves p k m h))
 
 pub second-caller-unheard : SecondCallerUnheard
-unfolding opened commanded fed pulsed counts pendingLine pendingIrq acknowledged newState latched masterClaim slaveClaim claimPending claimIrq portWritten writtenAt with without lowest
+unfolding opened commanded fed pulsed counts pendingLine pendingIrq acknowledged newState settled latched masterClaim slaveClaim claimPending claimIrq portWritten writtenAt with without lowest
 second-caller-unheard = (refl, refl, refl)

@@ -3,6 +3,7 @@ use Prim.Native.Nat.{ℕ, _-_, _<_, _≤_}
 use mathlib.Core.Path.{_≡_}
 use mathlib.Core.Bool.{Bool, true, false}
 use mathlib.Core.List.{List, [], _∷_}
+use Rattle.utils.specs.Set.{bit}
 use Rattle.types.specs.declared.PicLine.{PicLine}
 use Rattle.types.specs.declared.Reply.the-variants as reply
 use Rattle.types.specs.Reply.{Outcome, replyNumber}
@@ -11,8 +12,8 @@ use Rattle.vpic.specs.declared.pair.PicState.{PicState}
 use Rattle.vpic.specs.declared.pair.EmulatedPic.{EmulatedPic}
 use Rattle.vpic.specs.declared.pair.PicInterruptClaim.{PicInterruptClaim}
 use Rattle.vpic.specs.declared.pair.PicClaim.the-variants.{Claimed, Nothing as NoClaim}
-use Rattle.vpic.specs.Chip.{counts, acknowledged}
-use Rattle.vpic.specs.Pair.{pic, claimPending, claimIrq, latched, restoreInterrupt, withClaim, withVector, handleRead, handleWrite}
+use Rattle.vpic.specs.Chip.{asks, counts, acknowledged}
+use Rattle.vpic.specs.Pair.{chips, pic, isCascade, settled, claimPending, claimIrq, latched, restoreInterrupt, withClaim, withVector, handleRead, handleWrite}
 use Rattle.vpic.specs.Departures.{seventh}
 
 -- every public call of the pair, with any arguments
@@ -39,9 +40,9 @@ outcome p (handle-write port width value) = handleWrite p port width value
 abbrev pub RefusedUnchanged : Type 0
 RefusedUnchanged = (p : EmulatedPic) (c : Call) → (replyNumber (outcome p c .reply) ≡ 0 → ⊥) → outcome p c .state ≡ p
 
--- what a pair must keep for a claim on it to be taken back whole: nothing
+-- what a pair must keep for a claim on it to be taken back whole: by the cascade rule, the master's request 2 set exactly when some slave request counts
 abbrev pub Keeps : PicState → Type 0
-Keeps p = Unit
+Keeps p = isCascade p ≡ true → bit (p .master .request) 2 ≡ asks (p .slave)
 
 -- a claim that is restored at once gives the pair back as it was
 abbrev pub RestoredAtOnce : Type 0
@@ -49,10 +50,10 @@ RestoredAtOnce =
     (p : PicState) (c : PicInterruptClaim) → Keeps p → claimPending p .claim ≡ Claimed c
     → restoreInterrupt (pic (claimPending p .state)) c ≡ record { state = pic p; reply = reply.Nothing }
 
--- the same after a line was raised: the pair as it was, with that line latched
+-- the same after a line was raised: the pair as it was, with that line latched; a pair with a line latched keeps its rule, whatever it was
 abbrev pub RestoredAfterRaise : Type 0
 RestoredAfterRaise =
-    (p : PicState) (l : PicLine) (c : PicInterruptClaim) → Keeps (latched p l) → claimIrq p l .claim ≡ Claimed c
+    (p : PicState) (l : PicLine) (c : PicInterruptClaim) → claimIrq p l .claim ≡ Claimed c
     → restoreInterrupt (pic (claimIrq p l .state)) c ≡ record { state = pic (latched p l); reply = reply.Nothing }
 
 -- line k of a chip was acknowledged: its request counted, and none that counted on that chip was above it
@@ -61,16 +62,19 @@ pub record Served (before after : PicChip) (k : ℕ) : Type 0 where
   pub highest : (j : ℕ) → j < k → counts before j ≡ false
   pub done : after ≡ acknowledged before k
 
--- a claim of line k below 8 served the master's line; from 8 up it served the master's line 2 and the slave's line k - 8
+-- a claim of line k below 8 served the master's line; from 8 up it served the master's line 2 and the slave's line k - 8. The pair was settled then
 pub record ServedBy (p q : PicState) (k : ℕ) : Type 0 where
-  pub master : k < 8 → Served (p .master) (q .master) k
-  pub alone : k < 8 → q .slave ≡ p .slave
-  pub cascade : 8 ≤ k → Served (p .master) (q .master) 2
-  pub slave : 8 ≤ k → Served (p .slave) (q .slave) (k - 8)
+  pub m : PicChip
+  pub s : PicChip
+  pub settles : q ≡ settled (chips p m s)
+  pub master : k < 8 → Served (p .master) m k
+  pub alone : k < 8 → s ≡ p .slave
+  pub cascade : 8 ≤ k → Served (p .master) m 2
+  pub slave : 8 ≤ k → Served (p .slave) s (k - 8)
 
 abbrev pub HighestServed : Type 0
 HighestServed = (p : PicState) (c : PicInterruptClaim) → claimPending p .claim ≡ Claimed c → ServedBy p (claimPending p .state) (c .irq .0)
 
--- over the pair the like is false (D-13): at the end of example 7 nothing is in service, the slave's line 6 is requested and counts, and nothing is claimed
+-- over the pair the like is false by rule 0 (D-13): at the end of example 7 nothing is in service, the slave's line 6 is requested and counts, and nothing is claimed
 abbrev pub SecondCallerUnheard : Type 0
-SecondCallerUnheard = (counts (seventh .slave) 6 ≡ true) × (claimPending seventh .claim ≡ NoClaim) × (seventh .master .«in_service» ≡ 0)
+SecondCallerUnheard = (counts (seventh 0 .slave) 6 ≡ true) × (claimPending (seventh 0) .claim ≡ NoClaim) × (seventh 0 .master .«in_service» ≡ 0)

@@ -1,7 +1,9 @@
-// Examples 7, 8 and 9 of document 01 on the pair: each line is what was asked, the number, and the values.
+// Examples 7, 8 and 9 of document 01 on the pair, and 7 and 8 again by the cascade rule (document 02, T-02): each line is what was asked, the number, and the values.
 use types::PicLine;
 use vpic::pair::EmulatedPic;
 use vpic::pair::PicClaim;
+use vpic::pair::RULE_CASCADE;
+use vpic::pair::RULE_LATCH;
 
 const MASTER_COMMAND: u16 = 0x20;
 
@@ -12,9 +14,12 @@ const SLAVE_COMMAND: u16 = 0xa0;
 const SLAVE_DATA: u16 = 0xa1;
 
 fn main() {
-    example_7();
-    example_8();
+    example_7(RULE_LATCH);
+    example_8(RULE_LATCH);
     example_9();
+    show::print_text(b"by rule 1\n");
+    example_7(RULE_CASCADE);
+    example_8(RULE_CASCADE);
 }
 
 // A byte written to a port.
@@ -24,8 +29,10 @@ fn write(pic: EmulatedPic, port: u16, value: u64) -> EmulatedPic {
     after
 }
 
-fn masks_0() -> EmulatedPic {
-    write(write(EmulatedPic::new(), MASTER_DATA, 0), SLAVE_DATA, 0)
+fn masks_0(rule: u8) -> EmulatedPic {
+    let made = EmulatedPic::new_rule(rule);
+    let pic = made.pic;
+    write(write(pic, MASTER_DATA, 0), SLAVE_DATA, 0)
 }
 
 // An EOI to the slave, then to the master.
@@ -61,8 +68,8 @@ fn read(name: &[u8], pic: EmulatedPic, port: u16) {
     show::print_reply(value.reply());
 }
 
-fn example_7() {
-    let mut pic = masks_0();
+fn example_7(rule: u8) {
+    let mut pic = masks_0(rule);
     pic = claim(b"7 claim 12: ", pic, 12);
     pic = claim(b"7 claim 13: ", pic, 13);
     pic = claim(b"7 claim 14: ", pic, 14);
@@ -71,8 +78,8 @@ fn example_7() {
     read(b"7 slave requests: ", pic, SLAVE_COMMAND);
 }
 
-fn example_8() {
-    let claimed = masks_0().claim_irq(PicLine(2));
+fn example_8(rule: u8) {
+    let claimed = masks_0(rule).claim_irq(PicLine(2));
     let after = claimed.pic;
     let answer = claimed.claim;
     print_claim(b"8 claim 2: ", answer);

@@ -30,6 +30,7 @@ unsafe extern "C" {
 #[link(name = "vpic_c", kind = "static")]
 unsafe extern "C" {
     pub safe fn sillwander_pic_new(words: &mut Pic) -> u64;
+    pub safe fn sillwander_pic_new_rule(words: &mut Pic, rule: u64) -> u64;
     pub safe fn sillwander_pic_port_ranges(ranges: &mut [u64; 4]) -> u64;
     pub safe fn sillwander_pic_claim_irq(words: &mut Pic, irq: u64) -> u64;
     pub safe fn sillwander_pic_claim_pending_interrupt(words: &mut Pic) -> u64;

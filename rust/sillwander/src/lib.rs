@@ -37,5 +37,5 @@ pub use self::{
     },
     vioapic::{EmulatedIoApic, EmulatedIoApic20, IoApicEoi, IoApicEois, IoApicInterrupt},
     vlapic::{EmulatedLocalApic, Ipi, IpiKind},
-    vpic::{EmulatedPic, PicInterruptClaim},
+    vpic::{EmulatedPic, PicInterruptClaim, PicRule},
 };

@@ -1,6 +1,7 @@
 //! The pair of 8259s.
 //!
 //! The names and signatures are those of vpic.rs of x86_vlapic 0.5.4 (Copyright The Axvisor Team, Apache License 2.0; `NOTICE`); behind them are calls of the archive.
+//! The original has one rule of the cascade: [`PicRule`] and [`EmulatedPic::new_rule`] are ours.
 
 use crate::{
     archives::*,
@@ -59,6 +60,17 @@ impl Debug for PicInterruptClaim {
     }
 }
 
+/// What the slave does to the master's line 2. The discriminant is the archive's number.
+#[derive(Clone, Copy, Debug, Default, Eq, PartialEq, Hash)]
+#[repr(u8)]
+pub enum PicRule {
+    /// The original's: a latch that a line of the slave sets, and that one acknowledgement clears for all lines of the slave that wait.
+    #[default]
+    Latch = 0,
+    /// The 8259A's: it is requested exactly while a request of the slave counts.
+    Cascade = 1,
+}
+
 /// A PC's two 8259s: the master's lines are 0 to 7, the slave's 8 to 15.
 #[derive(Debug)]
 pub struct EmulatedPic {
@@ -66,10 +78,36 @@ pub struct EmulatedPic {
 }
 
 impl EmulatedPic {
-    /// A new pair, every line masked.
+    /// A new pair of the original's rule, [`PicRule::Latch`], every line masked.
     pub fn new() -> Self {
         let mut words = [0; PIC_WORDS];
         sillwander_pic_new(&mut words);
+        Self { words }
+    }
+
+    /// A new pair of either rule, every line masked.
+    ///
+    /// Two devices on the slave: the second waits for the first, and is delivered when that has ended. By the original's rule it waits until the slave's next edge.
+    ///
+    /// ```
+    /// # use sillwander::{EmulatedPic, PicRule, X86AccessWidth::Byte, X86Port};
+    /// let mut pic = EmulatedPic::new_rule(PicRule::Cascade);
+    /// for port in [0x21, 0xa1] {
+    ///     pic.handle_write(X86Port::new(port), Byte, 0)?; // no line is masked
+    /// }
+    /// assert_eq!(pic.pulse_irq(12), Some(0x74));
+    /// assert_eq!((pic.pulse_irq(13), pic.pulse_irq(14)), (None, None));
+    /// for vector in [0x75, 0x76] {
+    ///     pic.handle_write(X86Port::new(0xa0), Byte, 0x20)?; // EOI
+    ///     pic.handle_write(X86Port::new(0x20), Byte, 0x20)?;
+    ///     assert_eq!(pic.next_interrupt(), Some(vector));
+    /// }
+    /// # Ok::<(), sillwander::X86VlapicError>(())
+    /// ```
+    pub fn new_rule(rule: PicRule) -> Self {
+        let mut words = [0; PIC_WORDS];
+        let code = sillwander_pic_new_rule(&mut words, rule as u64);
+        debug_assert!(code == 0, "there is such a rule");
         Self { words }
     }
 

@@ -36,8 +36,8 @@ checked-requires-2 c κs = search needs
 byte-requires-3 : tie.Need-byte-requires-3
 byte-requires-3 c κs = search needs
 
-cast-t34 : tie.Need-cast-t34
-cast-t34 c = search needs
+cast-t35 : tie.Need-cast-t35
+cast-t35 c = search needs
 
 byte-requires-4 : tie.Need-byte-requires-4
 byte-requires-4 c κs = search needs
@@ -48,8 +48,8 @@ checked-requires-3 c κs = search needs
 byte-requires-5 : tie.Need-byte-requires-5
 byte-requires-5 c κs = search needs
 
-cast-t40 : tie.Need-cast-t40
-cast-t40 c = search needs
+cast-t41 : tie.Need-cast-t41
+cast-t41 c = search needs
 
 checked-requires-4 : tie.Need-checked-requires-4
 checked-requires-4 c κs = search needs
@@ -120,20 +120,29 @@ checked-requires-11 c κs = search needs
 byte-requires-14 : tie.Need-byte-requires-14
 byte-requires-14 c κs = search needs
 
-byte-requires-15 : tie.Need-byte-requires-15
-byte-requires-15 c κs = search needs
+is-rule-requires : tie.Need-is-rule-requires
+is-rule-requires c κs = search needs
 
 checked-requires-12 : tie.Need-checked-requires-12
 checked-requires-12 c κs = search needs
 
+byte-requires-15 : tie.Need-byte-requires-15
+byte-requires-15 c κs = search needs
+
 byte-requires-16 : tie.Need-byte-requires-16
 byte-requires-16 c κs = search needs
+
+checked-requires-13 : tie.Need-checked-requires-13
+checked-requires-13 c κs = search needs
+
+byte-requires-17 : tie.Need-byte-requires-17
+byte-requires-17 c κs = search needs
 
 two-bytes-requires-3 : tie.Need-two-bytes-requires-3
 two-bytes-requires-3 c κs = search needs
 
-cast-t76 : tie.Need-cast-t76
-cast-t76 c = search needs
+cast-t79 : tie.Need-cast-t79
+cast-t79 c = search needs
 
 eight-bytes-requires-5 : tie.Need-eight-bytes-requires-5
 eight-bytes-requires-5 c κs = search needs
@@ -141,29 +150,23 @@ eight-bytes-requires-5 c κs = search needs
 is-width-requires-5 : tie.Need-is-width-requires-5
 is-width-requires-5 c κs = search needs
 
-checked-requires-13 : tie.Need-checked-requires-13
-checked-requires-13 c κs = search needs
-
 checked-requires-14 : tie.Need-checked-requires-14
 checked-requires-14 c κs = search needs
-
-two-bytes-requires-4 : tie.Need-two-bytes-requires-4
-two-bytes-requires-4 c κs = search needs
-
-cast-t82 : tie.Need-cast-t82
-cast-t82 c = search needs
 
 checked-requires-15 : tie.Need-checked-requires-15
 checked-requires-15 c κs = search needs
 
-byte-requires-17 : tie.Need-byte-requires-17
-byte-requires-17 c κs = search needs
+two-bytes-requires-4 : tie.Need-two-bytes-requires-4
+two-bytes-requires-4 c κs = search needs
+
+cast-t85 : tie.Need-cast-t85
+cast-t85 c = search needs
+
+checked-requires-16 : tie.Need-checked-requires-16
+checked-requires-16 c κs = search needs
 
 byte-requires-18 : tie.Need-byte-requires-18
 byte-requires-18 c κs = search needs
-
-cast-t87 : tie.Need-cast-t87
-cast-t87 c = search needs
 
 byte-requires-19 : tie.Need-byte-requires-19
 byte-requires-19 c κs = search needs
@@ -171,11 +174,17 @@ byte-requires-19 c κs = search needs
 cast-t90 : tie.Need-cast-t90
 cast-t90 c = search needs
 
+byte-requires-20 : tie.Need-byte-requires-20
+byte-requires-20 c κs = search needs
+
+cast-t93 : tie.Need-cast-t93
+cast-t93 c = search needs
+
 eight-bytes-requires-6 : tie.Need-eight-bytes-requires-6
 eight-bytes-requires-6 c κs = search needs
 
-checked-requires-16 : tie.Need-checked-requires-16
-checked-requires-16 c κs = search needs
+checked-requires-17 : tie.Need-checked-requires-17
+checked-requires-17 c κs = search needs
 
 returns : tie.Need-returns
 unfolding decoded
@@ -223,27 +232,31 @@ returns-11 c = rw (c .before .before .before .before .match .keys11) (rw (c .bef
 
 returns-12 : tie.Need-returns-12
 unfolding decoded
-returns-12 c = rw (c .before .before .before .match .keys12) (rw (c .before .byte15 .ensures, c .before .before .byte14 .ensures) at (c .checked12 .ensures))
+returns-12 c = rw (c .before .before .before .match .keys12) (rw (c .before .is-rule .ensures, c .before .before .byte14 .ensures) at (c .checked12 .ensures))
 
 returns-13 : tie.Need-returns-13
 unfolding decoded
-returns-13 c = rw (c .before .before .before .before .before .match .keys13) (rw (c .before .is-width5 .ensures, c .before .before .eight-bytes5 .ensures, c .before .before .before .two-bytes3 .ensures, c .before .before .before .before .byte16 .ensures) at (c .checked13 .ensures))
+returns-13 c = rw (c .before .before .before .match .keys13) (rw (c .before .byte16 .ensures, c .before .before .byte15 .ensures) at (c .checked13 .ensures))
 
 returns-14 : tie.Need-returns-14
 unfolding decoded
-returns-14 c = rw (c .before .match .keys14) (c .checked14 .ensures)
+returns-14 c = rw (c .before .before .before .before .before .match .keys14) (rw (c .before .is-width5 .ensures, c .before .before .eight-bytes5 .ensures, c .before .before .before .two-bytes3 .ensures, c .before .before .before .before .byte17 .ensures) at (c .checked14 .ensures))
 
 returns-15 : tie.Need-returns-15
 unfolding decoded
-returns-15 c = rw (c .before .before .match .keys15) (rw (c .before .two-bytes4 .ensures) at (c .checked15 .ensures))
+returns-15 c = rw (c .before .match .keys15) (c .checked15 .ensures)
 
 returns-16 : tie.Need-returns-16
 unfolding decoded
-returns-16 c = rw (c .before .before .before .before .before .match .keys16) (rw (c .before .eight-bytes6 .ensures, c .before .before .byte19 .ensures, c .before .before .before .byte18 .ensures, c .before .before .before .before .byte17 .ensures) at (c .checked16 .ensures))
+returns-16 c = rw (c .before .before .match .keys16) (rw (c .before .two-bytes4 .ensures) at (c .checked16 .ensures))
 
 returns-17 : tie.Need-returns-17
 unfolding decoded
-returns-17 c = sym (apart (c .before .before .args .tag) (c .before .before .args .body .now) (onto formats []) [] (c .match .rest))
+returns-17 c = rw (c .before .before .before .before .before .match .keys17) (rw (c .before .eight-bytes6 .ensures, c .before .before .byte20 .ensures, c .before .before .before .byte19 .ensures, c .before .before .before .before .byte18 .ensures) at (c .checked17 .ensures))
+
+returns-18 : tie.Need-returns-18
+unfolding decoded
+returns-18 c = sym (apart (c .before .before .args .tag) (c .before .before .args .body .now) (onto formats []) [] (c .match .rest))
 
 pub decode-spec : {M : Type 1} → statement M
 decode-spec =
@@ -259,11 +272,11 @@ decode-spec =
     is-width-requires-2
     checked-requires-2
     byte-requires-3
-    cast-t34
+    cast-t35
     byte-requires-4
     checked-requires-3
     byte-requires-5
-    cast-t40
+    cast-t41
     checked-requires-4
     byte-requires-6
     checked-requires-5
@@ -287,25 +300,28 @@ decode-spec =
     byte-requires-13
     checked-requires-11
     byte-requires-14
-    byte-requires-15
+    is-rule-requires
     checked-requires-12
+    byte-requires-15
     byte-requires-16
+    checked-requires-13
+    byte-requires-17
     two-bytes-requires-3
-    cast-t76
+    cast-t79
     eight-bytes-requires-5
     is-width-requires-5
-    checked-requires-13
     checked-requires-14
-    two-bytes-requires-4
-    cast-t82
     checked-requires-15
-    byte-requires-17
+    two-bytes-requires-4
+    cast-t85
+    checked-requires-16
     byte-requires-18
-    cast-t87
     byte-requires-19
     cast-t90
+    byte-requires-20
+    cast-t93
     eight-bytes-requires-6
-    checked-requires-16
+    checked-requires-17
     returns
     returns-2
     returns-3
@@ -322,4 +338,5 @@ decode-spec =
     returns-14
     returns-15
     returns-16
-    returns-17)
+    returns-17
+    returns-18)

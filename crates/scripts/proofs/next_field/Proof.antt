@@ -12,7 +12,7 @@ taken-requires c κs = search needs
 
 returns : tie.Need-returns
 unfolding fieldFor
-returns c = c .taken .ensures ∙ ap (taken (c .before .before .before .args .io-used)) (c .before .read .ensures)
+returns c = c .taken .ensures ∙ ap (taken (c .before .before .before .args .used)) (c .before .read .ensures)
 
 pub next-field-spec : {M : Type 1} → statement M
 next-field-spec = tie.close (tie.spec read-requires taken-requires returns)

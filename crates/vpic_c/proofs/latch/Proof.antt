@@ -1,7 +1,11 @@
-use Rattle.vpic_c.proofs.Ways.{latch-low, latch-high}
+use mathlib.Core.Path.{refl}
+use Rattle.vpic_c.proofs.Ways.{latch-low, latch-high, latch-none}
 use borrow.Author.Needs.{needs}
 use Rattle.vpic_c.proofs.latch.Statement.{statement}
 use Rattle.vpic_c.proofs.latch.Tie as tie
+use Rattle.vpic_c.proofs.latch.Reads as reads
+use Rattle.vpic_c.proofs.latch.Lts as lts
+use Rattle.vpic_c.proofs.pulse.Reads as pulse-reads
 
 element-copy-out-pulse : tie.Need-element-copy-out-pulse
 element-copy-out-pulse c = search needs
@@ -16,7 +20,7 @@ element-write-words : tie.Need-element-write-words
 element-write-words c = search needs
 
 returns : tie.Need-returns
-returns c = search latch-low
+returns c = latch-low _ _ _ (c .before .before .if1 .taken) (c .pulse .ensures)
 
 element-copy-out-pulse-2 : tie.Need-element-copy-out-pulse-2
 element-copy-out-pulse-2 c = search needs
@@ -43,7 +47,10 @@ element-write-words-3 : tie.Need-element-write-words-3
 element-write-words-3 c = search needs
 
 returns-2 : tie.Need-returns-2
-returns-2 c = search latch-high
+returns-2 c = latch-high _ _ _ _ _ (c .before .before .before .before .if2 .taken) (c .before .before .before .before .before .if1 .left) (c .before .before .pulse2 .ensures) refl (c .pulse3 .ensures)
+
+returns-3 : tie.Need-returns-3
+returns-3 c = latch-none _ _ (c .if2 .left)
 
 pub latch-spec : {M : Type 1} → statement M
 latch-spec =
@@ -62,4 +69,5 @@ latch-spec =
     sub-t22
     pulse-requires-3
     element-write-words-3
-    returns-2)
+    returns-2
+    returns-3)

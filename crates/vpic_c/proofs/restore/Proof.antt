@@ -1,65 +1,24 @@
-use Rattle.vpic_c.proofs.Ways.{restore-low, restore-high}
+use Rattle.vpic_c.proofs.Ways.{restore-settled}
 use borrow.Author.Needs.{needs}
 use Rattle.vpic_c.proofs.restore.Statement.{statement}
 use Rattle.vpic_c.proofs.restore.Tie as tie
+use Rattle.vpic_c.proofs.restore.Reads as reads
+use Rattle.vpic_c.proofs.restore.Lts as lts
+use Rattle.vpic_c.proofs.seen.Reads as seen-reads
+use Rattle.vpic_c.proofs.settle.Reads as settle-reads
+use Rattle.vpic_c.proofs.unclaim.Reads as unclaim-reads
 
-element-copy-out-unacknowledge : tie.Need-element-copy-out-unacknowledge
-element-copy-out-unacknowledge c = search needs
+seen-requires : tie.Need-seen-requires
+seen-requires c κs = search needs
 
-cast-t12 : tie.Need-cast-t12
-cast-t12 c = search needs
+unclaim-requires : tie.Need-unclaim-requires
+unclaim-requires c κs = search needs
 
-unacknowledge-requires : tie.Need-unacknowledge-requires
-unacknowledge-requires c κs = search needs
-
-element-write-words : tie.Need-element-write-words
-element-write-words c = search needs
+settle-requires : tie.Need-settle-requires
+settle-requires c κs = search needs
 
 returns : tie.Need-returns
-returns c = search (restore-low)
-
-element-copy-out-unacknowledge-2 : tie.Need-element-copy-out-unacknowledge-2
-element-copy-out-unacknowledge-2 c = search needs
-
-unacknowledge-requires-2 : tie.Need-unacknowledge-requires-2
-unacknowledge-requires-2 c κs = search needs
-
-element-write-words-2 : tie.Need-element-write-words-2
-element-write-words-2 c = search needs
-
-element-copy-out-unacknowledge-3 : tie.Need-element-copy-out-unacknowledge-3
-element-copy-out-unacknowledge-3 c = search needs
-
-cast-t24 : tie.Need-cast-t24
-cast-t24 c = search needs
-
-sub-t25 : tie.Need-sub-t25
-sub-t25 c = search needs
-
-unacknowledge-requires-3 : tie.Need-unacknowledge-requires-3
-unacknowledge-requires-3 c κs = search needs
-
-element-write-words-3 : tie.Need-element-write-words-3
-element-write-words-3 c = search needs
-
-returns-2 : tie.Need-returns-2
-returns-2 c = search (restore-high)
+returns c = search (restore-settled, c .before .before .before .before .before .seen-arg2 .given .0)
 
 pub restore-spec : {M : Type 1} → statement M
-restore-spec =
-    tie.close
-    (tie.spec
-    element-copy-out-unacknowledge
-    cast-t12
-    unacknowledge-requires
-    element-write-words
-    returns
-    element-copy-out-unacknowledge-2
-    unacknowledge-requires-2
-    element-write-words-2
-    element-copy-out-unacknowledge-3
-    cast-t24
-    sub-t25
-    unacknowledge-requires-3
-    element-write-words-3
-    returns-2)
+restore-spec = tie.close (tie.spec seen-requires unclaim-requires settle-requires returns)

@@ -34,6 +34,15 @@ with-pic-requires c κs = search needs
 enum-known-call-4 : tie.Need-enum-known-call-4
 enum-known-call-4 c = search needs
 
+choose-rule-requires : tie.Need-choose-rule-requires
+choose-rule-requires c κs = search needs
+
+with-pic-requires-2 : tie.Need-with-pic-requires-2
+with-pic-requires-2 c κs = search needs
+
+enum-known-call-5 : tie.Need-enum-known-call-5
+enum-known-call-5 c = search needs
+
 call-apic-requires : tie.Need-call-apic-requires
 call-apic-requires c κs = search needs
 
@@ -51,7 +60,11 @@ returns-3 c = rw (c .before .before .before .call3 .given .1) (c .with-pic .ensu
 
 returns-4 : tie.Need-returns-4
 unfolding performed
-returns-4 c = rw (c .before .before .call4 .given .1) (c .call-apic .ensures)
+returns-4 c = rw (c .before .before .before .call4 .given .1) (c .with-pic2 .ensures ∙ ap (onPic (c .before .before .before .before .before .before .before .args .self)) (c .before .choose-rule .ensures))
+
+returns-5 : tie.Need-returns-5
+unfolding performed
+returns-5 c = rw (c .before .before .call5 .given .1) (c .call-apic .ensures)
 
 pub perform-spec : {M : Type 1} → statement M
 perform-spec =
@@ -67,8 +80,12 @@ perform-spec =
     call-pic-requires
     with-pic-requires
     enum-known-call-4
+    choose-rule-requires
+    with-pic-requires-2
+    enum-known-call-5
     call-apic-requires
     returns
     returns-2
     returns-3
-    returns-4)
+    returns-4
+    returns-5)

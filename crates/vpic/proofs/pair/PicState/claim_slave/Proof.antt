@@ -9,6 +9,9 @@ acknowledged-requires c κs = search needs
 acknowledged-requires-2 : tie.Need-acknowledged-requires-2
 acknowledged-requires-2 c κs = search needs
 
+with-chips-requires : tie.Need-with-chips-requires
+with-chips-requires c κs = search needs
+
 vector-requires : tie.Need-vector-requires
 vector-requires c κs = search needs
 
@@ -20,7 +23,7 @@ claimed-requires c κs = search needs
 
 returns : tie.Need-returns
 unfolding slaveClaim
-returns c = simp (c .claimed .ensures, c .before .before .vector .ensures, c .before .before .before .acknowledged2 .ensures, c .before .before .before .before .acknowledged .ensures)
+returns c = simp (c .claimed .ensures, c .before .before .vector .ensures, c .before .before .before .with-chips .ensures, c .before .before .before .before .acknowledged2 .ensures, c .before .before .before .before .before .acknowledged .ensures)
 
 pub claim-slave-spec : {M : Type 1} → statement M
 claim-slave-spec =
@@ -28,6 +31,7 @@ claim-slave-spec =
     (tie.spec
     acknowledged-requires
     acknowledged-requires-2
+    with-chips-requires
     vector-requires
     add-t9
     claimed-requires

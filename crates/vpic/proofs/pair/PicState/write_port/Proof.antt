@@ -1,5 +1,5 @@
-use mathlib.Core.Path.{_∙_}
-use Rattle.vpic.specs.Pair.{portWritten}
+use mathlib.Core.Path.{ap, _∙_}
+use Rattle.vpic.specs.Pair.{settled, portWritten}
 use borrow.Author.Needs.{needs}
 use Rattle.vpic.proofs.pair.PicState.write_port.Statement.{statement}
 use Rattle.vpic.proofs.pair.PicState.write_port.Tie as tie
@@ -12,7 +12,7 @@ settle-requires c κs = search needs
 
 returns : tie.Need-returns
 unfolding portWritten
-returns c = c .settle .ensures ∙ c .before .write-at .ensures
+returns c = c .settle .ensures ∙ ap settled (c .before .write-at .ensures)
 
 pub write-port-spec : {M : Type 1} → statement M
 write-port-spec = tie.close (tie.spec write-at-requires settle-requires returns)

@@ -1,7 +1,11 @@
 use Rattle.vpic_c.proofs.Ways.{new-way}
 use borrow.Author.Needs.{needs}
-use Rattle.vpic_c.proofs.sillwander_pic_new.Statement.{statement}
-use Rattle.vpic_c.proofs.sillwander_pic_new.Tie as tie
+use Rattle.vpic_c.proofs.put_new.Statement.{statement}
+use Rattle.vpic_c.proofs.put_new.Tie as tie
+use Rattle.vpic_c.proofs.put_new.Reads as reads
+use Rattle.vpic_c.proofs.put_new.Lts as lts
+use Rattle.vpic.proofs.pair.PicState.new.Reads as new-reads
+use Rattle.vpic_c.proofs.word_of.Reads as word-of-reads
 
 new-requires : tie.Need-new-requires
 new-requires c κs = search needs
@@ -24,14 +28,11 @@ element-write-words-3 c = search needs
 element-write-words-4 : tie.Need-element-write-words-4
 element-write-words-4 c = search needs
 
-code-requires : tie.Need-code-requires
-code-requires c κs = search needs
-
 returns : tie.Need-returns
 returns c = search new-way
 
-pub sillwander-pic-new-spec : {M : Type 1} → statement M
-sillwander-pic-new-spec =
+pub put-new-spec : {M : Type 1} → statement M
+put-new-spec =
     tie.close
     (tie.spec
     new-requires
@@ -41,5 +42,4 @@ sillwander-pic-new-spec =
     element-write-words-2
     element-write-words-3
     element-write-words-4
-    code-requires
     returns)

@@ -1,0 +1,77 @@
+-- The pair in scripts, from the theorems about its calls. Assumes nothing.
+use Prim.Native.Nat.{ℕ}
+use mathlib.Core.Bool.{true, not, _&&_}
+use mathlib.Core.List.{List, [], _∷_}
+use mathlib.Core.Path.{_≡_, refl, ap, _∙_}
+use native.Mathlib.Omega.{arith}
+use Rattle.types.specs.Reply.{Outcome}
+use Rattle.vpic.specs.declared.pair.EmulatedPic.{EmulatedPic}
+use Rattle.vpic.specs.Pair.{newState, newPic}
+use Rattle.vpic_claims.specs.Statements.{Keeps}
+use Rattle.vpic_claims.proofs.Rule.{new-keeps, calls-keep, calls-keep-number, slave-heard}
+use Rattle.fields.specs.declared.Call.{Call}
+use Rattle.fields.specs.declared.Call.the-variants.{Io, IoVersion, Pic, PicRule, Apic}
+use Rattle.fields.specs.declared.PicCall.{PicCall}
+use Rattle.scripts.specs.declared.Used.{Used}
+use Rattle.scripts.specs.declared.Machine.{Machine}
+use Rattle.scripts.specs.Late.{usedAfter}
+use Rattle.scripts.specs.Machine.{newMachine, picOutcome, performed}
+use Rattle.scripts.specs.Run.{callsFrom, afterCalls}
+use Rattle.script_theorems.specs.Runs.{inTime}
+use Rattle.script_theorems.specs.Pairs.{ruleChosen, PairRule, pairAfter, PairKeeps, SlaveHeardInScripts}
+use Rattle.script_theorems.proofs.Calls.{keeps-others, picCall, as-call, later}
+
+-- ---- the rule chosen
+
+kept-number : (p : EmulatedPic) (c : PicCall) → picOutcome p c .state .state .rule ≡ p .state .rule
+kept-number p c = ap (λ (o : Outcome EmulatedPic). o .state .state .rule) (as-call p c) ∙ calls-keep-number p (picCall c)
+
+-- once the pair was used no rule is chosen
+no-rule : (used : Used) (rule : ℕ) (cs : List Call) → used .pic ≡ true → inTime used cs ≡ true → ruleChosen rule cs ≡ rule
+unfolding ruleChosen inTime
+no-rule used rule [] u h = refl
+no-rule used rule (Io c ∷ cs) u h = no-rule (usedAfter used (Io c)) rule cs u h
+no-rule used rule (IoVersion v ∷ cs) u h = no-rule (usedAfter used (IoVersion v)) rule cs u (later used (IoVersion v) cs h)
+no-rule used rule (Pic c ∷ cs) u h = refl
+no-rule used rule (PicRule n ∷ cs) u h = let p : not true && inTime (usedAfter used (PicRule n)) cs ≡ true = rw u at h in let z : _≡_ {A = ℕ} 0 1 = cc in absurd (omega arith)
+no-rule used rule (Apic c ∷ cs) u h = no-rule (usedAfter used (Apic c)) rule cs u h
+
+pub pair-rule : PairRule
+unfolding afterCalls ruleChosen performed newState
+pair-rule used m [] h = refl
+pair-rule used m (Io c ∷ cs) h = pair-rule (usedAfter used (Io c)) (performed m (Io c) .state) cs (later used (Io c) cs h)
+pair-rule used m (IoVersion v ∷ cs) h = pair-rule (usedAfter used (IoVersion v)) (performed m (IoVersion v) .state) cs (later used (IoVersion v) cs h)
+pair-rule used m (Pic c ∷ cs) h =
+    pair-rule (usedAfter used (Pic c)) (performed m (Pic c) .state) cs (later used (Pic c) cs h)
+    ∙ no-rule (usedAfter used (Pic c)) (performed m (Pic c) .state .pic .state .rule) cs refl (later used (Pic c) cs h)
+    ∙ kept-number (m .pic) c
+pair-rule used m (PicRule n ∷ cs) h =
+    pair-rule (usedAfter used (PicRule n)) (performed m (PicRule n) .state) cs (later used (PicRule n) cs h)
+    ∙ no-rule (usedAfter used (PicRule n)) n cs refl (later used (PicRule n) cs h)
+pair-rule used m (Apic c ∷ cs) h =
+    pair-rule (usedAfter used (Apic c)) (performed m (Apic c) .state) cs (later used (Apic c) cs h) ∙ rw (keeps-others m c .pic)
+
+-- ---- the rule kept
+
+one-keeps : (m : Machine) (c : Call) → Keeps (m .pic .state) → Keeps (performed m c .state .pic .state)
+unfolding performed
+one-keeps m (Io c) k = k
+one-keeps m (IoVersion v) k = k
+one-keeps m (Pic c) k = rw (as-call (m .pic) c) (calls-keep (m .pic) (picCall c) k)
+one-keeps m (PicRule rule) k = new-keeps rule
+one-keeps m (Apic c) k = rw (keeps-others m c .pic) k
+
+all-keep : (m : Machine) (cs : List Call) → Keeps (m .pic .state) → Keeps (afterCalls m cs .pic .state)
+unfolding afterCalls
+all-keep m [] k = k
+all-keep m (c ∷ cs) k = all-keep (performed m c .state) cs (one-keeps m c k)
+
+new-machine-keeps : Keeps (newMachine .pic .state)
+unfolding newMachine newPic
+new-machine-keeps = new-keeps 0
+
+pub pair-keeps : PairKeeps
+pair-keeps s a = all-keep newMachine (callsFrom s (newMachine .used) 0 a) new-machine-keeps
+
+pub slave-heard-in-scripts : SlaveHeardInScripts
+slave-heard-in-scripts s a j rule waits clear = slave-heard (pairAfter s a) j rule (pair-keeps s a) waits clear

@@ -1,0 +1,51 @@
+-- The pair in scripts (document 02, T-02): it has the rule that field 16 chooses, if there is one, to the script's end; after every field of every script it keeps that
+-- rule; and by rule 1 no slave request that counts goes unheard there.
+use Prim.Native.Nat.{ℕ}
+use mathlib.Core.Bool.{true}
+use mathlib.Core.List.{List, [], _∷_}
+use mathlib.Core.Path.{_≡_}
+use Rattle.vpic.specs.declared.pair.PicState.{PicState}
+use Rattle.vpic.specs.Chip.{counts, pendingLine}
+use Rattle.vpic.specs.Pair.{isCascade}
+use Rattle.vpic_claims.specs.Statements.{Keeps}
+use Rattle.vpic_claims.specs.Rule.{Clear, Heard}
+use Rattle.fields.specs.declared.Call.{Call}
+use Rattle.fields.specs.declared.Call.the-variants.{Io, IoVersion, Pic, PicRule, Apic}
+use Rattle.scripts.specs.declared.Used.{Used}
+use Rattle.scripts.specs.declared.Machine.{Machine}
+use Rattle.scripts.specs.Machine.{newMachine}
+use Rattle.scripts.specs.Run.{afterCalls, runOf}
+use Rattle.script_theorems.specs.Runs.{inTime}
+
+-- the rule that calls choose: the one of the first of fields 10 to 16, if that is a 16; else it stays
+unfoldable pub ruleChosen : ℕ → List Call → ℕ
+ruleChosen rule [] = rule
+ruleChosen rule (Io c ∷ cs) = ruleChosen rule cs
+ruleChosen rule (IoVersion version ∷ cs) = ruleChosen rule cs
+ruleChosen rule (Pic c ∷ cs) = rule
+ruleChosen rule (PicRule chosen ∷ cs) = chosen
+ruleChosen rule (Apic c ∷ cs) = ruleChosen rule cs
+
+-- the pair has it after them, if none is late, as in every run (`InTime`)
+abbrev pub PairRule : Type 0
+PairRule =
+    (used : Used) (m : Machine) (cs : List Call)
+    → inTime used cs ≡ true
+    → afterCalls m cs .pic .state .rule ≡ ruleChosen (m .pic .state .rule) cs
+
+-- the pair after the first a fields of a script
+abbrev pub pairAfter : List ℕ → ℕ → PicState
+pairAfter s a = runOf s newMachine 0 a .machine .pic .state
+
+-- it keeps its rule: by rule 1 the master's request 2 is set exactly when some slave request counts
+abbrev pub PairKeeps : Type 0
+PairKeeps = (s : List ℕ) (a : ℕ) → Keeps (pairAfter s a)
+
+-- so by rule 1, if a slave request counts there and nothing on the master stands before its line 2, a claim answers the slave's highest request that counts
+abbrev pub SlaveHeardInScripts : Type 0
+SlaveHeardInScripts =
+    (s : List ℕ) (a j : ℕ)
+    → isCascade (pairAfter s a) ≡ true
+    → counts (pairAfter s a .slave) j ≡ true
+    → Clear (pairAfter s a .master)
+    → Heard (pairAfter s a) (pendingLine (pairAfter s a .slave))
