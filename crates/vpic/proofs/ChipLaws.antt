@@ -1,13 +1,14 @@
 -- Laws of one chip: which line is pending, and that an answer is known by its reply. Assumes nothing.
 use mathlib.Core.Path.{_≡_, refl, sym, ap, ap₂, subst, _∙_}
 use mathlib.Core.Bool.{Bool, true, false, not, cond, _&&_, true≢false}
-use Prim.Native.Nat.{ℕ, _+_, _<_, _≤_}
+use Prim.Native.Nat.{ℕ, _+_, _-_, _*_, _%_, _^_, _<_, _≤_}
 use native.Mathlib.Omega.{arith}
+use lib.Bits.{bitAnd}
 use lib.Dec.{ltb, eqb}
-use borrow.Author.Tests.{ltb-true, ltb-false, lt-ltb, le-ltb, not-true, not-false}
+use borrow.Author.Tests.{ltb-true, ltb-false, lt-ltb, le-ltb, eq-eqb, ne-eqb, eqb-true, eqb-false, not-true, not-false}
 use Rattle.utils.specs.Set.{bit, with, without, outside, first, lowest}
 use Rattle.utils.proofs.Search.{first-is, first-none, first-le, first-holds, first-before}
-use Rattle.utils.proofs.Laws.{bit-outside, lowest-le, lowest-in, lowest-before}
+use Rattle.utils.proofs.Laws.{bit-outside, outside-lt, lowest-le, lowest-in, lowest-before}
 use Rattle.types.specs.declared.PicLine.{PicLine}
 use Rattle.types.specs.declared.Reply.{Reply}
 use Rattle.types.specs.declared.Reply.the-variants as reply
@@ -18,7 +19,8 @@ use Rattle.vpic.specs.declared.chip.PicVector.{PicVector}
 use Rattle.vpic.specs.declared.chip.PicVector.the-variants.{Given, Nothing as NoVector}
 use Rattle.vpic.specs.declared.chip.Acknowledged.{Acknowledged}
 use Rattle.types.proofs.Replies.{outcome-same}
-use Rattle.vpic.specs.Chip.{counts, pendingLine, pendingIrq, irqOf, pendingReply, vectorReply, acknowledgeOutcome, pulsed, asks, specificEoi, unacknowledged}
+use Rattle.vpic.proofs.Lowest.{lowest-alone, lowest-not-alone, lowest-in-byte, without-lowest, some-above}
+use Rattle.vpic.specs.Chip.{counts, pendingLine, pendingIrq, irqOf, pendingReply, vectorReply, acknowledgeOutcome, pulsed, asks, specificEoi, nonSpecificEoi, withInService, unacknowledged}
 
 -- the highest unmasked request, and the highest line in service
 abbrev pub asked : PicChip → ℕ
@@ -147,11 +149,56 @@ pended c k e =
       idle = lowest-before 8 (c .«in_service») (k .0) (ltb-true (k .0) (served c) (and-second unmasked (ltb (k .0) (served c)) yes));
     }
 
--- the chip's output by the code's one comparison
-pub asks-is : (c : PicChip) (o k s : ℕ) → o ≡ outside 8 (c .request) (c .mask) → k ≡ lowest 8 o → s ≡ lowest 8 (c .«in_service») → ltb k s ≡ asks c
+-- the chip's output: an open line above those in service
+pub asks-is : (c : PicChip) → ltb (asked c) (served c) ≡ asks c
 unfolding asks
-asks-is c o k s eo ek es = ap₂ ltb (ek ∙ ap (lowest 8) eo) es ∙ go (ltb (asked c) (served c)) refl ∙ ap (λ (n : ℕ). ltb n 8) (sym (pending-line c))
+asks-is c = go (ltb (asked c) (served c)) refl ∙ ap (λ (n : ℕ). ltb n 8) (sym (pending-line c))
   where
     go : (b : Bool) → ltb (asked c) (served c) ≡ b → ltb (asked c) (served c) ≡ ltb (cond b (asked c) 8) 8
     go true e = e ∙ sym (lt-ltb (asked c) 8 (omega (arith, ltb-true (asked c) (served c) e, lowest-le 8 (c .«in_service»))))
     go false e = e
+
+-- a law for each way out of `asks`
+pub asks-free : (c : PicChip) (o : ℕ) → o ≡ outside 8 (c .request) (c .mask) → c .«in_service» ≡ 0 → not (eqb o 0) ≡ asks c
+unfolding lowest
+asks-free c o eo e = go (eqb o 0) refl ∙ ap (λ (m : ℕ). ltb (asked c) (lowest 8 m)) (sym e) ∙ asks-is c
+  where
+    small : o < 2 ^ 8
+    small = subst (λ (m : ℕ). m < 2 ^ 8) (sym eo) (outside-lt 8 (c .request) (c .mask))
+
+    go : (b : Bool) → eqb o 0 ≡ b → not b ≡ ltb (asked c) 8
+    go true q = sym (ap (λ (m : ℕ). ltb (lowest 8 m) 8) (sym eo ∙ eqb-true o 0 q))
+    go false q = sym (ap (λ (m : ℕ). ltb (lowest 8 m) 8) (sym eo) ∙ lt-ltb (lowest 8 o) 8 (lowest-in-byte o small (eqb-false o 0 q)))
+
+pub asks-above : (c : PicChip) (o a : ℕ) → o ≡ outside 8 (c .request) (c .mask) → c .«in_service» < 2 ^ 8 → (c .«in_service» ≡ 0 → ⊥) → a ≡ outside 8 (c .«in_service» - 1) (c .«in_service»)
+    → not (eqb (bitAnd o a) 0) ≡ asks c
+asks-above c o a eo l h ea =
+    ap₂ (λ (x y : ℕ). not (eqb (bitAnd x y) 0)) eo ea ∙ some-above (outside 8 (c .request) (c .mask)) (c .«in_service») l h ∙ asks-is c
+
+-- a line is the next exactly if it is the first open one and above those in service: the code's two tests
+pub next-other : (c : PicChip) (o k : ℕ) → o ≡ outside 8 (c .request) (c .mask) → k < 8 → (o % ((2 * 2 ^ k) % 2 ^ 32) ≡ (1 * 2 ^ k) % 2 ^ 32 → ⊥) → false ≡ eqb (pendingLine c) k
+next-other c o k eo l n = rw (pending-line c) (go (ltb (asked c) (served c)))
+  where
+    other : asked c ≡ k → ⊥
+    other e = n (lowest-not-alone k o l (ap (lowest 8) eo ∙ e))
+
+    go : (b : Bool) → false ≡ eqb (cond b (asked c) 8) k
+    go true = sym (ne-eqb (asked c) k other)
+    go false = sym (ne-eqb 8 k (λ e. omega arith))
+
+pub next-first : (c : PicChip) (o k : ℕ) → o ≡ outside 8 (c .request) (c .mask) → k < 8 → o % ((2 * 2 ^ k) % 2 ^ 32) ≡ (1 * 2 ^ k) % 2 ^ 32 → ltb k (lowest 8 (c .«in_service»)) ≡ eqb (pendingLine c) k
+next-first c o k eo l h =
+    let e : asked c ≡ k = ap (lowest 8) (sym eo) ∙ lowest-alone k o l h in
+    rw (pending-line c, e) (go (ltb k (served c)))
+  where
+    go : (b : Bool) → b ≡ eqb (cond b k 8) k
+    go true = sym (eq-eqb k k refl)
+    go false = sym (ne-eqb 8 k (λ e. omega arith))
+
+-- a law for each way out of `end_highest`
+pub ended-none : (c : PicChip) → c .«in_service» ≡ 0 → c ≡ nonSpecificEoi c
+unfolding lowest
+ended-none c e = rw e
+
+pub ended-highest : (c : PicChip) → c .«in_service» < 2 ^ 8 → (c .«in_service» ≡ 0 → ⊥) → withInService c (bitAnd (c .«in_service») (c .«in_service» - 1)) ≡ nonSpecificEoi c
+ended-highest c l h = rw (lt-ltb (lowest 8 (c .«in_service»)) 8 (lowest-in-byte (c .«in_service») l h)) (ap (withInService c) (without-lowest (c .«in_service») l h))

@@ -1,2 +1,3 @@
 pub mod ChipLaws
 pub mod PairLaws
+pub mod Lowest

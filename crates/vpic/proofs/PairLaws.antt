@@ -3,7 +3,7 @@ use mathlib.Core.Path.{_≡_, refl, sym, ap, ap₂, subst, _∙_}
 use mathlib.Core.Bool.{Bool, true, false, cond}
 use Prim.Native.Nat.{ℕ, _+_, _*_, _/_, _%_, _<_}
 use lib.Dec.{eqb}
-use borrow.Author.Tests.{eqb-true, eq-eqb, ne-eqb}
+use borrow.Author.Tests.{eqb-true}
 use Rattle.types.specs.declared.PicLine.{PicLine}
 use Rattle.types.specs.declared.PicPlace.{PicPlace}
 use Rattle.types.specs.declared.PicPlace.the-variants.{Master, Slave, Nowhere}
@@ -28,9 +28,9 @@ use Rattle.vpic.specs.declared.pair.PicValue.{PicValue}
 use Rattle.vpic.specs.declared.pair.PicValue.the-variants.{Value, Refused as NotRead}
 use Rattle.vpic.specs.declared.pair.PicRead.{PicRead}
 use Rattle.vpic.specs.declared.pair.StateClaim.{StateClaim}
-use Rattle.vpic.specs.Chip.{pendingIrq, pendingReply, vectorReply}
+use Rattle.vpic.specs.Chip.{pendingLine, pendingIrq, pendingReply, vectorReply}
 use Rattle.vpic.specs.Pair.{cascadeIrq, cascadePlace, placeFrom, pendingPlace, claimAt, claimPending, claimReply, doneReply, valueReply, claimOutcome, vectorOutcome, writeOutcome, readOutcome}
-use Rattle.vpic.proofs.ChipLaws.{pending-reply-same, vector-reply-same, Pending, pended}
+use Rattle.vpic.proofs.ChipLaws.{pending-reply-same, pending-is-line, vector-reply-same, Pending, pended}
 
 -- what `pending_irq` answered is what is pending
 answered : (c : PicChip) (a b : PendingIrq) → pendingReply a ≡ pendingReply (pendingIrq c) → a ≡ b → pendingIrq c ≡ b
@@ -40,16 +40,24 @@ answered c a b r e = sym (pending-reply-same a (pendingIrq c) r) ∙ e
 pub place-nowhere : (p : PicState) (a : PendingIrq) → pendingReply a ≡ pendingReply (pendingIrq (p .master)) → a ≡ Nothing → Nowhere ≡ pendingPlace p
 place-nowhere p a r e = rw (answered (p .master) a Nothing r e)
 
-pub place-master : (p : PicState) (a : PendingIrq) (k : PicLine) → pendingReply a ≡ pendingReply (pendingIrq (p .master)) → a ≡ Irq k → (k .0 ≡ 2 → ⊥) → Master k ≡ pendingPlace p
-place-master p a k r e n = rw (answered (p .master) a (Irq k) r e, ne-eqb (k .0) 2 n)
+pub place-master : (p : PicState) (a : PendingIrq) (k : PicLine) (n : Bool) → n ≡ eqb (pendingLine (p .master)) 2 → n ≡ false
+    → pendingReply a ≡ pendingReply (pendingIrq (p .master)) → a ≡ Irq k → Master k ≡ pendingPlace p
+place-master p a k n q f r e =
+    let h : pendingIrq (p .master) ≡ Irq k = answered (p .master) a (Irq k) r e in
+    rw (h, ap (λ (m : ℕ). eqb m 2) (sym (pending-is-line (p .master) k h .0)) ∙ sym q ∙ f)
 
-pub place-cascade : (p : PicState) (a b : PendingIrq) (k : PicLine) → pendingReply a ≡ pendingReply (pendingIrq (p .master)) → a ≡ Irq k → k .0 ≡ 2
+-- the master's line 2 is the next
+cascade-next : (p : PicState) (n : Bool) → n ≡ eqb (pendingLine (p .master)) 2 → n ≡ true → pendingPlace p ≡ cascadePlace (pendingIrq (p .slave))
+unfolding pendingIrq
+cascade-next p n q f = rw (eqb-true (pendingLine (p .master)) 2 (sym q ∙ f))
+
+pub place-cascade : (p : PicState) (b : PendingIrq) (n : Bool) → n ≡ eqb (pendingLine (p .master)) 2 → n ≡ true
     → pendingReply b ≡ pendingReply (pendingIrq (p .slave)) → b ≡ Nothing → Master cascadeIrq ≡ pendingPlace p
-place-cascade p a b k r e n s f = rw (answered (p .master) a (Irq k) r e, eq-eqb (k .0) 2 n, answered (p .slave) b Nothing s f)
+place-cascade p b n q f s e = sym (cascade-next p n q f ∙ ap cascadePlace (answered (p .slave) b Nothing s e))
 
-pub place-slave : (p : PicState) (a b : PendingIrq) (k j : PicLine) → pendingReply a ≡ pendingReply (pendingIrq (p .master)) → a ≡ Irq k → k .0 ≡ 2
+pub place-slave : (p : PicState) (b : PendingIrq) (j : PicLine) (n : Bool) → n ≡ eqb (pendingLine (p .master)) 2 → n ≡ true
     → pendingReply b ≡ pendingReply (pendingIrq (p .slave)) → b ≡ Irq j → Slave j ≡ pendingPlace p
-place-slave p a b k j r e n s f = rw (answered (p .master) a (Irq k) r e, eq-eqb (k .0) 2 n, answered (p .slave) b (Irq j) s f)
+place-slave p b j n q f s e = sym (cascade-next p n q f ∙ ap cascadePlace (answered (p .slave) b (Irq j) s e))
 
 -- the line of a place is pending there, and the slave's with the master's line 2
 abbrev pub Ready : PicState → PicPlace → Type 0

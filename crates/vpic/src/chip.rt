@@ -5,8 +5,9 @@
 
 ghost use mathlib.Core.Path.{_≡_};
 ghost use Prim.Native.Nat.{_<_};
+ghost use lib.Dec.{eqb, ltb};
 ghost use Rattle.utils.specs.Set.{lowest};
-ghost use Rattle.vpic.specs.Chip.{opened, icw1, ocw3, specificEoi, ocw2, commanded, afterIcw3, icw2, icw3, icw4, fed, commandRead, pulsed, asks, driven, pendingIrq, pendingReply, acknowledged, acknowledge, acknowledgeOutcome, unacknowledged};
+ghost use Rattle.vpic.specs.Chip.{opened, icw1, ocw3, specificEoi, nonSpecificEoi, ocw2, commanded, afterIcw3, icw2, icw3, icw4, fed, commandRead, pulsed, asks, driven, pendingLine, pendingIrq, pendingReply, acknowledged, acknowledge, acknowledgeOutcome, unacknowledged};
 use types::PicLine;
 use types::Vector;
 use utils::set8;
@@ -101,10 +102,18 @@ impl PicChip {
         if value / 64 % 2 == 1 {
             return self.end(value % 8);
         }
-        let irq = highest_priority(self.in_service);
-        if irq < 8 {
-            return self.end(irq);
+        self.end_highest()
+    }
+
+    // The highest line in service ends: the lowest bit of the set goes, which takes no search.
+    pub fn end_highest(mut self) -> Self
+        ensures { λ r. ⌜ r ≡ nonSpecificEoi self ⌝ }
+    {
+        if self.in_service == 0 {
+            return self;
         }
+        let left = self.in_service & (self.in_service - 1);
+        self.in_service = left;
         self
     }
 
@@ -202,17 +211,49 @@ impl PicChip {
         ensures { λ r. ⌜ pendingReply r ≡ pendingReply (pendingIrq self) ⌝ }
     {
         let irq = highest_priority(set8::outside(self.request, self.mask));
-        if irq < highest_priority(self.in_service) {
+        if irq >= 8 {
+            return PendingIrq::Nothing;
+        }
+        if self.is_above(irq) {
             return PendingIrq::Irq(PicLine(irq));
         }
         PendingIrq::Nothing
+    }
+
+    // Whether a line is above every line in service: none of those from line 0 to it is.
+    fn is_above(self, irq: u8) -> bool
+        requires { ⌜ irq < 8 ⌝ }
+        ensures { λ r. ⌜ r ≡ ltb irq (lowest 8 (self .«in_service»)) ⌝ }
+    {
+        if self.in_service == 0 {
+            return true;
+        }
+        self.in_service as u32 % (2u32 << irq) == 0
+    }
+
+    // Whether it is this line that would be acknowledged next: that takes no search.
+    pub fn is_next(self, irq: u8) -> bool
+        requires { ⌜ irq < 8 ⌝ }
+        ensures { λ r. ⌜ r ≡ eqb (pendingLine self) irq ⌝ }
+    {
+        let open = set8::outside(self.request, self.mask);
+        if open as u32 % (2u32 << irq) != 1u32 << irq {
+            return false;
+        }
+        self.is_above(irq)
     }
 
     // The output, INT: whether a request counts.
     pub fn asks(self) -> bool
         ensures { λ r. ⌜ r ≡ asks self ⌝ }
     {
-        highest_priority(set8::outside(self.request, self.mask)) < highest_priority(self.in_service)
+        let open = set8::outside(self.request, self.mask);
+        if self.in_service == 0 {
+            return open != 0;
+        }
+        // The lines above every line in service, without a search: those that a count down by one put in.
+        let above = set8::outside(self.in_service - 1, self.in_service);
+        open & above != 0
     }
 
     // A line that is driven by a level: its request stands exactly while that is up.

@@ -171,16 +171,16 @@ impl PicState {
     {
         let master = self.master;
         let slave = self.slave;
+        if master.is_next(CASCADE_IRQ) {
+            let PendingIrq::Irq(slave_irq) = slave.pending_irq() else {
+                return PicPlace::Master(PicLine(CASCADE_IRQ));
+            };
+            return PicPlace::Slave(slave_irq);
+        }
         let PendingIrq::Irq(master_irq) = master.pending_irq() else {
             return PicPlace::Nowhere;
         };
-        if master_irq.0 != CASCADE_IRQ {
-            return PicPlace::Master(master_irq);
-        }
-        let PendingIrq::Irq(slave_irq) = slave.pending_irq() else {
-            return PicPlace::Master(PicLine(CASCADE_IRQ));
-        };
-        PicPlace::Slave(slave_irq)
+        PicPlace::Master(master_irq)
     }
 
     pub fn claim_pending_interrupt(self) -> StateClaim

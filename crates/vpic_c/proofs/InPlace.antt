@@ -10,10 +10,9 @@ use Rattle.utils.proofs.Laws.{with-lt, without-le}
 use Rattle.types.specs.declared.PicLine.{PicLine}
 use Rattle.types.specs.declared.Reply.the-variants as reply
 use Rattle.vpic.specs.declared.chip.PicChip.{PicChip}
-use Rattle.vpic.specs.Chip.{withRequest, withInService, pulsed, asks, driven, acknowledged, unacknowledged, commanded, commandRead}
+use Rattle.vpic.specs.Chip.{nonSpecificEoi, withRequest, withInService, pulsed, asks, driven, acknowledged, unacknowledged, commanded, commandRead}
 use Rattle.boundary.specs.Lent.{replyCode}
 use Rattle.vpic_c.specs.Words.{chipIn, withChip}
-use Rattle.vpic_c.proofs.Quiet.{asks-none, asks-some}
 use Rattle.vpic_c.proofs.Packing.{Bytes, bytes-in, with-same, with-request, without-request, with-service, without-service}
 
 -- ---- chips whose numbers are bytes
@@ -35,9 +34,6 @@ module _ (w k : ℕ) (l : k < 8) where
 
   request-out : without w (k + 16) ≡ withChip w (withRequest (chipIn w) (without (chipIn w .request) k))
   request-out = ap (λ (v : ℕ). without v (k + 16)) (sym (with-same w)) ∙ without-request w (chipIn w) (bytes-in w) k l
-
-  service-out : without w (k + 24) ≡ withChip w (withInService (chipIn w) (without (chipIn w .«in_service») k))
-  service-out = ap (λ (v : ℕ). without v (k + 24)) (sym (with-same w)) ∙ without-service w (chipIn w) (bytes-in w) k l
 
 pub pulse-way : (w r : ℕ) (k : PicLine) → k .0 < 8 → r ≡ with w (k .0 + 16) → r ≡ withChip w (pulsed (chipIn w) k)
 unfolding pulsed
@@ -75,11 +71,9 @@ back-way w m r k f l d n e =
     (e ∙ ap (λ (v : ℕ). without v (k .0 + 24)) (d ∙ request-in w (k .0) l)
     ∙ without-service w c (bytes-request (chipIn w) (with (chipIn w .request) (k .0)) (bytes-in w) (with-lt 8 (chipIn w .request) (k .0) (bytes-in w .request) l)) (k .0) l)
 
-pub ended-way : (w k r : ℕ) (c : PicChip) → c ≡ chipIn w → k ≡ lowest 8 (c .«in_service») → k < 8 → r ≡ without w (k + 24) → r ≡ withChip w (commanded (chipIn w) 0x20)
+pub ended-way : (w r : ℕ) (c e : PicChip) → c ≡ chipIn w → e ≡ nonSpecificEoi c → r ≡ withChip w e → r ≡ withChip w (commanded (chipIn w) 0x20)
 unfolding commanded
-ended-way w k r c d f l e =
-    let m : lowest 8 (chipIn w .«in_service») ≡ k = ap (λ (x : PicChip). lowest 8 (x .«in_service»)) (sym d) ∙ sym f in
-    rw (m, lt-ltb k 8 l) (e ∙ service-out w k l)
+ended-way w r c e d f g = g ∙ ap (withChip w) (f ∙ ap nonSpecificEoi d)
 
 pub idle-way : (w k : ℕ) (c : PicChip) → c ≡ chipIn w → k ≡ lowest 8 (c .«in_service») → 8 ≤ k → w ≡ withChip w (commanded (chipIn w) 0x20)
 unfolding commanded
@@ -101,12 +95,6 @@ drive-down w r up h e = rw h (e ∙ request-out w 2 (omega arith))
 
 pub asked-way : (w : ℕ) (c : PicChip) (r : Bool) → c ≡ chipIn w → r ≡ asks c → r ≡ asks (chipIn w)
 asked-way w c r e q = q ∙ ap asks e
-
-pub none-asked : (w o : ℕ) (c : PicChip) → c ≡ chipIn w → o ≡ outside 8 (c .request) (c .mask) → o ≡ 0 → false ≡ asks (chipIn w)
-none-asked w o c e q h = sym (asks-none c (sym q ∙ h)) ∙ ap asks e
-
-pub some-asked : (w o : ℕ) (c : PicChip) → c ≡ chipIn w → o ≡ outside 8 (c .request) (c .mask) → (o ≡ 0 → ⊥) → c .«in_service» ≡ 0 → true ≡ asks (chipIn w)
-some-asked w o c e q h s = sym (asks-some c (λ z. h (q ∙ z)) s) ∙ ap asks e
 
 pub idle-is : (w o : ℕ) (c : PicChip) → c ≡ chipIn w → o ≡ outside 8 (c .request) (c .mask) → eqb o 0 ≡ eqb (outside 8 (chipIn w .request) (chipIn w .mask)) 0
 idle-is w o c e q = ap (λ (n : ℕ). eqb n 0) (q ∙ ap (λ (x : PicChip). outside 8 (x .request) (x .mask)) e)

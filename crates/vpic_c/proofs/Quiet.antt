@@ -17,14 +17,6 @@ use Rattle.vpic.proofs.ChipLaws.{Pending, asks-is}
 abbrev waiting : PicChip → ℕ
 waiting c = outside 8 (c .request) (c .mask)
 
-asks-search : (c : PicChip) → ltb (lowest 8 (waiting c)) (lowest 8 (c .«in_service»)) ≡ asks c
-asks-search c = asks-is c (waiting c) (lowest 8 (waiting c)) (lowest 8 (c .«in_service»)) refl refl refl
-
-pub asks-none : (c : PicChip) → waiting c ≡ 0 → asks c ≡ false
-unfolding lowest
-asks-none c h =
-    sym (asks-search c) ∙ ap (λ (o : ℕ). ltb (lowest 8 o) (lowest 8 (c .«in_service»))) h ∙ le-ltb 8 (lowest 8 (c .«in_service»)) (lowest-le 8 (c .«in_service»))
-
 -- a set that has a member has a lowest
 some-lowest : (o : ℕ) → o < 2 ^ 8 → (o ≡ 0 → ⊥) → lowest 8 o < 8
 some-lowest o l h = go (ltb (lowest 8 o) 8) refl
@@ -33,12 +25,6 @@ some-lowest o l h = go (ltb (lowest 8 o) 8) refl
     go true e = ltb-true (lowest 8 o) 8 e
     go false e =
         absurd (h (same-bits 8 o 0 l (omega arith) (λ j k. lowest-before 8 o j (omega (arith, ltb-false (lowest 8 o) 8 e)) ∙ sym (bit-above 0 0 j (omega arith) (omega arith)))))
-
-pub asks-some : (c : PicChip) → (waiting c ≡ 0 → ⊥) → c .«in_service» ≡ 0 → asks c ≡ true
-unfolding lowest
-asks-some c h e =
-    sym (asks-search c) ∙ ap (λ (n : ℕ). ltb (lowest 8 (waiting c)) (lowest 8 n)) e
-    ∙ lt-ltb (lowest 8 (waiting c)) 8 (some-lowest (waiting c) (outside-lt 8 (c .request) (c .mask)) h)
 
 -- ---- the pending line was acknowledged and is in service: no other counts
 
@@ -86,7 +72,7 @@ module _ (c : PicChip) (k : ℕ) (h : Pending c k) (a : c .«auto_eoi» ≡ fals
   pub asks-taken : asks (acknowledged c k) ≡ false
   unfolding taken
   asks-taken =
-      sym (asks-search taken) ∙ le-ltb (lowest 8 (waiting taken)) (lowest 8 (taken .«in_service»)) (omega (arith, in-service, waits-below))
+      sym (asks-is taken) ∙ le-ltb (lowest 8 (waiting taken)) (lowest 8 (taken .«in_service»)) (omega (arith, in-service, waits-below))
 
 -- ---- so the pair is settled as it is
 

@@ -20,7 +20,8 @@ use Rattle.types.specs.declared.Reply.{Reply}
 use Rattle.types.specs.declared.Reply.the-variants as reply
 use Rattle.types.specs.Counters.{placeOf, lineVector}
 use Rattle.vpic.specs.declared.chip.PicChip.{PicChip}
-use Rattle.vpic.specs.declared.chip.PendingIrq.the-variants.{Nothing}
+use Rattle.vpic.specs.declared.chip.PendingIrq.{PendingIrq}
+use Rattle.vpic.specs.declared.chip.PendingIrq.the-variants.{Irq, Nothing}
 use Rattle.vpic.specs.declared.pair.PicState.{PicState}
 use Rattle.vpic.specs.declared.pair.PicClaim.{PicClaim}
 use Rattle.vpic.specs.declared.pair.PicClaim.the-variants.{Claimed, Nothing as NoClaim}
@@ -28,10 +29,10 @@ use Rattle.vpic.specs.declared.pair.EmulatedPic.{EmulatedPic}
 use Rattle.vpic.specs.declared.pair.PicValue.{PicValue}
 use Rattle.vpic.specs.declared.pair.PortRanges.{PortRanges}
 use Rattle.vpic.specs.declared.pair.StateClaim.{StateClaim}
-use Rattle.vpic.specs.Chip.{pulsed, asks, driven, pendingIrq, pendingReply, acknowledged, unacknowledged, commanded, fed, commandRead, vectorReply}
+use Rattle.vpic.specs.Chip.{pulsed, asks, driven, pendingLine, pendingIrq, pendingReply, acknowledged, unacknowledged, commanded, fed, commandRead, vectorReply}
 use Rattle.vpic.specs.Pair.{newState, isRule, portRanges, chips, pic, isCascade, settled, grew, cascadeIrq, latched, latchedAt, masterClaim, slaveClaim, pendingPlace, claimAt, claimPending, claimIrq, claimFlags, claimReply, claimVector, withClaim, withVector, restoredAt, restored, portRead, isPort, writtenAt, portWritten, valueReply}
 use Rattle.vpic.proofs.ChipLaws.{Pending, pending-none}
-use Rattle.vpic.proofs.PairLaws.{place-nowhere, ready-master, ready-slave}
+use Rattle.vpic.proofs.PairLaws.{place-nowhere, place-master, place-cascade, place-slave, ready-master, ready-slave}
 use Rattle.boundary.specs.Lent.{Lent, replyCode}
 use Rattle.vpic_c.specs.Words.{chipIn, wordOf, withChip, isCascadeIn, ruleIn, view, put}
 use Rattle.vpic_c.specs.Calls.{lent, line, after, newPair, newWords, masterTaken, slaveTaken, rangeWords, claimIrqWords, claimPendingWords, pulseIrqWords, nextInterruptWords, claimWith, isClaim, restoreWords, readWords, writeWords}
@@ -191,6 +192,31 @@ nothing-way l p x r d e f q = claimed-at l Nowhere l r (ap pendingPlace (sym d) 
 pub place-of : (l : List ℕ) (p : PicState) (x y : PicPlace) → p ≡ view l .state → x ≡ pendingPlace p → x ≡ y → pendingPlace (view l .state) ≡ y
 place-of l p x y d e f = ap pendingPlace (sym d) ∙ sym e ∙ f
 
+-- whose line it is, from what the chips that were taken out of their words say
+module _ (l : List ℕ) (c d : PicChip) (n : Bool) (h : c ≡ chipIn (getD l 0 0)) (q : n ≡ eqb (pendingLine c) 2) where
+  next-in : n ≡ eqb (pendingLine (chipIn (getD l 0 0))) 2
+  next-in = q ∙ ap (λ (x : PicChip). eqb (pendingLine x) 2) h
+
+  says : (x : PicChip) (a : PendingIrq) → d ≡ x → pendingReply a ≡ pendingReply (pendingIrq d) → pendingReply a ≡ pendingReply (pendingIrq x)
+  says x a e r = r ∙ ap (λ (y : PicChip). pendingReply (pendingIrq y)) e
+
+  pub in-slave : (b : PendingIrq) (j : PicLine) → n ≡ true → d ≡ chipIn (getD l 1 0) → pendingReply b ≡ pendingReply (pendingIrq d) → b ≡ Irq j → pendingPlace (view l .state) ≡ Slave j
+  unfolding view
+  in-slave b j f e r g = sym (place-slave (view l .state) b j n next-in f (says (chipIn (getD l 1 0)) b e r) g)
+
+  pub in-cascade : (b : PendingIrq) → n ≡ true → d ≡ chipIn (getD l 1 0) → pendingReply b ≡ pendingReply (pendingIrq d) → b ≡ Nothing → pendingPlace (view l .state) ≡ Master cascadeIrq
+  unfolding view
+  in-cascade b f e r g = sym (place-cascade (view l .state) b n next-in f (says (chipIn (getD l 1 0)) b e r) g)
+
+  pub in-master : (a : PendingIrq) (k : PicLine) → n ≡ false → pendingReply a ≡ pendingReply (pendingIrq c) → a ≡ Irq k → pendingPlace (view l .state) ≡ Master k
+  unfolding view
+  in-master a k f r g = sym (place-master (view l .state) a k n next-in f (r ∙ ap (λ (y : PicChip). pendingReply (pendingIrq y)) h) g)
+
+pub in-none : (l : List ℕ) (c : PicChip) (a : PendingIrq) (r : ℕ) → c ≡ chipIn (getD l 0 0) → pendingReply a ≡ pendingReply (pendingIrq c) → a ≡ Nothing → r ≡ replyCode reply.Nothing → lent l r ≡ claimPendingWords l
+unfolding view
+in-none l c a r h w g q =
+    nothing-way l (view l .state) Nowhere r refl (place-nowhere (view l .state) a (w ∙ ap (λ (y : PicChip). pendingReply (pendingIrq y)) h) g) refl q
+
 -- no request of the master is unmasked
 pub idle-way : (l : List ℕ) (r : ℕ) → eqb (outside 8 (chipIn (getD l 0 0) .request) (chipIn (getD l 0 0) .mask)) 0 ≡ true → r ≡ replyCode reply.Nothing → lent l r ≡ claimPendingWords l
 unfolding view lowest
@@ -207,50 +233,47 @@ byMaster l k = chips (view l .state) (acknowledged (view l .state .master) (k .0
 abbrev bySlave : List ℕ → PicLine → PicState
 bySlave l k = chips (view l .state) (acknowledged (view l .state .master) 2) (acknowledged (view l .state .slave) (k .0))
 
-module _ (l m : List ℕ) (p : PicState) (x : PicPlace) (k : PicLine) (r : ℕ) (d : p ≡ view l .state) (e : x ≡ pendingPlace p) where
+module _ (l m : List ℕ) (k : PicLine) (r : ℕ) where
   -- rule 0 leaves nothing to do
-  pub taken-master : x ≡ Master k → isCascadeIn l ≡ false → lent m r ≡ masterTaken l k → lent m r ≡ claimPendingWords l
+  pub taken-master : pendingPlace (view l .state) ≡ Master k → isCascadeIn l ≡ false → lent m r ≡ masterTaken l k → lent m r ≡ claimPendingWords l
   unfolding masterTaken masterClaim
   taken-master f h t =
       let w = words-of (lent m r) (masterTaken l k) t in
-      claimed-at l (Master k) m r (place-of l p x (Master k) d e f) (w .0 ∙ ap (put l) (sym (settled-off (byMaster l k) (cascade-is l false h)))) (w .1)
+      claimed-at l (Master k) m r f (w .0 ∙ ap (put l) (sym (settled-off (byMaster l k) (cascade-is l false h)))) (w .1)
 
-  pub taken-slave : x ≡ Slave k → isCascadeIn l ≡ false → lent m r ≡ slaveTaken l k → lent m r ≡ claimPendingWords l
+  pub taken-slave : pendingPlace (view l .state) ≡ Slave k → isCascadeIn l ≡ false → lent m r ≡ slaveTaken l k → lent m r ≡ claimPendingWords l
   unfolding slaveTaken slaveClaim
   taken-slave f h t =
       let w = words-of (lent m r) (slaveTaken l k) t in
-      claimed-at l (Slave k) m r (place-of l p x (Slave k) d e f) (w .0 ∙ ap (put l) (sym (settled-off (bySlave l k) (cascade-is l false h)))) (w .1)
+      claimed-at l (Slave k) m r f (w .0 ∙ ap (put l) (sym (settled-off (bySlave l k) (cascade-is l false h)))) (w .1)
 
   -- by either rule it is settled; a line of the slave that went into service leaves nothing to settle
-  pub quiet-slave : (b : Bool) → x ≡ Slave k → b ≡ not (chipIn (getD l 1 0) .«auto_eoi») → b ≡ true → lent m r ≡ slaveTaken l k → lent m r ≡ claimPendingWords l
+  pub quiet-slave : (b : Bool) → pendingPlace (view l .state) ≡ Slave k → b ≡ not (chipIn (getD l 1 0) .«auto_eoi») → b ≡ true → lent m r ≡ slaveTaken l k → lent m r ≡ claimPendingWords l
   unfolding slaveTaken slaveClaim view
   quiet-slave b f s y t =
       let w = words-of (lent m r) (slaveTaken l k) t in
-      let a = place-of l p x (Slave k) d e f in
-      let q = asks-taken (chipIn (getD l 1 0)) (k .0) (ready-slave (view l .state) k a .1) (not-true (chipIn (getD l 1 0) .«auto_eoi») (sym s ∙ y)) in
-      claimed-at l (Slave k) m r a
+      let q = asks-taken (chipIn (getD l 1 0)) (k .0) (ready-slave (view l .state) k f .1) (not-true (chipIn (getD l 1 0) .«auto_eoi») (sym s ∙ y)) in
+      claimed-at l (Slave k) m r f
       (w .0 ∙ ap (put l) (sym (settled-quiet (view l .state) (acknowledged (chipIn (getD l 0 0)) 2) (acknowledged (chipIn (getD l 1 0)) (k .0)) (taken-down (chipIn (getD l 0 0))) q))) (w .1)
 
-  pub settled-master : (n : List ℕ) → length l ≡ 4 → x ≡ Master k → lent m r ≡ masterTaken l k → n ≡ put m (settled (view m .state)) → lent n r ≡ claimPendingWords l
+  pub settled-master : (n : List ℕ) → length l ≡ 4 → pendingPlace (view l .state) ≡ Master k → lent m r ≡ masterTaken l k → n ≡ put m (settled (view m .state)) → lent n r ≡ claimPendingWords l
   unfolding masterTaken masterClaim
   settled-master n h f t s =
       let w = words-of (lent m r) (masterTaken l k) t in
-      let a = place-of l p x (Master k) d e f in
       let b = both-in l in
-      claimed-at l (Master k) n r a
-      (after-settle l m n (byMaster l k) h (record { rule = b .rule; master = bytes-acknowledged (view l .state .master) (k .0) (line-master l k a) (b .master); slave = b .slave }) (w .0) s) (w .1)
+      claimed-at l (Master k) n r f
+      (after-settle l m n (byMaster l k) h (record { rule = b .rule; master = bytes-acknowledged (view l .state .master) (k .0) (line-master l k f) (b .master); slave = b .slave }) (w .0) s) (w .1)
 
-  pub settled-slave : (n : List ℕ) → length l ≡ 4 → x ≡ Slave k → lent m r ≡ slaveTaken l k → n ≡ put m (settled (view m .state)) → lent n r ≡ claimPendingWords l
+  pub settled-slave : (n : List ℕ) → length l ≡ 4 → pendingPlace (view l .state) ≡ Slave k → lent m r ≡ slaveTaken l k → n ≡ put m (settled (view m .state)) → lent n r ≡ claimPendingWords l
   unfolding slaveTaken slaveClaim
   settled-slave n h f t s =
       let w = words-of (lent m r) (slaveTaken l k) t in
-      let a = place-of l p x (Slave k) d e f in
       let b = both-in l in
-      claimed-at l (Slave k) n r a
+      claimed-at l (Slave k) n r f
       (after-settle l m n (bySlave l k) h (record {
         rule = b .rule;
         master = bytes-acknowledged (view l .state .master) 2 (omega arith) (b .master);
-        slave = bytes-acknowledged (view l .state .slave) (k .0) (line-slave l k a) (b .slave);
+        slave = bytes-acknowledged (view l .state .slave) (k .0) (line-slave l k f) (b .slave);
       }) (w .0) s) (w .1)
 
 -- ---- an edge

@@ -27,8 +27,8 @@ use types::Reply;
 use types::Vector;
 use utils::set8;
 use utils::set64;
+use vpic::chip::PendingIrq;
 use vpic::chip::PicChip;
-use vpic::chip::highest_priority;
 use vpic::pair::CASCADE_IRQ;
 use vpic::pair::EmulatedPic;
 use vpic::pair::MASTER_COMMAND;
@@ -163,17 +163,11 @@ fn unacknowledge(word: u64, line: PicLine, in_service: bool) -> u64
     set64::without(again, line.0 as u64 + 24)
 }
 
-// A chip's output. Two cases are seen without a search.
+// A chip's output.
 fn asks(word: u64) -> bool
     ensures { λ r. ⌜ r ≡ asks (chipIn word) ⌝ }
 {
     let chip = chip_of(word);
-    if set8::outside(chip.request, chip.mask) == 0 {
-        return false;
-    }
-    if chip.in_service == 0 {
-        return true;
-    }
     chip.asks()
 }
 
@@ -204,11 +198,7 @@ fn end_highest(word: u64) -> u64
     if chip.in_service == 0 {
         return word;
     }
-    let line = highest_priority(chip.in_service);
-    if line < 8 {
-        return set64::without(word, line as u64 + 24);
-    }
-    word
+    with_chip(word, chip.end_highest())
 }
 
 // A byte is written to a chip's command port.
@@ -309,7 +299,7 @@ fn is_idle(word: u64) -> bool
     set8::outside(chip.request, chip.mask) == 0
 }
 
-// What can be delivered is claimed, by rule 0.
+// What can be delivered is claimed, by rule 0: the core's `pending_place`, each chip taken out when it is asked.
 fn take(words: &mut [u64; 4]) -> u64
     requires { ⌜ isCascadeIn (now words) ≡ false ⌝ }
     ensures { λ r. ⌜ lent (now (words .exit)) r ≡ claimPendingWords (now (words .entry)) ⌝ }
@@ -317,11 +307,18 @@ fn take(words: &mut [u64; 4]) -> u64
     if is_idle(words[0]) {
         return code(Reply::Nothing);
     }
-    match pair_of(&*words).pending_place() {
-        PicPlace::Master(k) => claim_master(&mut *words, k),
-        PicPlace::Slave(k) => claim_slave(&mut *words, k),
-        PicPlace::Nowhere => code(Reply::Nothing),
+    let master = chip_of(words[0]);
+    if master.is_next(CASCADE_IRQ) {
+        let slave = chip_of(words[1]);
+        let PendingIrq::Irq(slave_irq) = slave.pending_irq() else {
+            return claim_master(&mut *words, PicLine(CASCADE_IRQ));
+        };
+        return claim_slave(&mut *words, slave_irq);
     }
+    let PendingIrq::Irq(master_irq) = master.pending_irq() else {
+        return code(Reply::Nothing);
+    };
+    claim_master(&mut *words, master_irq)
 }
 
 // The same by either rule: what was claimed is settled. A slave's line that went into service leaves nothing to settle: no other of the slave's lines counts then.

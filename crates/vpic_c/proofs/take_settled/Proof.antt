@@ -59,7 +59,7 @@ claim-slave-requires : tie.Need-claim-slave-requires
 claim-slave-requires c κs = search place-of
 
 returns-2 : tie.Need-returns-2
-returns-2 c = search quiet-slave
+returns-2 c = search (quiet-slave, place-of)
 
 take-slave-requires : tie.Need-take-slave-requires
 take-slave-requires c κs = search place-of
@@ -74,10 +74,10 @@ code-requires-2 : tie.Need-code-requires-2
 code-requires-2 c κs = search needs
 
 returns-3 : tie.Need-returns-3
-returns-3 c = search (settled-master, c .before .before .before .before .before .before .before .before .before .before .before .seen-arg2 .given .0)
+returns-3 c = search (settled-master, place-of, c .before .before .before .before .before .before .before .before .before .before .before .seen-arg2 .given .0)
 
 returns-4 : tie.Need-returns-4
-returns-4 c = search (settled-slave, c .before .before .before .before .before .before .before .before .before .before .before .before .before .before .seen-arg2 .given .0)
+returns-4 c = search (settled-slave, place-of, c .before .before .before .before .before .before .before .before .before .before .before .before .before .before .seen-arg2 .given .0)
 
 returns-5 : tie.Need-returns-5
 returns-5 c = search nothing-way

@@ -3,47 +3,51 @@ use borrow.Author.Needs.{needs}
 use Rattle.vpic.proofs.pair.PicState.pending_place.Statement.{statement}
 use Rattle.vpic.proofs.pair.PicState.pending_place.Tie as tie
 
+is-next-requires : tie.Need-is-next-requires
+is-next-requires c κs = search needs
+
 pending-irq-requires : tie.Need-pending-irq-requires
 pending-irq-requires c κs = search needs
 
-enum-known-master-irq : tie.Need-enum-known-master-irq
-enum-known-master-irq c = search needs
+enum-known-slave-irq : tie.Need-enum-known-slave-irq
+enum-known-slave-irq c = search needs
 
 enum-told : tie.Need-enum-told
 enum-told c = search needs
 
 returns : tie.Need-returns
-returns c = search place-nowhere
+returns c = search place-cascade
 
 returns-2 : tie.Need-returns-2
-returns-2 c = search place-master
+returns-2 c = search place-slave
 
 pending-irq-requires-2 : tie.Need-pending-irq-requires-2
 pending-irq-requires-2 c κs = search needs
 
-enum-known-slave-irq : tie.Need-enum-known-slave-irq
-enum-known-slave-irq c = search needs
+enum-known-master-irq : tie.Need-enum-known-master-irq
+enum-known-master-irq c = search needs
 
 enum-told-2 : tie.Need-enum-told-2
 enum-told-2 c = search needs
 
 returns-3 : tie.Need-returns-3
-returns-3 c = search place-cascade
+returns-3 c = search place-nowhere
 
 returns-4 : tie.Need-returns-4
-returns-4 c = search place-slave
+returns-4 c = search place-master
 
 pub pending-place-spec : {M : Type 1} → statement M
 pending-place-spec =
     tie.close
     (tie.spec
+    is-next-requires
     pending-irq-requires
-    enum-known-master-irq
+    enum-known-slave-irq
     enum-told
     returns
     returns-2
     pending-irq-requires-2
-    enum-known-slave-irq
+    enum-known-master-irq
     enum-told-2
     returns-3
     returns-4)
