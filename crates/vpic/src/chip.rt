@@ -318,9 +318,34 @@ impl PicChip {
     }
 }
 
-// The lowest line of the set, line 0 being the highest in priority, or 8 where the set is empty.
+// The lowest line of the set, line 0 being the highest in priority, or 8 where the set is empty. Three tests find it: of four lines, then of two, then of one,
+// each whether no line below is in the set, as none of lines 0 to 3 is where `bits % 16 == 0`.
 pub fn highest_priority(bits: u8) -> u8
     ensures { λ r. ⌜ r ≡ lowest 8 bits ⌝ }
 {
-    u8::trailing_zeros(bits) as u8
+    if bits == 0 {
+        return 8;
+    }
+    if bits % 16 == 0 {
+        if bits % 64 == 0 {
+            if bits % 128 == 0 {
+                return 7;
+            }
+            return 6;
+        }
+        if bits % 32 == 0 {
+            return 5;
+        }
+        return 4;
+    }
+    if bits % 4 == 0 {
+        if bits % 8 == 0 {
+            return 3;
+        }
+        return 2;
+    }
+    if bits % 2 == 0 {
+        return 1;
+    }
+    0
 }
