@@ -3,7 +3,8 @@ use mathlib.Core.Path.{_≡_, refl, sym, ap, ap₂, subst, _∙_}
 use mathlib.Core.Bool.{Bool, true, false, not, cond, _&&_, true≢false}
 use Prim.Native.Nat.{ℕ, _+_, _-_, _*_, _%_, _^_, _<_, _≤_}
 use native.Mathlib.Omega.{arith}
-use lib.Bits.{bitAnd}
+use native.Mathlib.Nat.{mod-eq-of-lt}
+use lib.Bits.{bitAnd, and-mask}
 use lib.Dec.{ltb, eqb}
 use borrow.Author.Tests.{ltb-true, ltb-false, lt-ltb, le-ltb, eq-eqb, ne-eqb, eqb-true, eqb-false, not-true, not-false}
 use Rattle.utils.specs.Set.{bit, with, without, outside, first, lowest}
@@ -158,22 +159,29 @@ asks-is c = go (ltb (asked c) (served c)) refl ∙ ap (λ (n : ℕ). ltb n 8) (s
     go true e = e ∙ sym (lt-ltb (asked c) 8 (omega (arith, ltb-true (asked c) (served c) e, lowest-le 8 (c .«in_service»))))
     go false e = e
 
--- a law for each way out of `asks`
-pub asks-free : (c : PicChip) (o : ℕ) → o ≡ outside 8 (c .request) (c .mask) → c .«in_service» ≡ 0 → not (eqb o 0) ≡ asks c
-unfolding lowest
-asks-free c o eo e = go (eqb o 0) refl ∙ ap (λ (m : ℕ). ltb (asked c) (lowest 8 m)) (sym e) ∙ asks-is c
+abbrev waiting : PicChip → ℕ
+waiting c = outside 8 (c .request) (c .mask)
+
+-- by the code's count down, which is of all lines where none is in service
+pub asks-above : (c : PicChip) (o a : ℕ) → o ≡ outside 8 (c .request) (c .mask) → c .«in_service» < 2 ^ 8 → a ≡ outside 8 ((c .«in_service» + 255) % 256) (c .«in_service») → not (eqb (bitAnd o a) 0) ≡ asks c
+unfolding lowest outside
+asks-above c o a eo l ea = ap₂ (λ (x y : ℕ). not (eqb (bitAnd x y) 0)) eo ea ∙ go (eqb (c .«in_service») 0) refl ∙ asks-is c
   where
-    small : o < 2 ^ 8
-    small = subst (λ (m : ℕ). m < 2 ^ 8) (sym eo) (outside-lt 8 (c .request) (c .mask))
-
-    go : (b : Bool) → eqb o 0 ≡ b → not b ≡ ltb (asked c) 8
-    go true q = sym (ap (λ (m : ℕ). ltb (lowest 8 m) 8) (sym eo ∙ eqb-true o 0 q))
-    go false q = sym (ap (λ (m : ℕ). ltb (lowest 8 m) 8) (sym eo) ∙ lt-ltb (lowest 8 o) 8 (lowest-in-byte o small (eqb-false o 0 q)))
-
-pub asks-above : (c : PicChip) (o a : ℕ) → o ≡ outside 8 (c .request) (c .mask) → c .«in_service» < 2 ^ 8 → (c .«in_service» ≡ 0 → ⊥) → a ≡ outside 8 (c .«in_service» - 1) (c .«in_service»)
-    → not (eqb (bitAnd o a) 0) ≡ asks c
-asks-above c o a eo l h ea =
-    ap₂ (λ (x y : ℕ). not (eqb (bitAnd x y) 0)) eo ea ∙ some-above (outside 8 (c .request) (c .mask)) (c .«in_service») l h ∙ asks-is c
+    go : (b : Bool) → eqb (c .«in_service») 0 ≡ b → not (eqb (bitAnd (waiting c) (outside 8 ((c .«in_service» + 255) % 256) (c .«in_service»))) 0) ≡ ltb (asked c) (served c)
+    go true q =
+        let e : c .«in_service» ≡ 0 = eqb-true (c .«in_service») 0 q in
+        ap (λ (m : ℕ). not (eqb (bitAnd (waiting c) (outside 8 ((m + 255) % 256) m)) 0)) e
+        ∙ ap (λ (m : ℕ). not (eqb m 0)) (and-mask (waiting c) 8 ∙ mod-eq-of-lt (outside-lt 8 (c .request) (c .mask)))
+        ∙ some-open (eqb (waiting c) 0) refl
+        ∙ ap (λ (m : ℕ). ltb (asked c) (lowest 8 m)) (sym e)
+      where
+        some-open : (b : Bool) → eqb (waiting c) 0 ≡ b → not b ≡ ltb (lowest 8 (waiting c)) (lowest 8 0)
+        some-open true z = sym (ap (λ (m : ℕ). ltb (lowest 8 m) 8) (eqb-true (waiting c) 0 z))
+        some-open false z = sym (lt-ltb (lowest 8 (waiting c)) 8 (lowest-in-byte (waiting c) (outside-lt 8 (c .request) (c .mask)) (eqb-false (waiting c) 0 z)))
+    go false q =
+        let n : c .«in_service» ≡ 0 → ⊥ = eqb-false (c .«in_service») 0 q in
+        let e : (c .«in_service» + 255) % 256 ≡ c .«in_service» - 1 = omega (arith, n) in
+        ap (λ (m : ℕ). not (eqb (bitAnd (waiting c) (outside 8 m (c .«in_service»))) 0)) e ∙ some-above (waiting c) (c .«in_service») l n
 
 -- a line is the next exactly if it is the first open one and above those in service: the code's two tests
 pub next-other : (c : PicChip) (o k : ℕ) → o ≡ outside 8 (c .request) (c .mask) → k < 8 → (o % ((2 * 2 ^ k) % 2 ^ 32) ≡ (1 * 2 ^ k) % 2 ^ 32 → ⊥) → false ≡ eqb (pendingLine c) k

@@ -248,11 +248,9 @@ impl PicChip {
         ensures { λ r. ⌜ r ≡ asks self ⌝ }
     {
         let open = set8::outside(self.request, self.mask);
-        if self.in_service == 0 {
-            return open != 0;
-        }
-        // The lines above every line in service, without a search: those that a count down by one put in.
-        let above = set8::outside(self.in_service - 1, self.in_service);
+        // The lines above every line in service, without a search: those that a count down by one puts in, all where none is in service.
+        let less = ((self.in_service as u32 + 255) % 256) as u8;
+        let above = set8::outside(less, self.in_service);
         open & above != 0
     }
 
