@@ -284,7 +284,41 @@ row! {
     ours(io) { sum += our_ended(io.lend(|io| io.end_of_interrupt(vector as u8))); }
 }
 
-// Version 0x20, whose EOI looks at all 24 entries. The original's, of version 0x11, stops at the first that it ends.
+// One line is in flight from the start, at GSI 20, and an EOI of a vector that no line uses comes. Or its own comes, and sends it again, since the line is held.
+macro_rules! eoi_one_in_flight {
+    ($name:ident, $chip:ident, $vector:expr, $boundary:expr, $ours:expr) => {
+        row! {
+            $name, $chip, LEVEL_20, (gsi = 20, vector = $vector, first_time = 1), |sum|,
+            original(io) {
+                if first_time != 0 {
+                    first_time = 0;
+                    io.set_gsi_level(gsi as usize, true);
+                }
+                sum += ended(io.end_of_interrupt(vector as u8));
+            }
+            boundary(words) {
+                if first_time != 0 {
+                    first_time = 0;
+                    sillwander_ioapic_set_gsi_level(words, gsi, 1);
+                }
+                sum += ($boundary)(sillwander_ioapic_end_of_interrupt(words, vector), vector);
+            }
+            ours(io) {
+                if first_time != 0 {
+                    first_time = 0;
+                    io.lend(|io| io.set_gsi_level(gsi as usize, true));
+                }
+                sum += ($ours)(io.lend(|io| io.end_of_interrupt(vector as u8)), vector);
+            }
+        }
+    };
+}
+eoi_one_in_flight!(eoi_unused_one, io, 0x99, |code, _| code_ended(code), |answer, _| our_ended(answer));
+eoi_one_in_flight!(eoi_resend_20, io, 0x30, |code, _| code_ended(code), |answer, _| our_ended(answer));
+eoi_one_in_flight!(eoi_unused_one_v20, io20, 0x99, code_all_ended, our_all_ended);
+eoi_one_in_flight!(eoi_resend_20_v20, io20, 0x30, code_all_ended, our_all_ended);
+
+// Version 0x20, whose EOI reaches every entry in flight. The original's, of version 0x11, stops at the first that it ends.
 
 row! {
     eoi_unused_v20, io20, LEVEL_ALL, (vector = 0x99), |sum|,
@@ -633,7 +667,11 @@ pub const ROWS: &[&Row] = &[
     &line_edge_20::ROW,
     &eoi_resend_2::ROW,
     &eoi_unused::ROW,
+    &eoi_unused_one::ROW,
+    &eoi_resend_20::ROW,
     &eoi_unused_v20::ROW,
+    &eoi_unused_one_v20::ROW,
+    &eoi_resend_20_v20::ROW,
     &assert_eoi_2_v20::ROW,
     &assert_eoi_20_v20::ROW,
     &Row { is_like_original: false, ..eoi_shared_v20::ROW },

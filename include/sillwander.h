@@ -53,10 +53,15 @@ extern "C" {
  *   26       the selector, bits 31..0
  *   27, 28   base address and size
  *   29       the version: 0x20; any other number is 0x11
- *   30, 31   spare: 0 in a new state, and no call reads or writes them
+ *   30       bit g: entry g is in flight, the same as bit 14 of its register
+ *   31       spare: 0 in a new state, and no call reads or writes it
  *
- * Bits of words 24 to 26 that stand for nothing are ignored; a call keeps those of 24 and 25.
- * A call touches the words that it must: one entry's register and its two flags, or the selector; in version 0x20 an EOI touches those of every entry that it ends.
+ * Bits of words 24 to 26 and 30 that stand for nothing are ignored; a call keeps those of 24, 25 and 30.
+ * A call touches the words that it must: one entry's register, its two flags and its bit of word 30, or the selector; in version 0x20 an EOI touches those of
+ * every entry that it ends.
+ * Word 30 is there so that an EOI looks only at the entries in flight. A new state's agrees with the registers, and so it does after every call on words where it
+ * agreed. A caller that writes a register's bit 14 itself has to write word 30 too: where the two differ, a call still answers and no word outside the 32 is
+ * touched, but an EOI may pass over an entry whose bit is missing.
  */
 #define SILLWANDER_IOAPIC_WORDS 32
 

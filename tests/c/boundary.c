@@ -456,12 +456,23 @@ static void put_off_and_dropped(void)
     /* entries that end but can't be sent, lines up and put off: masked, not fixed, a vector below 16; and those that don't end: edge, not in flight, another vector */
     start_20("ended and not fit to be sent", 1, 0x8041);
     io[1] = 0x1c041, io[2] = 0xc141, io[3] = 0x4041, io[4] = 0x8041, io[5] = 0xc042, io[6] = 0xff0000000000c041, io[24] = 0x7e, io[25] = 0x7f;
+    io[30] = 0x6f;
     EXPECT(io_eoi(0x41), two(0x47, 0x41));
     CHECK(io[0] == 0xc041 && io[1] == 0x18041 && io[2] == 0x8141 && io[3] == 0x4041 && io[4] == 0x8041 && io[5] == 0xc042);
-    CHECK(io[6] == 0xff0000000000c041 && io[24] == 0x38 && io[25] == 0x7f);
-    io[7] = 0xc00f, io[25] = 0xff;
+    CHECK(io[6] == 0xff0000000000c041 && io[24] == 0x38 && io[25] == 0x7f && io[30] == 0x69);
+    io[7] = 0xc00f, io[25] = 0xff, io[30] = 0xe9;
     EXPECT(io_eoi(15), two(0x80, 0));
-    CHECK(io[7] == 0x800f);
+    CHECK(io[7] == 0x800f && io[30] == 0x69);
+
+    /* word 30 made up: an EOI passes over an entry in flight whose bit is missing, and a bit above the table names nothing */
+    for (unsigned version = 0x11; version <= 0x20; version += 0xf) {
+        start_20("lines in flight made up", 0x28, 0x8041);
+        io[29] = version, io[30] = (uint64_t)0xffffffffff << 24;
+        IDLE(io_lent, io_eoi(0x41));
+        io[30] = UINT64_MAX, io[25] = 0;
+        EXPECT(io_eoi(0x41), version == 0x20 ? two(0x28, 0) : one(3));
+        CHECK(io[3] == 0x8041 && io[30] == (version == 0x20 ? ~(uint64_t)0x28 : ~(uint64_t)8));
+    }
 }
 
 static void eoi_registers(void)
@@ -830,22 +841,31 @@ static int makes_a_new_state(unsigned which) { return which < NEW_STATES_OF_IO |
 static int spare_words_stayed(unsigned which)
 {
     return makes_a_new_state(which) ||
-           (memcmp(io + 29, io_lent.before + 29, 24) == 0 && memcmp(pic + 2, pic_lent.before + 2, 16) == 0 &&
+           (io[29] == io_lent.before[29] && io[31] == io_lent.before[31] && memcmp(pic + 2, pic_lent.before + 2, 16) == 0 &&
             memcmp(lapic + 42, lapic_lent.before + 42, 48) == 0);
 }
 
-/* Of the I/O APIC a call moves one entry at most, and the two flags of the same entry; an EOI of version 0x20 those that it ended. Base and size stay. */
+/* Of the I/O APIC a call moves one entry at most, and the bits of the same entry in words 24, 25 and 30; an EOI of version 0x20 those that it ended. Base and size stay. */
 static int one_entry_moved(unsigned which, uint64_t code)
 {
     if (which < NEW_STATES_OF_IO)
         return 1;
-    uint64_t flags = (io[24] ^ io_lent.before[24]) | (io[25] ^ io_lent.before[25]);
+    uint64_t flags = (io[24] ^ io_lent.before[24]) | (io[25] ^ io_lent.before[25]) | (io[30] ^ io_lent.before[30]);
     for (unsigned gsi = 0; gsi < 24; gsi++)
         if (io[gsi] != io_lent.before[gsi])
             flags |= (uint64_t)1 << gsi;
     if (io_lent.before[29] == 0x20 && SILLWANDER_COUNT(code) == 2 && (which == IO_EOI || which == IO_WRITE))
         flags &= ~(uint64_t)SILLWANDER_OF_TWO(code, 0);
     return (flags & (flags - 1)) == 0 && io[27] == io_lent.before[27] && io[28] == io_lent.before[28];
+}
+
+/* Bit 14 of each entry, as word 30 should have it; what stands above bit 23 is kept. */
+static uint64_t in_flight(void)
+{
+    uint64_t lines = io[30] & ~(uint64_t)0xffffff;
+    for (unsigned gsi = 0; gsi < 24; gsi++)
+        lines |= (io[gsi] >> 14 & 1) << gsi;
+    return lines;
 }
 
 /* The 8259A's output, bit by bit: a request that isn't masked, above every line in service. */
@@ -884,6 +904,9 @@ static void made_up_words(void)
                 io[gsi] = sendable();
         if (round % 4 < 2)
             io[29] = 0x20;
+        int agreed = round % 3 != 0; /* else word 30 is made up too */
+        if (agreed)
+            io[30] = in_flight();
         if (round % 2 == 0)
             pic[2] = 1;
         if (round == 0) {
@@ -902,6 +925,7 @@ static void made_up_words(void)
             CHECK(only_its_chip_moved(which));
             CHECK(spare_words_stayed(which));
             CHECK(one_entry_moved(which, code));
+            CHECK(!agreed || io[30] == in_flight());
             CHECK(the_cascade_is_settled(which, code));
             CHECK(code >> 56 == 0 || refusal_kept_the_words(which, SILLWANDER_REFUSAL(code)));
         }
@@ -917,7 +941,7 @@ static void made_up_eois(void)
         fill(&io_lent);
         for (unsigned gsi = 0; gsi < 24 && round % 8 != 0; gsi++)
             io[gsi] = sendable();
-        io[27] >>= 1, io[29] = 0x20;
+        io[27] >>= 1, io[29] = 0x20, io[30] = in_flight();
         for (unsigned step = 0; step < 6; step++) {
             uint64_t vector = round % 8 ? sendable() & 0xff : dice() & 0xff;
             uint32_t ended = 0, sent = 0;
@@ -930,7 +954,7 @@ static void made_up_eois(void)
                 if (((io[24] | io[25]) & bit) && !(entry & 0x10700) && vector >= 16)
                     sent |= bit; /* the line is up or it was put off; not masked, fixed, of a vector that can be sent */
                 else
-                    io_lent.before[gsi] = entry & ~(uint64_t)0x4000;
+                    io_lent.before[gsi] = entry & ~(uint64_t)0x4000, io_lent.before[30] &= ~bit;
                 io_lent.before[24] &= ~bit;
             }
             uint64_t code = dice() % 2 ? io_eoi(vector) : sillwander_ioapic_handle_write(io, io[27] + 0x40, 4, (dice() & ~(uint64_t)0xff) | vector);

@@ -26,7 +26,7 @@ use Rattle.vioapic.specs.declared.Eoi.the-variants.{NotEnded, EndedAll}
 use Rattle.heard.specs.Sends.{resends, sent, sends}
 use Rattle.heard.specs.Premises.{allTrue, always, lineUp, keepsLow, asks, throughout}
 use Rattle.heard.specs.Heard20.{isEoiAt, eoisAt, again, EveryEnded, heldUp, Heard20, Demand3Of20, waits, BothSent, sentAtEoi, BothHeard, NeverStarved}
-use Rattle.heard.proofs.Words.{same-fit, same-level, alike-without, irr-without}
+use Rattle.vioapic.proofs.Fields.{same-fit, same-level, alike-without, irr-without}
 use Rattle.heard.proofs.Views.{Sent, sent-view, Over, over-view20, level-view}
 use Rattle.heard.proofs.Steps.{never, and-true, imply, awaiting, awaits-no, grounded, Flying, end-again, end-input}
 use Rattle.heard.proofs.Tables.{every-at, every-size}

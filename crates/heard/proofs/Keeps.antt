@@ -28,7 +28,7 @@ use Rattle.vioapic.specs.declared.Routing.{Routing}
 use Rattle.vioapic.specs.declared.Ending.{Ending}
 use Rattle.vioapic.specs.declared.Writing.{Writing}
 use Rattle.heard.specs.Rules.{implies, entryRules, ChipRules, NewKeepsRules, CallsKeepRules, RunsKeepRules, CallsKeepVersion, RefusedKeeps, TableIndex}
-use Rattle.heard.proofs.Words.{same-fit, same-level, alike-with, alike-without, alike-high, irr-with, irr-without, irr-low, irr-high}
+use Rattle.vioapic.proofs.Fields.{same-fit, same-level, alike-with, alike-without, alike-high, irr-with, irr-without, irr-low, irr-high}
 use Rattle.heard.proofs.Steps.{never, and-true, implied, imply}
 use Rattle.heard.proofs.Tables.{put-same, put-other, every-at, every-size}
 use Rattle.heard.proofs.Views.{Sent, sent-view, Raised, Moved, moved-view, Over, over-view, over-view20, Wrote, Routes, assert-view, level-view, Ends, EndsBy, ends-by, Writes, Write, write-view}

@@ -6,4 +6,3 @@ pub mod Quiet
 pub mod Steps
 pub mod Tables
 pub mod Views
-pub mod Words

@@ -28,7 +28,7 @@ use Rattle.heard.specs.Rules.{implies}
 use Rattle.heard.specs.Sends.{resends, sent, sends, isEoi, eois, lowerInFlight}
 use Rattle.heard.specs.Premises.{allTrue, keepsLow, lowerKept, asks, ownAsks, lowerRests, levelSent, lowerUnsent, held, throughout}
 use Rattle.heard.specs.Heard.{Heard}
-use Rattle.heard.proofs.Words.{Alike, same-vector}
+use Rattle.vioapic.proofs.Fields.{Alike, same-vector}
 use Rattle.heard.proofs.Views.{sent-view, moved-view, Over, over-view, Routes, assert-view, level-view, Ends, ends-old, Writes, Write, write-view}
 use Rattle.heard.proofs.Steps.{never, and-true, implied, not-is, one, awaiting, awaits-no, send-awaits, move-awaits, end-alike, end-again, end-rest, wrote-kept, wrote-none}
 use Rattle.heard.proofs.Tables.{all-at, lower-put, lower-gone, first-awaits, first-lowest, first-own, first-lower}

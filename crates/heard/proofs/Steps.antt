@@ -16,7 +16,7 @@ use Rattle.vioapic.specs.declared.redirection.Routed.{Routed}
 use Rattle.vioapic.specs.declared.redirection.Routed.the-variants.{NotRouted, Interrupt}
 use Rattle.heard.specs.Rules.{implies}
 use Rattle.heard.specs.Premises.{asks, levelSent}
-use Rattle.heard.proofs.Words.{Alike, alike-refl, alike-then, same-fit, same-level, same-vector, alike-with, alike-without, alike-high, irr-with, irr-without, irr-low, irr-high, low-written}
+use Rattle.vioapic.proofs.Fields.{Alike, alike-refl, alike-then, same-fit, same-level, same-vector, alike-with, alike-without, alike-high, irr-with, irr-without, irr-low, irr-high, low-written}
 use Rattle.heard.proofs.Views.{Sent, Raised, Moved, Over, Wrote}
 
 -- nothing is both

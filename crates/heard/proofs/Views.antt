@@ -179,7 +179,7 @@ unfolding endOf
 ends-old s v o = rw o (ends-view s v)
 
 pub data Writes (s : IoApicState) (offset x : ℕ) : Writing → Type 0 where
-  selected : (y : ℕ) → Writes s offset x (done (record { version = s .version; selector = y; entries = s .entries }))
+  selected : (y : ℕ) → Writes s offset x (done (record { version = s .version; selector = y; «in_flight» = s .«in_flight»; entries = s .entries }))
   word : (h : ℕ) (f : Entry) → h < 24 → Wrote (entryAt s h) x f → Writes s offset x (done (put s h f))
   eoi : isNew s ≡ true → offset ≡ 0x40 → Writes s offset x (eoiWritten (endOfEvery s (record { 0 = x % 2 ^ 8 })))
 
@@ -191,7 +191,7 @@ writes-view s offset x = go (eqb offset 0) (eqb offset 0x10) (eqb offset 0x40) (
     word-written = done (put s (entryOf (s .selector)) (writeWord (s .selector) (entryAt s (entryOf (s .selector))) x))
 
     go : (a b d c n : Bool) → eqb offset 0x40 ≡ d → isEntryWord (s .selector) ≡ c → isNew s ≡ n
-        → Writes s offset x (cond a (done (record { version = s .version; selector = x; entries = s .entries })) (cond b (cond c word-written (done s)) (cond d (cond n (eoiWritten (endOfEvery s (record { 0 = x % 2 ^ 8 }))) (done s)) (done s))))
+        → Writes s offset x (cond a (done (record { version = s .version; selector = x; «in_flight» = s .«in_flight»; entries = s .entries })) (cond b (cond c word-written (done s)) (cond d (cond n (eoiWritten (endOfEvery s (record { 0 = x % 2 ^ 8 }))) (done s)) (done s))))
     go true b d c n o p q = selected x
     go false false false c n o p q = selected (s .selector)
     go false false true c false o p q = selected (s .selector)

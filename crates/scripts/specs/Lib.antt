@@ -1,3 +1,4 @@
+pub mod Agreement
 pub mod Late
 pub mod Machine
 pub mod Run

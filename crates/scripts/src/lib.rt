@@ -2,6 +2,8 @@
 
 ghost use mathlib.Core.Path.{_≡_};
 ghost use Rattle.vioapic.specs.Calls.{outcome};
+ghost use Rattle.vioapic.specs.Table.{Agrees};
+ghost use Rattle.scripts.specs.Agreement.{MachineAgrees};
 ghost use Rattle.scripts.specs.Machine.{newMachine, ioCall, chosen, ruled, picOutcome, onIoApic, onPic, onApic, outcomeOf, setUp, apicOutcome, ioStep, picStep, performedOutcome, performed};
 ghost use Rattle.scripts.specs.Late.{isLate, taken, fieldFor};
 ghost use Rattle.scripts.specs.Run.{runOf};
@@ -69,7 +71,7 @@ pub struct Run {
 // ---- one call on one chip
 
 fn call_ioapic(ioapic: EmulatedIoApic, call: IoCall) -> IoStep
-    ensures { λ r. ⌜ ioStep r ≡ outcome ioapic (ioCall call) ⌝ }
+    ensures { λ r. ⌜ (Agrees (ioapic .state) → ioStep r ≡ outcome ioapic (ioCall call)) ⌝ }
 {
     match call {
         IoCall::HandleRead { addr, width } => {
@@ -347,7 +349,7 @@ impl Machine {
 
     // Performs one call. Whether a choice comes too late is said where its field is read.
     pub fn perform(self, call: Call) -> Performed
-        ensures { λ r. ⌜ performedOutcome r ≡ performed self call ⌝ }
+        ensures { λ r. ⌜ (MachineAgrees self → performedOutcome r ≡ performed self call) ⌝ }
     {
         let ioapic = self.ioapic;
         let pic = self.pic;
@@ -362,7 +364,7 @@ impl Machine {
 
     // Performs the fields of a script from a place on, as many as are allowed, up to the first bad one or the end.
     pub fn run(self, script: &[u8], from: Cursor, allowance: usize) -> Run
-        ensures { λ r. ⌜ r ≡ runOf (now (script .entry)) self (from .at) allowance ⌝ }
+        ensures { λ r. ⌜ (MachineAgrees self → r ≡ runOf (now (script .entry)) self (from .at) allowance) ⌝ }
     {
         let mut machine = self;
         let mut next = from;

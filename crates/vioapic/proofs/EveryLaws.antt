@@ -1,16 +1,18 @@
 -- An EOI of version 0x20, entry after entry: when the entries below i have had their turn. Assumes nothing.
-use Prim.Native.Nat.{ℕ, zero, suc, _+_, _<_, _≤_}
+use Prim.Native.Nat.{ℕ, zero, suc, _%_, _^_, _<_}
 use native.Mathlib.Omega.{arith}
-use mathlib.Core.Bool.{Bool, true, false, cond, _&&_}
+use mathlib.Core.Bool.{Bool, true, false, cond, true≢false}
 use mathlib.Core.List.{List, [], _∷_, map}
-use mathlib.Core.Path.{_≡_, refl, sym, _∙_, ap}
-use lib.ListN.{length, length-map, getD, set}
-use Rattle.utils.specs.Set.{with, setOf}
+use mathlib.Core.Path.{_≡_, refl, sym, _∙_, ap, ap₂}
+use lib.ListN.{length, getD, set}
+use Rattle.utils.specs.Set.{bit, with, without, setOf, lowest}
 use Rattle.utils.proofs.Laws.{setOf-next}
+use Rattle.utils.proofs.Walk.{walk, walk-empty, walk-lowest, walk-stages}
 use Rattle.types.specs.declared.Vector.{Vector}
 use Rattle.vioapic.specs.Answers.{isRouted}
 use Rattle.vioapic.specs.Redirection.{awaits, endEntry20}
-use Rattle.vioapic.specs.Table.{noEntry, entryAt, withEntries, put, endEach, clearedBy, sentBy, everyAnswer, endNext, endOfEvery}
+use Rattle.vioapic.specs.Table.{noEntry, entryAt, Agrees, withEntries, put, endEach, clearedBy, sentBy, everyAnswer, endNext, endOfEvery}
+use Rattle.vioapic.proofs.FlightLaws.{agrees-cut, agrees-whole, agrees-flying, put-whole}
 use Rattle.vioapic.specs.declared.redirection.Entry.{Entry}
 use Rattle.vioapic.specs.declared.redirection.EntryStep.{EntryStep}
 use Rattle.vioapic.specs.declared.IoApicState.{IoApicState}
@@ -48,9 +50,10 @@ first-all zero f (e ∷ l) h = absurd (omega arith)
 first-all (suc i) f [] h = refl
 first-all (suc i) f (e ∷ l) h = ap (λ (t : List Entry). f e ∷ t) (first-all i f l (omega arith))
 
--- what is known of the table's length is known of its image
-pub table-long : (X : Type 0) (f : Entry → X) (l : List Entry) (n : ℕ) → length (map f l) ≡ n → length l ≡ n
-table-long X f l n h = sym (length-map l f) ∙ h
+first-long : (i : ℕ) (f : Entry → Entry) (l : List Entry) → length (mapFirst i f l) ≡ length l
+first-long zero f l = refl
+first-long (suc i) f [] = refl
+first-long (suc i) f (e ∷ l) = ap suc (first-long i f l)
 
 -- the EOI when the entries below i have had their turn
 abbrev pub upTo : Vector → IoApicState → ℕ → EveryEnd
@@ -59,27 +62,6 @@ upTo v s i = record {
   cleared = setOf i (clearedBy v s);
   sent = setOf i (sentBy v s);
 }
-
-module _ (v : Vector) (s : IoApicState) where
-  up-to-next : (i : ℕ) → length (s .entries) ≡ 24 → i < 24 → endNext v (upTo v s i) i ≡ upTo v s (suc i)
-  up-to-next i n h = go (awaits v (entryAt s i)) (isRouted (endEntry20 (entryAt s i) .answer)) refl refl
-    where
-      go : (a b : Bool) → awaits v (entryAt s i) ≡ a → isRouted (endEntry20 (entryAt s i) .answer) ≡ b → endNext v (upTo v s i) i ≡ upTo v s (suc i)
-      go true true p q =
-          rw (first-at i (endEach v) (s .entries), p, q, setOf-next i (clearedBy v s), setOf-next i (sentBy v s), p, q, ← first-set i (endEach v) (s .entries) (omega (arith, n)), p)
-      go true false p q =
-          rw (first-at i (endEach v) (s .entries), p, q, setOf-next i (clearedBy v s), setOf-next i (sentBy v s), p, q, ← first-set i (endEach v) (s .entries) (omega (arith, n)), p)
-      go false b p q =
-          let f : endEach v (entryAt s i) ≡ entryAt s i = rw p in
-          rw (first-at i (endEach v) (s .entries), p, setOf-next i (clearedBy v s), setOf-next i (sentBy v s), p, ← first-same i (endEach v) (s .entries) f)
-
-  -- the loop's step and its end
-  pub next-turn : (a b : EveryEnd) (i : ℕ) → length (s .entries) ≡ 24 → i < 24 → a ≡ upTo v s i → b ≡ endNext v a i → b ≡ upTo v s (i + 1)
-  next-turn a b i n h p q = let e : suc i ≡ i + 1 = omega arith in q ∙ ap (λ (x : EveryEnd). endNext v x i) p ∙ up-to-next i n h ∙ ap (upTo v s) e
-
-  pub all-turns : (a : EveryEnd) (r : Eoi) (i : ℕ) → length (s .entries) ≡ 24 → 24 ≤ i → i ≤ 24 → a ≡ upTo v s i → r ≡ everyAnswer (a .cleared) (a .sent) → record { state = a .state; answer = r } ≡ endOfEvery s v
-  unfolding endOfEvery
-  all-turns a r i n h k p q = let e : i ≡ 24 = omega arith in rw (q, p, e, first-all 24 (endEach v) (s .entries) n)
 
 -- ---- one entry's turn
 
@@ -98,3 +80,57 @@ module _ (v : Vector) (a : EveryEnd) (i : ℕ) where
   turn-unsent s r c h q p y d =
       let z : isRouted (endEntry20 (entryAt (a .state) i) .answer) ≡ false = sym (ap (λ (x : EntryStep). isRouted (x .answer)) q) ∙ y in
       rw (h, z, p, q, d)
+
+-- ---- all turns
+
+not-true-is : (b : Bool) → (b ≡ true → ⊥) → b ≡ false
+not-true-is true n = absurd (n refl)
+not-true-is false n = refl
+
+module _ (v : Vector) (s : IoApicState) (k : Agrees s) where
+  -- where entry i awaits the EOI its turn leads on, and where it doesn't nothing is to be done
+  up-to-next : (i : ℕ) → i < 24 → endNext v (upTo v s i) i ≡ upTo v s (suc i)
+  up-to-next i h = go (awaits v (entryAt s i)) (isRouted (endEntry20 (entryAt s i) .answer)) refl refl
+    where
+      so-far : Agrees (upTo v s i .state)
+      so-far = record { table = first-long i (endEach v) (s .entries) ∙ k .table; word = refl }
+
+      put-here : awaits v (entryAt s i) ≡ true → put (upTo v s i .state) i (endEntry20 (entryAt s i) .entry) ≡ upTo v s (suc i) .state
+      put-here p =
+          let e : endEach v (entryAt s i) ≡ endEntry20 (entryAt s i) .entry = rw p in
+          put-whole (upTo v s i .state) i (endEntry20 (entryAt s i) .entry) so-far h
+          ∙ ap (withEntries s) (ap (set (mapFirst i (endEach v) (s .entries)) i) (sym e) ∙ first-set i (endEach v) (s .entries) (omega (arith, k .table)))
+
+      go : (a b : Bool) → awaits v (entryAt s i) ≡ a → isRouted (endEntry20 (entryAt s i) .answer) ≡ b → endNext v (upTo v s i) i ≡ upTo v s (suc i)
+      go true true p q = rw (first-at i (endEach v) (s .entries), p, q, put-here p, setOf-next i (clearedBy v s), setOf-next i (sentBy v s), p, q)
+      go true false p q = rw (first-at i (endEach v) (s .entries), p, q, put-here p, setOf-next i (clearedBy v s), setOf-next i (sentBy v s), p, q)
+      go false b p q =
+          let f : endEach v (entryAt s i) ≡ entryAt s i = rw p in
+          rw (first-at i (endEach v) (s .entries), p, setOf-next i (clearedBy v s), setOf-next i (sentBy v s), p, ← first-same i (endEach v) (s .entries) f)
+
+  -- an entry that isn't in the word awaits nothing, and may be passed over
+  passed : (i : ℕ) → i < 24 → (b : Bool) → bit (s .«in_flight») i ≡ b → cond b (endNext v (upTo v s i) i) (upTo v s i) ≡ upTo v s (suc i)
+  passed i h true e = up-to-next i h
+  passed i h false e =
+      let n : awaits v (entryAt s i) ≡ false = not-true-is (awaits v (entryAt s i)) (λ y. true≢false (sym (agrees-flying s v k i h y) ∙ e)) in
+      turn-none v (upTo v s i) i (ap (awaits v) (first-at i (endEach v) (s .entries)) ∙ n) ∙ up-to-next i h
+
+  -- so that the turns of the word's members are all that is to be done
+  pub all-turns : (a : EveryEnd) (r : Eoi) (left : ℕ) → left ≡ 0
+      → walk (endNext v) 24 0 left a ≡ walk (endNext v) 24 0 (s .«in_flight» % 2 ^ 24) (record { state = s; cleared = 0; sent = 0 })
+      → r ≡ everyAnswer (a .cleared) (a .sent) → record { state = a .state; answer = r } ≡ endOfEvery s v
+  unfolding endOfEvery
+  all-turns a r left e p q =
+      let start : record { state = s; cleared = 0; sent = 0 } ≡ upTo v s 0 = ap (λ (x : IoApicState). record { state = x; cleared = 0; sent = 0 }) (sym (agrees-whole s k)) in
+      let turns : walk (endNext v) 24 0 (s .«in_flight») (upTo v s 0) ≡ upTo v s 24 =
+      walk-stages EveryEnd (endNext v) (upTo v s) 24 0 (s .«in_flight») (λ i l h. passed i (omega arith) (bit (s .«in_flight») i) refl) in
+      let d : a ≡ upTo v s 24 =
+      sym (walk-empty EveryEnd (endNext v) 24 0 left a e) ∙ p ∙ ap (λ (n : ℕ). walk (endNext v) 24 0 n (record { state = s; cleared = 0; sent = 0 })) (agrees-cut s k)
+      ∙ ap (walk (endNext v) 24 0 (s .«in_flight»)) start ∙ turns in
+      rw (q, d, first-all 24 (endEach v) (s .entries) (k .table))
+
+-- the loop's step: the lowest that is left has its turn
+pub next-turn : (v : Vector) (a b r : EveryEnd) (left g m : ℕ) → left < 2 ^ 24 → (left ≡ 0 → ⊥) → g ≡ lowest 32 left → m ≡ without left g → b ≡ endNext v a g
+    → walk (endNext v) 24 0 left a ≡ r → walk (endNext v) 24 0 m b ≡ r
+next-turn v a b r left g m h c d q y p =
+    ap₂ (λ (n : ℕ) (x : EveryEnd). walk (endNext v) 24 0 n x) q y ∙ sym (walk-lowest EveryEnd (endNext v) 24 32 left g a (omega arith) h c d) ∙ p

@@ -1,5 +1,6 @@
 pub mod Answers
 pub mod Calls
+pub mod Agreement
 pub mod Departures
 pub mod IoApic
 pub mod Redirection

@@ -80,7 +80,7 @@ writeEoi s x = cond (isNew s) (eoiWritten (endOfEvery s (record { 0 = x % 2 ^ 8 
 -- and written: IOREGSEL takes the value whole (D-34), and a write at any other offset is ignored
 unfoldable pub writeAt : IoApicState → ℕ → ℕ → Writing
 writeAt s offset x =
-    cond (eqb offset 0) (done (record { version = s .version; selector = x; entries = s .entries }))
+    cond (eqb offset 0) (done (record { version = s .version; selector = x; «in_flight» = s .«in_flight»; entries = s .entries }))
     (cond (eqb offset 0x10) (writeSelected s x)
     (cond (eqb offset 0x40) (writeEoi s x)
     (done s)))

@@ -3,14 +3,15 @@
 use Prim.Native.Nat.{ℕ}
 use mathlib.Core.Bool.{Bool, false, cond, _&&_}
 use mathlib.Core.List.{List, map}
+use mathlib.Core.Path.{_≡_}
 use lib.Dec.{eqb, ltb}
-use lib.ListN.{getD, set, replicate}
-use Rattle.utils.specs.Set.{with, setOf, first}
+use lib.ListN.{length, getD, set, replicate}
+use Rattle.utils.specs.Set.{with, without, setOf, first}
 use Rattle.types.specs.Counters.{entryIndex}
 use Rattle.types.specs.declared.Gsi.{Gsi}
 use Rattle.types.specs.declared.Vector.{Vector}
 use Rattle.vioapic.specs.Answers.{isRouted}
-use Rattle.vioapic.specs.Redirection.{vectorOf, isFit, awaits, sendEntry, moveLine, endEntry, endEntry20}
+use Rattle.vioapic.specs.Redirection.{vectorOf, remoteIrr, isFit, awaits, sendEntry, moveLine, endEntry, endEntry20}
 use Rattle.vioapic.specs.declared.redirection.Entry.{Entry}
 use Rattle.vioapic.specs.declared.redirection.EntryStep.{EntryStep}
 use Rattle.vioapic.specs.declared.redirection.Routed.the-variants.{NotRouted}
@@ -29,7 +30,7 @@ newEntry = record { word = 0x10000; «pending_level» = false; «input_level» =
 
 -- a new table, in either version
 abbrev pub newState : ℕ → IoApicState
-newState version = record { version = version; selector = 0; entries = replicate 24 newEntry }
+newState version = record { version = version; selector = 0; «in_flight» = 0; entries = replicate 24 newEntry }
 
 -- version 0x20; any other number is 0x11
 abbrev pub isNew : IoApicState → Bool
@@ -43,12 +44,32 @@ noEntry = record { word = 0; «pending_level» = false; «input_level» = false 
 abbrev pub entryAt : IoApicState → ℕ → Entry
 entryAt s g = getD (s .entries) g noEntry
 
+-- the set of the lines in flight: those whose entry has Remote IRR, level or not
+abbrev pub inFlightOf : List Entry → ℕ
+inFlightOf es = setOf 24 (λ g. remoteIrr (getD es g noEntry .word))
+
+-- the word beside the table is that set, of a table of 24
+pub record Agrees (s : IoApicState) : Type 0 where
+  pub table : length (s .entries) ≡ 24
+  pub word : s .«in_flight» ≡ inFlightOf (s .entries)
+
+-- the state with other entries, and with the word that agrees with them
 abbrev pub withEntries : IoApicState → List Entry → IoApicState
-withEntries s es = record { version = s .version; selector = s .selector; entries = es }
+withEntries s es = record { version = s .version; selector = s .selector; «in_flight» = inFlightOf es; entries = es }
+
+-- the word where entry g is e: bit g is e's Remote IRR, and the other bits stay
+abbrev pub noted : ℕ → ℕ → Entry → ℕ
+noted n g e = cond (remoteIrr (e .word)) (with n g) (without n g)
 
 -- the state with entry g replaced
 abbrev pub put : IoApicState → ℕ → Entry → IoApicState
-put s g e = withEntries s (set (s .entries) g e)
+put s g e =
+    record {
+      version = s .version;
+      selector = s .selector;
+      «in_flight» = noted (s .«in_flight») g e;
+      entries = set (s .entries) g e;
+    }
 
 -- entry g takes a step
 abbrev pub routeAt : IoApicState → ℕ → EntryStep → Routing

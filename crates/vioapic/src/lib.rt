@@ -14,9 +14,10 @@ use types::Reply;
 use types::Vector;
 ghost use mathlib.Core.Path.{_≡_};
 ghost use mathlib.Core.Bool.{true};
-ghost use Prim.Native.Nat.{_<_};
+ghost use Prim.Native.Nat.{_<_, _%_, _^_};
 ghost use Rattle.vioapic.specs.Answers.{eoiReply, everyReply, gsiVectorReply, readReply, writtenReply, rangeReply, endedReply, routingOutcome, endingOutcome, writingOutcome};
-ghost use Rattle.vioapic.specs.Table.{newState, isNew, put, routeAt, interruptForEntry, setLevel, firstAwaiting, endOfEntry, endNext, everyAnswer, endOfEvery, endOf, vectorOfEntry, vectorFor};
+ghost use Rattle.vioapic.specs.Redirection.{withWord};
+ghost use Rattle.vioapic.specs.Table.{newState, isNew, Agrees, noted, put, routeAt, interruptForEntry, setLevel, firstAwaiting, endOfEntry, endNext, everyAnswer, endOfEvery, endOf, vectorOfEntry, vectorFor};
 ghost use Rattle.vioapic.specs.Registers.{isEntryWord, isLow, entryOf, versionWord, readFixed, readWord, readSelected, writeWord, writeSelected, readAt, writtenBy, writeEoi, writeAt};
 ghost use Rattle.vioapic.specs.IoApic.{goodWidth, fits, isVersion, chipOf, chipAt, refuse, createdVersion, newDefault, withState, vectorForGsi, assertGsi, setGsiLevel, endOfInterrupt, addressRange, handleRead, handleWrite};
 
@@ -63,6 +64,8 @@ pub struct IoApicState {
     // 0x20; any other number is 0x11.
     pub version: u8,
     pub selector: u32,
+    // One bit a GSI, the lines in flight: bit 14 of each entry again, so that an EOI needn't look at the others.
+    pub in_flight: u32,
     pub entries: [Entry; 24],
 }
 
@@ -285,18 +288,46 @@ pub fn every_answer(cleared: u32, sent: u32) -> Eoi
     Eoi::EndedAll(IoApicEois { cleared, sent })
 }
 
+// The lines of the table: whatever else a word of lines in flight holds isn't looked at.
+fn table_lines(lines: u32) -> u32
+    ensures { λ r. ⌜ (r ≡ lines % 2 ^ 24) × (r < 2 ^ 24) ⌝ }
+{
+    lines % 0x100_0000
+}
+
+// The word of lines in flight where entry k is this one.
+fn note(lines: u32, k: u32, entry: Entry) -> u32
+    requires { ⌜ k < 32 ⌝ }
+    ensures { λ r. ⌜ r ≡ noted lines k entry ⌝ }
+{
+    if redirection::remote_irr(entry.word) {
+        return utils::set32::with(lines, k);
+    }
+    utils::set32::without(lines, k)
+}
+
+// The entry with a register that is masked and otherwise 0. A function of its own, which leaves the flags where they are: the compiler then copies
+// a new table's entries by two words of eight bytes each, and not the flags, and the six bytes behind them, one by one (docs/SPEED.md).
+fn masked(mut entry: Entry) -> Entry
+    ensures { λ r. ⌜ r ≡ withWord entry 0x10000 ⌝ }
+{
+    entry.word = REDIRECTION_ENTRY_MASKED;
+    entry
+}
+
 impl IoApicState {
     pub fn new(version: u8) -> IoApicState
         ensures { λ r. ⌜ r ≡ newState version ⌝ }
     {
-        let entry = Entry {
-            word: REDIRECTION_ENTRY_MASKED,
+        let entry = masked(Entry {
+            word: 0,
             pending_level: false,
             input_level: false,
-        };
+        });
         IoApicState {
             version,
             selector: 0,
+            in_flight: 0,
             entries: [entry; 24],
         }
     }
@@ -305,8 +336,10 @@ impl IoApicState {
         requires { ⌜ index < 24 ⌝ }
         ensures { λ r. ⌜ r ≡ put self index entry ⌝ }
     {
+        let lines = note(self.in_flight, index as u32, entry);
         let mut state = self;
         state.entries[index] = entry;
+        state.in_flight = lines;
         state
     }
 
@@ -346,23 +379,24 @@ impl IoApicState {
         }
     }
 
-    // The lowest entry that an EOI of the vector ends, or 24.
+    // The lowest entry that an EOI of the vector ends, or 24. Only those in flight are looked at.
     fn first_awaiting(self, vector: Vector) -> usize
-        ensures { λ r. ⌜ r ≡ firstAwaiting self vector ⌝ }
+        ensures { λ r. ⌜ (Agrees self → r ≡ firstAwaiting self vector) ⌝ }
     {
-        let mut index: usize = 0;
-        while index < REDIRECTION_ENTRY_COUNT {
-            if self.entries[index].awaits(vector) {
-                return index;
+        let mut left = table_lines(self.in_flight);
+        while left != 0 {
+            let index = utils::set32::lowest(left);
+            if self.entries[index as usize].awaits(vector) {
+                return index as usize;
             }
-            index += 1;
+            left = utils::set32::without(left, index);
         }
-        index
+        REDIRECTION_ENTRY_COUNT
     }
 
     // Version 0x11: the lowest of them ends.
     fn end_first(self, vector: Vector) -> Ending
-        ensures { λ r. ⌜ r ≡ endOfEntry self vector ⌝ }
+        ensures { λ r. ⌜ (Agrees self → r ≡ endOfEntry self vector) ⌝ }
     {
         let index = self.first_awaiting(vector);
         if index < REDIRECTION_ENTRY_COUNT {
@@ -391,17 +425,18 @@ impl IoApicState {
 
     // Version 0x20: all of them end.
     fn end_every(self, vector: Vector) -> Ending
-        ensures { λ r. ⌜ r ≡ endOfEvery self vector ⌝ }
+        ensures { λ r. ⌜ (Agrees self → r ≡ endOfEvery self vector) ⌝ }
     {
+        let mut left = table_lines(self.in_flight);
         let mut ends = EveryEnd {
             state: self,
             cleared: 0,
             sent: 0,
         };
-        let mut index: usize = 0;
-        while index < REDIRECTION_ENTRY_COUNT {
-            ends = ends.end_at(index, vector);
-            index += 1;
+        while left != 0 {
+            let index = utils::set32::lowest(left);
+            ends = ends.end_at(index as usize, vector);
+            left = utils::set32::without(left, index);
         }
         let state = ends.state;
         Ending {
@@ -411,7 +446,7 @@ impl IoApicState {
     }
 
     pub fn end_of_interrupt(self, vector: Vector) -> Ending
-        ensures { λ r. ⌜ r ≡ endOf self vector ⌝ }
+        ensures { λ r. ⌜ (Agrees self → r ≡ endOf self vector) ⌝ }
     {
         if self.is_new() {
             return self.end_every(vector);
@@ -473,16 +508,13 @@ impl IoApicState {
     }
 
     fn write_at(self, offset: u64, value: u32) -> Writing
-        ensures { λ r. ⌜ r ≡ writeAt self offset value ⌝ }
+        ensures { λ r. ⌜ (Agrees self → r ≡ writeAt self offset value) ⌝ }
     {
         if offset == IOREGSEL {
-            let entries = self.entries;
+            let mut state = self;
+            state.selector = value;
             return Writing {
-                state: IoApicState {
-                    version: self.version,
-                    selector: value,
-                    entries,
-                },
+                state,
                 answer: Written::Done,
             };
         }
@@ -500,7 +532,7 @@ impl IoApicState {
 
     // The EOI register, which version 0x20 alone has.
     fn write_eoi(self, value: u32) -> Writing
-        ensures { λ r. ⌜ r ≡ writeEoi self value ⌝ }
+        ensures { λ r. ⌜ (Agrees self → r ≡ writeEoi self value) ⌝ }
     {
         if !self.is_new() {
             return Writing {
@@ -715,7 +747,7 @@ impl EmulatedIoApic {
 
     // Process an EOI broadcast from the local APIC.
     pub fn end_of_interrupt(self, vector: Vector) -> IoApicEnding
-        ensures { λ r. ⌜ endingOutcome r ≡ endOfInterrupt self vector ⌝ }
+        ensures { λ r. ⌜ (Agrees (self .state) → endingOutcome r ≡ endOfInterrupt self vector) ⌝ }
     {
         let before = self.state;
         let ending = before.end_of_interrupt(vector);
@@ -753,7 +785,7 @@ impl EmulatedIoApic {
 
     // Handles an IO APIC MMIO write.
     pub fn handle_write(self, addr: u64, width: u8, val: u64) -> IoApicWriting
-        ensures { λ r. ⌜ writingOutcome r ≡ handleWrite self addr width val ⌝ }
+        ensures { λ r. ⌜ (Agrees (self .state) → writingOutcome r ≡ handleWrite self addr width val) ⌝ }
     {
         if !good_width(width as u64) {
             return IoApicWriting {

@@ -1,10 +1,10 @@
--- Each call on lent words, viewed as a chip, is the chip's own call (IoApic of `vioapic`): the same next state and the same reply. Assumes nothing.
+-- Each call on lent words that agree, viewed as a chip, is the chip's own call (IoApic of `vioapic`): the same next state and the same reply. Assumes nothing.
 use Prim.Native.Nat.{ℕ, zero, suc, _+_, _-_, _/_, _%_, _^_, _<_, _≤_}
 use native.Mathlib.Omega.{arith}
 use native.Mathlib.Nat.{mod-lt, mod-eq-of-lt}
 use mathlib.Core.Bool.{Bool, true, false, cond, _&&_, true≢false}
 use mathlib.Core.List.{List, [], _∷_, map}
-use mathlib.Core.Path.{_≡_, refl, sym, _∙_, ap, ap₂}
+use mathlib.Core.Path.{_≡_, refl, sym, _∙_, ap, ap₂, subst}
 use borrow.Author.Tests.{ltb-true, lt-ltb, eqb-true}
 use lib.Dec.{eqb, ltb, leb}
 use lib.ListN.{length, getD, set, length-set}
@@ -17,19 +17,20 @@ use Rattle.types.specs.Reply.{Outcome}
 use Rattle.boundary.specs.Lent.{replyCode, isUp, Shows}
 use Rattle.types.specs.declared.Reply.the-variants.{Nothing}
 use Rattle.vioapic.proofs.ChipLaws.{entry-word-range}
+use Rattle.vioapic.proofs.FlightLaws.{put-agrees}
 use Rattle.vioapic.specs.Answers.{isRouted, routedReply, eoiReply, writtenReply}
 use Rattle.vioapic.specs.IoApic.{goodWidth, isVersion, chipOf, withState, assertGsi, setGsiLevel, endOfInterrupt, handleWrite}
 use Rattle.vioapic.specs.Redirection.{awaits, sendEntry, moveLine, endEntry, endEntry20}
 use Rattle.vioapic.specs.Registers.{isEntryWord, entryOf, writeWord, writeSelected, writtenBy, writeEoi, writeAt}
-use Rattle.vioapic.specs.Table.{isNew, entryAt, routeAt, withEntries, interruptForEntry, setLevel, firstAwaiting, endOfEntry, endEach, clearedBy, sentBy, everyAnswer, endOfEvery, endOf}
+use Rattle.vioapic.specs.Table.{isNew, inFlightOf, Agrees, entryAt, routeAt, withEntries, interruptForEntry, setLevel, firstAwaiting, endOfEntry, endEach, clearedBy, sentBy, everyAnswer, endOfEvery, endOf}
 use Rattle.vioapic.specs.declared.EmulatedIoApic.{EmulatedIoApic}
 use Rattle.vioapic.specs.declared.Eoi.the-variants.{NotEnded, EndedAll}
 use Rattle.vioapic.specs.declared.Writing.{Writing}
 use Rattle.vioapic.specs.declared.redirection.Entry.{Entry}
 use Rattle.vioapic.specs.declared.redirection.EntryStep.{EntryStep}
 use Rattle.vioapic_c.proofs.View.{view-at, view-put}
-use Rattle.vioapic_c.proofs.Turns.{ended-rest, ended-done}
-use Rattle.vioapic_c.specs.Words.{entryIn, entriesFrom, selectorIn, isNewIn, versionIn, view, putEntry, putSelector, newWords}
+use Rattle.vioapic_c.proofs.Turns.{ended-long, ended-rest, ended-done}
+use Rattle.vioapic_c.specs.Words.{entryIn, entriesFrom, selectorIn, isNewIn, versionIn, view, AgreesIn, putEntry, putSelector, newWords}
 use Rattle.vioapic_c.specs.Calls.{steppedWords, assertWords, setLevelWords, firstIn, endFirstWords, endedBelow, clearedIn, sentIn, endEveryWords, endWords, writeSelectedWords, writeEoiWords, writeAtWords, writeWords}
 
 either : (a b : Bool) → cond a true b ≡ true → b ≡ false → a ≡ true
@@ -48,11 +49,28 @@ new-shows version base size h = go (eqb version 0x20) refl
         let v : 0x11 ≡ version = sym (eqb-true version 0x11 k) in
         rw e (λ i. chipOf (v i) base size)
 
-module _ (l : List ℕ) (long : length l ≡ 32) where
+-- words that agree, with an entry put, agree again
+put-agrees-in : (l : List ℕ) (g : ℕ) (e : Entry) → length l ≡ 32 → g < 24 → AgreesIn l → AgreesIn (putEntry l g e)
+put-agrees-in l g e long h k = subst (λ (m : EmulatedIoApic). Agrees (m .state)) (sym (view-put l g e long h k)) (put-agrees (view l .state) g e k h)
+
+-- and so they do while the entries end
+ended-agrees : (l : List ℕ) (v : Vector) → length l ≡ 32 → AgreesIn l → (n : ℕ) → n ≤ 24 → AgreesIn (endedBelow l v n)
+unfolding endedBelow
+ended-agrees l v long k zero h = k
+ended-agrees l v long k (suc n) h = go (awaits v (entryIn l n)) (ended-agrees l v long k n (omega arith))
+  where
+    e : Entry
+    e = endEntry20 (entryIn l n) .entry
+
+    go : (b : Bool) → AgreesIn (endedBelow l v n) → AgreesIn (cond b (putEntry (endedBelow l v n) n e) (endedBelow l v n))
+    go true a = put-agrees-in (endedBelow l v n) n e (ended-long l v long n) (omega arith) a
+    go false a = a
+
+module _ (l : List ℕ) (long : length l ≡ 32) (agrees : AgreesIn l) where
   -- a rule done to an entry in place
   stepped-shows : (g : ℕ) → g < 24 → (f : Entry → EntryStep) → Shows view (steppedWords l g (f (entryIn l g)))
       (record { state = withState (view l) (routeAt (view l .state) g (f (entryAt (view l .state) g)) .state); reply = routedReply (f (entryAt (view l .state) g) .answer) })
-  stepped-shows g h f = rw (view-at l g h) (view-put l g (f (entryIn l g) .entry) long h, refl)
+  stepped-shows g h f = rw (view-at l g h) (view-put l g (f (entryIn l g) .entry) long h agrees, refl)
 
   pub assert-shows : (g : ℕ) → Shows view (assertWords l g) (assertGsi (view l) (record { 0 = g }))
   unfolding assertWords assertGsi interruptForEntry
@@ -83,7 +101,7 @@ module _ (l : List ℕ) (long : length l ≡ 32) where
       go : (b : Bool) → ltb (firstIn l v) 24 ≡ b → Shows view (endFirstWords l v) (record { state = withState (view l) (endOfEntry (view l .state) v .state); reply = eoiReply (endOfEntry (view l .state) v .answer) })
       go true q =
           let k : firstIn l v < 24 = ltb-true _ 24 q in
-          rw (← first-shows v, q, view-at l (firstIn l v) k) (view-put l (firstIn l v) (endEntry (entryIn l (firstIn l v)) .entry) long k, refl)
+          rw (← first-shows v, q, view-at l (firstIn l v) k) (view-put l (firstIn l v) (endEntry (entryIn l (firstIn l v)) .entry) long k agrees, refl)
       go false q = rw (← first-shows v, q) (refl, refl)
 
   -- version 0x20
@@ -95,12 +113,13 @@ module _ (l : List ℕ) (long : length l ≡ 32) where
   every-words : (v : Vector) → view (endedBelow l v 24) ≡ withState (view l) (withEntries (view l .state) (map (endEach v) (view l .state .entries)))
   unfolding view
   every-words v =
-      let b = ended-rest l v long 24 27 (omega arith) (omega arith) in
-      let z = ended-rest l v long 24 28 (omega arith) (omega arith) in
-      let s = ap (λ (x : ℕ). x % 2 ^ 32) (ended-rest l v long 24 26 (omega arith) (omega arith)) in
-      let n : versionIn (endedBelow l v 24) ≡ versionIn l = rw (ended-rest l v long 24 29 (omega arith) (omega arith)) in
+      let b = ended-rest l v long 24 27 (omega arith) (omega arith) (omega arith) in
+      let z = ended-rest l v long 24 28 (omega arith) (omega arith) (omega arith) in
+      let s = ap (λ (x : ℕ). x % 2 ^ 32) (ended-rest l v long 24 26 (omega arith) (omega arith) (omega arith)) in
+      let n : versionIn (endedBelow l v 24) ≡ versionIn l = rw (ended-rest l v long 24 29 (omega arith) (omega arith) (omega arith)) in
       let t = each-from (endedBelow l v 24) (endEach v) (λ i h. ended-done l v long 24 i (omega arith) h) 0 24 (omega arith) in
-      λ i. record { base = b i; size = z i; state = record { version = n i; selector = s i; entries = t i } }
+      let f = ended-agrees l v long agrees 24 (omega arith) .word ∙ ap inFlightOf t in
+      λ i. record { base = b i; size = z i; state = record { version = n i; selector = s i; «in_flight» = f i; entries = t i } }
 
   every-shows : (v : Vector) → Shows view (endEveryWords l v) (record { state = withState (view l) (endOfEvery (view l .state) v .state); reply = eoiReply (endOfEvery (view l .state) v .answer) })
   unfolding endEveryWords endOfEvery
@@ -132,7 +151,7 @@ module _ (l : List ℕ) (long : length l ≡ 32) where
   same-entries w s i (suc n) h =
       ap₂ (λ (x : Entry) (xs : List Entry). x ∷ xs) (rw (s i (omega arith), s 24 (omega arith), s 25 (omega arith))) (same-entries w s (suc i) n (omega arith))
 
-  select-shows : (x : ℕ) → x < 2 ^ 32 → view (putSelector l x) ≡ withState (view l) (record { version = view l .state .version; selector = x; entries = view l .state .entries })
+  select-shows : (x : ℕ) → x < 2 ^ 32 → view (putSelector l x) ≡ withState (view l) (record { version = view l .state .version; selector = x; «in_flight» = view l .state .«in_flight»; entries = view l .state .entries })
   unfolding view
   select-shows x h =
       let b = getD-set-other l 26 27 x 0 (omega arith) in
@@ -140,7 +159,8 @@ module _ (l : List ℕ) (long : length l ≡ 32) where
       let s = ap (λ (y : ℕ). y % 2 ^ 32) (getD-set-same l 26 x 0 (omega arith)) ∙ mod-eq-of-lt h in
       let t = same-entries (putSelector l x) (λ i k. getD-set-other l 26 i x 0 (omega arith)) 0 24 (omega arith) in
       let n : versionIn (putSelector l x) ≡ versionIn l = rw (getD-set-other l 26 29 x 0 (omega arith)) in
-      λ i. record { base = b i; size = z i; state = record { version = n i; selector = s i; entries = t i } }
+      let f = ap (λ (y : ℕ). y % 2 ^ 24) (getD-set-other l 26 30 x 0 (omega arith)) in
+      λ i. record { base = b i; size = z i; state = record { version = n i; selector = s i; «in_flight» = f i; entries = t i } }
 
   -- the selected word's entry is one of the table's
   entry-there : (sel : ℕ) → isEntryWord sel ≡ true → entryOf sel < 24
@@ -153,7 +173,7 @@ module _ (l : List ℕ) (long : length l ≡ 32) where
       go : (b : Bool) → isEntryWord (selectorIn l) ≡ b → view (writeSelectedWords l x) ≡ withState (view l) (writeSelected (view l .state) x .state)
       go true q =
           let k = entry-there (selectorIn l) q in
-          rw (q, view-at l (entryOf (selectorIn l)) k) (view-put l (entryOf (selectorIn l)) (writeWord (selectorIn l) (entryIn l (entryOf (selectorIn l))) x) long k)
+          rw (q, view-at l (entryOf (selectorIn l)) k) (view-put l (entryOf (selectorIn l)) (writeWord (selectorIn l) (entryIn l (entryOf (selectorIn l))) x) long k agrees)
       go false q = rw q
 
   window-says : (x : ℕ) → writtenReply (writeSelected (view l .state) x .answer) ≡ Nothing

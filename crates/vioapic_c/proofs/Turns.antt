@@ -1,27 +1,29 @@
 -- An EOI of version 0x20 on words, entry after entry. Assumes nothing.
-use Prim.Native.Nat.{ℕ, zero, suc, _+_, _<_, _≤_}
+use Prim.Native.Nat.{ℕ, zero, suc, _+_, _^_, _<_, _≤_}
 use native.Mathlib.Omega.{arith}
-use mathlib.Core.Bool.{Bool, true, false, cond, _&&_}
+use mathlib.Core.Bool.{Bool, true, false, cond, true≢false}
 use mathlib.Core.List.{List}
 use mathlib.Core.Path.{_≡_, refl, sym, _∙_, ap, ap₂}
 use mathlib.Core.Logic.{_⊎_, inl, inr, ⊎-elim}
 use borrow.Author.Tests.{ltb-true, ltb-false}
 use lib.Dec.{ltb}
 use lib.ListN.{length, getD, length-set}
-use Rattle.utils.specs.Set.{with, setOf}
+use Rattle.utils.specs.Set.{bit, with, without, setOf, lowest}
 use Rattle.utils.proofs.Laws.{setOf-next}
+use Rattle.utils.proofs.Walk.{firstOf, first-without, first-lowest, first-empty, first-among, walk, walk-empty, walk-lowest, walk-stages}
 use Rattle.types.specs.declared.Reply.{Reply}
 use Rattle.types.specs.declared.Vector.{Vector}
 use Rattle.boundary.specs.Lent.{replyCode}
+use Rattle.vioapic.proofs.FlightLaws.{awaits-flying}
 use Rattle.vioapic.specs.Answers.{isRouted, eoiReply}
-use Rattle.vioapic.specs.Redirection.{awaits, endEntry20}
+use Rattle.vioapic.specs.Redirection.{remoteIrr, awaits, endEntry20}
 use Rattle.vioapic.specs.Table.{endEach, everyAnswer}
 use Rattle.vioapic.specs.declared.Eoi.{Eoi}
 use Rattle.vioapic.specs.declared.redirection.Entry.{Entry}
 use Rattle.vioapic.specs.declared.redirection.EntryStep.{EntryStep}
-use Rattle.vioapic_c.proofs.View.{put-here, put-other, rest-kept}
-use Rattle.vioapic_c.specs.Words.{entryIn, putEntry}
-use Rattle.vioapic_c.specs.Calls.{lent, endedBelow, clearedIn, sentIn, turnWords, turnEnds, endEveryWords}
+use Rattle.vioapic_c.proofs.View.{flight-at, put-long, put-here, put-other, rest-kept}
+use Rattle.vioapic_c.specs.Words.{entryIn, flightIn, AgreesIn, putEntry}
+use Rattle.vioapic_c.specs.Calls.{lent, firstIn, endedBelow, clearedIn, sentIn, turnWords, turnEnds, endEveryWords}
 use Rattle.vioapic_c.specs.declared.Ends.{Ends}
 
 -- ---- one entry's turn
@@ -46,7 +48,44 @@ module _ (l : List ℕ) (v : Vector) (g : ℕ) (a : Ends) where
       let n : isRouted (endEntry20 (entryIn l g) .answer) ≡ false = sym (ap (λ (r : EntryStep). isRouted (r .answer)) m) ∙ z in
       (rw (k, x, m), rw (k, n, y))
 
+-- ---- those in flight
+
+-- where the words agree, what awaits an EOI is in flight
+flying : (l : List ℕ) (v : Vector) → AgreesIn l → (g : ℕ) → g < 24 → awaits v (entryIn l g) ≡ true → bit (flightIn l) g ≡ true
+flying l v k g h y = flight-at l g k h ∙ awaits-flying v (entryIn l g) y
+
+pub awaits-irr : (l : List ℕ) (v : Vector) (g : ℕ) → awaits v (entryIn l g) ≡ true → remoteIrr (getD l g 0) ≡ true
+awaits-irr l v g h = awaits-flying v (entryIn l g) h
+
+idle : (b : Bool) → (b ≡ true → ⊥) → b ≡ false
+idle true n = absurd (n refl)
+idle false n = refl
+
+-- the search among those that are left
+abbrev pub leftFirst : List ℕ → Vector → ℕ → ℕ
+leftFirst l v left = firstOf (λ g. awaits v (entryIn l g)) 24 left
+
+module _ (l : List ℕ) (v : Vector) where
+  whole : AgreesIn l → leftFirst l v (flightIn l) ≡ firstIn l v
+  unfolding firstIn
+  whole k = first-among (λ g. awaits v (entryIn l g)) 24 (flightIn l) (λ g h y. flying l v k g h y)
+
+  -- the loop's step and its two ends
+  pub search-on : (left g n m : ℕ) → m ≡ without left g → awaits v (entryIn l g) ≡ false → leftFirst l v left ≡ n → leftFirst l v m ≡ n
+  search-on left g n m q h p = ap (leftFirst l v) q ∙ first-without (λ j. awaits v (entryIn l j)) 24 left g h ∙ p
+
+  pub search-found : (left g : ℕ) → left < 2 ^ 24 → (left ≡ 0 → ⊥) → g ≡ lowest 32 left → awaits v (entryIn l g) ≡ true → leftFirst l v left ≡ leftFirst l v (flightIn l)
+      → AgreesIn l → g ≡ firstIn l v
+  search-found left g b c d h p k = first-lowest (λ j. awaits v (entryIn l j)) 24 32 left g (omega arith) b c d h ∙ p ∙ whole k
+
+  pub search-done : (left : ℕ) → left ≡ 0 → leftFirst l v left ≡ leftFirst l v (flightIn l) → AgreesIn l → 24 ≡ firstIn l v
+  search-done left e p k = first-empty (λ j. awaits v (entryIn l j)) 24 left e ∙ p ∙ whole k
+
 -- ---- all of them
+
+-- entry g's turn, its words and the two sets together
+abbrev pub turn : Vector → List ℕ × Ends → ℕ → List ℕ × Ends
+turn v a g = (turnWords (a .0) v g, turnEnds (a .0) v g (a .1))
 
 pub none-ended : (l : List ℕ) (v : Vector) → l ≡ endedBelow l v 0
 unfolding endedBelow
@@ -61,7 +100,7 @@ split i n h = go (ltb i n) refl
 
 module _ (l : List ℕ) (v : Vector) (long : length l ≡ 32) where
   turn-long : (m : List ℕ) (n : ℕ) (e : Entry) (b : Bool) → length m ≡ 32 → length (cond b (putEntry m n e) m) ≡ 32
-  turn-long m n e true h = simp length-set h
+  turn-long m n e true h = put-long m n e ∙ h
   turn-long m n e false h = h
 
   pub ended-long : (n : ℕ) → length (endedBelow l v n) ≡ 32
@@ -84,16 +123,16 @@ module _ (l : List ℕ) (v : Vector) (long : length l ≡ 32) where
   abbrev pub endsTo : ℕ → Ends
   endsTo n = record { cleared = setOf n (clearedIn v l); sent = setOf n (sentIn v l) }
 
-  turn-rest : (m : List ℕ) (n i : ℕ) (e : Entry) (b : Bool) → length m ≡ 32 → n < 24 → 25 < i → getD m i 0 ≡ getD l i 0 → getD (cond b (putEntry m n e) m) i 0 ≡ getD l i 0
-  turn-rest m n i e true h k j p = rest-kept m n e h k i j ∙ p
-  turn-rest m n i e false h k j p = p
+  turn-rest : (m : List ℕ) (n i : ℕ) (e : Entry) (b : Bool) → length m ≡ 32 → n < 24 → 25 < i → (i ≡ 30 → ⊥) → getD m i 0 ≡ getD l i 0 → getD (cond b (putEntry m n e) m) i 0 ≡ getD l i 0
+  turn-rest m n i e true h k j f p = rest-kept m n e h k i j f ∙ p
+  turn-rest m n i e false h k j f p = p
 
-  -- what lies behind the flags stays
-  pub ended-rest : (n i : ℕ) → n ≤ 24 → 25 < i → getD (endedBelow l v n) i 0 ≡ getD l i 0
+  -- what lies behind the flags stays, the lines in flight apart
+  pub ended-rest : (n i : ℕ) → n ≤ 24 → 25 < i → (i ≡ 30 → ⊥) → getD (endedBelow l v n) i 0 ≡ getD l i 0
   unfolding endedBelow
-  ended-rest zero i h k = refl
-  ended-rest (suc n) i h k =
-      turn-rest (endedBelow l v n) n i (endEntry20 (entryIn l n) .entry) (awaits v (entryIn l n)) (ended-long n) (omega arith) k (ended-rest n i (omega arith) k)
+  ended-rest zero i h k f = refl
+  ended-rest (suc n) i h k f =
+      turn-rest (endedBelow l v n) n i (endEntry20 (entryIn l n) .entry) (awaits v (entryIn l n)) (ended-long n) (omega arith) k f (ended-rest n i (omega arith) k f)
 
   turn-before : (m : List ℕ) (n i : ℕ) (e d : Entry) (b : Bool) → length m ≡ 32 → n < 24 → i < n → entryIn m i ≡ d → entryIn (cond b (putEntry m n e) m) i ≡ d
   turn-before m n i e d true h k j p = put-other m n e h k i (omega arith) (omega arith) ∙ p
@@ -114,14 +153,6 @@ module _ (l : List ℕ) (v : Vector) (long : length l ≡ 32) where
       (λ (j : i ≡ n). rw j (turn-here (endedBelow l v n) n (awaits v (entryIn l n)) (ended-long n) (omega arith) refl (ended-later n n (omega arith) (omega arith))))
       (split i n k)
 
-  pub next-words : (g : ℕ) (m w : List ℕ) → g < 24 → m ≡ endedBelow l v g → w ≡ turnWords m v g → w ≡ endedBelow l v (g + 1)
-  unfolding endedBelow
-  next-words g m w h p q =
-      let e : suc g ≡ g + 1 = omega arith in
-      q ∙ ap (λ (x : List ℕ). turnWords x v g) p
-      ∙ ap (λ (y : Entry). cond (awaits v y) (putEntry (endedBelow l v g) g (endEntry20 y .entry)) (endedBelow l v g)) (ended-later g g (omega arith) h)
-      ∙ ap (endedBelow l v) e
-
   -- entry y's turn
   abbrev turnBy : ℕ → Ends → Entry → Ends
   turnBy g a y =
@@ -135,15 +166,43 @@ module _ (l : List ℕ) (v : Vector) (long : length l ≡ 32) where
       go true false k n = rw (setOf-next g (clearedIn v l), setOf-next g (sentIn v l), k, n)
       go false y k n = rw (setOf-next g (clearedIn v l), setOf-next g (sentIn v l), k)
 
-  pub next-ends : (g : ℕ) (m : List ℕ) (a b : Ends) → g < 24 → m ≡ endedBelow l v g → a ≡ endsTo g → b ≡ turnEnds m v g a → b ≡ endsTo (g + 1)
-  next-ends g m a b h p r q =
-      let e : suc g ≡ g + 1 = omega arith in
-      q ∙ ap₂ (λ (x : List ℕ) (y : Ends). turnEnds x v g y) p r ∙ ap (turnBy g (endsTo g)) (ended-later g g (omega arith) h) ∙ gathered g ∙ ap endsTo e
+  -- one entry's turn leads from each stage to the next
+  abbrev stage : ℕ → List ℕ × Ends
+  stage n = (endedBelow l v n, endsTo n)
 
-  pub every-is : (g n : ℕ) (w : List ℕ) (a : Ends) (x : Eoi) (r : Reply) → 24 ≤ g → g ≤ 24 → w ≡ endedBelow l v g → a ≡ endsTo g → x ≡ everyAnswer (a .cleared) (a .sent)
-      → r ≡ eoiReply x → n ≡ replyCode r → lent w n ≡ endEveryWords l v
-  unfolding endEveryWords
-  every-is g n w a x r h k p q y z u =
-      let e : g ≡ 24 = omega arith in
-      let f : x ≡ everyAnswer (setOf 24 (clearedIn v l)) (setOf 24 (sentIn v l)) = rw (y, q, e) in
-      ap₂ lent (p ∙ ap (endedBelow l v) e) (u ∙ ap replyCode (z ∙ ap eoiReply f))
+  next-stage : (g : ℕ) → g < 24 → turn v (stage g) g ≡ stage (suc g)
+  unfolding endedBelow
+  next-stage g h =
+      let e : entryIn (endedBelow l v g) g ≡ entryIn l g = ended-later g g (omega arith) h in
+      let w : turnWords (endedBelow l v g) v g ≡ endedBelow l v (suc g) =
+      ap (λ (y : Entry). cond (awaits v y) (putEntry (endedBelow l v g) g (endEntry20 y .entry)) (endedBelow l v g)) e in
+      let a : turnEnds (endedBelow l v g) v g (endsTo g) ≡ endsTo (suc g) = ap (turnBy g (endsTo g)) e ∙ gathered g in
+      λ i. (w i, a i)
+
+  -- and an entry that isn't in flight has none
+  passed : (g : ℕ) → g < 24 → AgreesIn l → (b : Bool) → bit (flightIn l) g ≡ b → cond b (turn v (stage g) g) (stage g) ≡ stage (suc g)
+  passed g h k true q = next-stage g h
+  passed g h k false q =
+      let n : awaits v (entryIn l g) ≡ false = idle (awaits v (entryIn l g)) (λ y. true≢false (sym (flying l v k g h y) ∙ q)) in
+      let m : awaits v (entryIn (endedBelow l v g) g) ≡ false = ap (awaits v) (ended-later g g (omega arith) h) ∙ n in
+      let t = turn-none (endedBelow l v g) v g (endsTo g) m in
+      (λ i. (t .0 i, t .1 i)) ∙ next-stage g h
+
+  pub every-is : (n left : ℕ) (w : List ℕ) (a : Ends) (x : Eoi) (r : Reply) → left ≡ 0
+      → walk (turn v) 24 0 left (w, a) ≡ walk (turn v) 24 0 (flightIn l) (l, record { cleared = 0; sent = 0 })
+      → x ≡ everyAnswer (a .cleared) (a .sent) → r ≡ eoiReply x → n ≡ replyCode r → AgreesIn l → lent w n ≡ endEveryWords l v
+  unfolding endEveryWords endedBelow
+  every-is n left w a x r e p y z u k =
+      let d : (w, a) ≡ stage 24 =
+      sym (walk-empty (List ℕ × Ends) (turn v) 24 0 left (w, a) e) ∙ p
+      ∙ walk-stages (List ℕ × Ends) (turn v) stage 24 0 (flightIn l) (λ g i h. passed g (omega arith) k (bit (flightIn l) g) refl) in
+      let q : a ≡ endsTo 24 = ap (λ (c : List ℕ × Ends). c .1) d in
+      let f : x ≡ everyAnswer (setOf 24 (clearedIn v l)) (setOf 24 (sentIn v l)) = rw (y, q) in
+      ap₂ lent (ap (λ (c : List ℕ × Ends). c .0) d) (u ∙ ap replyCode (z ∙ ap eoiReply f))
+
+-- the loop's step: the lowest that is left has its turn
+pub next-turn : (v : Vector) (w x : List ℕ) (a b : Ends) (c : List ℕ × Ends) (left g m : ℕ) → left < 2 ^ 24 → (left ≡ 0 → ⊥) → g ≡ lowest 32 left → m ≡ without left g
+    → (x ≡ turnWords w v g) × (b ≡ turnEnds w v g a) → walk (turn v) 24 0 left (w, a) ≡ c → walk (turn v) 24 0 m (x, b) ≡ c
+next-turn v w x a b c left g m h s d q y p =
+    ap₂ (λ (n : ℕ) (z : List ℕ × Ends). walk (turn v) 24 0 n z) q (λ i. (y .0 i, y .1 i))
+    ∙ sym (walk-lowest (List ℕ × Ends) (turn v) 24 32 left g (w, a) (omega arith) h s d) ∙ p

@@ -1,7 +1,7 @@
 -- The calls on words, a law for each case: what the proofs of the code cite. Assumes nothing.
 use Prim.Native.Nat.{ℕ, _+_, _-_, _%_, _^_, _<_, _≤_}
 use native.Mathlib.Omega.{arith}
-use mathlib.Core.Bool.{Bool, true, false}
+use mathlib.Core.Bool.{Bool, true, false, true≢false}
 use mathlib.Core.List.{List, [], _∷_}
 use mathlib.Core.Path.{_≡_, refl, sym, _∙_, ap, ap₂}
 use borrow.Author.Tests.{lt-ltb, le-ltb, le-leb, lt-leb, eq-eqb, ne-eqb, leb-true}
@@ -16,14 +16,16 @@ use Rattle.boundary.proofs.Flags.{marked-kept}
 use Rattle.boundary.specs.Lent.{replyCode, marked, isUp, Lent}
 use Rattle.vioapic.specs.Answers.{routedReply, pendingReply, gsiVectorReply}
 use Rattle.vioapic.specs.IoApic.{goodWidth, fits, isVersion, addressRange, vectorForGsi, handleRead}
-use Rattle.vioapic.specs.Redirection.{awaits, sendEntry, moveLine, endEntry}
+use Rattle.vioapic.specs.Redirection.{remoteIrr, awaits, sendEntry, moveLine, endEntry}
 use Rattle.vioapic.specs.Registers.{isEntryWord, entryOf, readFixed, readWord, writeWord, readSelected, readAt}
 use Rattle.vioapic.specs.Table.{vectorOfEntry, vectorFor}
 use Rattle.vioapic.specs.declared.GsiVector.{GsiVector}
 use Rattle.vioapic.specs.declared.redirection.Entry.{Entry}
 use Rattle.vioapic.specs.declared.redirection.EntryStep.{EntryStep}
-use Rattle.vioapic_c.proofs.View.{view-at}
-use Rattle.vioapic_c.specs.Words.{entryIn, selectorIn, isNewIn, versionIn, view, putFlag, putEntry, putSelector, newWords}
+use Rattle.vioapic.specs.declared.redirection.Routed.{Routed}
+use Rattle.vioapic_c.proofs.Noted.{note-kept, send-noted, move-noted, end-noted, parts-sent, parts-ended, sent-entry}
+use Rattle.vioapic_c.proofs.View.{view-at, parts-noted}
+use Rattle.vioapic_c.specs.Words.{entryIn, selectorIn, isNewIn, versionIn, view, putFlag, noteIn, noteSent, noteEnded, putParts, putEntry, putSelector, newWords}
 use Rattle.vioapic_c.specs.Calls.{lent, steppedWords, assertWords, setLevelWords, firstIn, endedWords, endFirstWords, endEveryWords, endWords, createdWords, rangeWords, writeSelectedWords, writeEoiWords, writeAtWords, writeWords}
 
 -- ---- entries and flags
@@ -53,21 +55,58 @@ pub input-still : (l w : List ℕ) (g x : ℕ) (up : Bool) (e : Entry) → g < 2
 input-still l w g x up e h q p =
     rw (q, p, getD-set-other (set l g x) 24 25 (marked (getD (set l g x) 24 0) g up) 0 (omega arith), getD-set-other l g 25 x 0 (omega arith))
 
-pub put-is : (l v w : List ℕ) (g : ℕ) (e : Entry) → v ≡ putFlag (set l g (e .word)) 24 g (e .«pending_level») → w ≡ putFlag v 25 g (e .«input_level») → w ≡ putEntry l g e
-put-is l v w g e p q = q ∙ ap (λ (z : List ℕ). putFlag z 25 g (e .«input_level»)) p
+pub parts-is : (l v w : List ℕ) (g : ℕ) (e : Entry) → v ≡ putFlag (set l g (e .word)) 24 g (e .«pending_level») → w ≡ putFlag v 25 g (e .«input_level») → w ≡ putParts l g e
+parts-is l v w g e p q = q ∙ ap (λ (z : List ℕ). putFlag z 25 g (e .«input_level»)) p
+
+-- the bit of the lines in flight is put when the parts are
+pub put-is : (l v w : List ℕ) (g : ℕ) (d e : Entry) (was is : Bool) → g < 24 → d ≡ entryIn l g → was ≡ remoteIrr (d .word) → is ≡ remoteIrr (e .word) → v ≡ putParts l g e
+    → w ≡ noteIn v g was is → w ≡ putEntry l g e
+put-is l v w g d e was is h c a b p q = rw (q, p, a, b, c) (parts-noted l g e (remoteIrr (getD l g 0)) (remoteIrr (e .word)) h)
+
+-- where a write leaves the bit as it is, and where it takes it away
+module _ (l v : List ℕ) (g : ℕ) (d e : Entry) (h : g < 24) (c : d ≡ entryIn l g) (p : v ≡ putParts l g e) where
+  written-kept : (b : Bool) → b ≡ remoteIrr (d .word) → b ≡ remoteIrr (e .word) → v ≡ putEntry l g e
+  written-kept b x y = put-is l v v g d e b b h c x y p (note-kept v g b b b refl refl)
+
+  pub written-idle : remoteIrr (d .word) ≡ false → (remoteIrr (e .word) ≡ true → remoteIrr (d .word) ≡ true) → v ≡ putEntry l g e
+  written-idle x f = written-kept false (sym x) (go (remoteIrr (e .word)) refl)
+    where
+      go : (b : Bool) → remoteIrr (e .word) ≡ b → false ≡ remoteIrr (e .word)
+      go true q = absurd (true≢false (sym (f q) ∙ x))
+      go false q = sym q
+
+  pub written-same : remoteIrr (d .word) ≡ true → remoteIrr (e .word) ≡ true → v ≡ putEntry l g e
+  written-same x y = written-kept true (sym x) (sym y)
+
+  pub written-out : (w : List ℕ) → remoteIrr (d .word) ≡ true → remoteIrr (e .word) ≡ false → w ≡ putFlag v 30 g false → w ≡ putEntry l g e
+  written-out w x y q = put-is l v w g d e true false h c (sym x) (sym y) p q
+
+-- an entry stands as it did when its bit of the lines in flight has been put
+pub sent-still : (l v : List ℕ) (g : ℕ) (e : Entry) (r : Routed) → g < 24 → e ≡ entryIn l g → v ≡ noteSent l g r → e ≡ entryIn v g
+sent-still l v g e r h p q = p ∙ sym (ap (λ (w : List ℕ). entryIn w g) q ∙ sent-entry l g h r)
 
 -- ---- lines and EOIs
 
 module _ (l : List ℕ) (g : ℕ) where
   -- a step's words and code
-  pub sent-is : (e : Entry) (s : EntryStep) (n : ℕ) (w : List ℕ) → e ≡ entryIn l g → s ≡ sendEntry e → w ≡ putEntry l g (s .entry) → n ≡ replyCode (routedReply (s .answer))
-      → lent w n ≡ steppedWords l g (sendEntry (entryIn l g))
-  sent-is e s n w p q z x = ap₂ lent z x ∙ ap (steppedWords l g) (q ∙ ap sendEntry p)
+  pub sent-is : (e : Entry) (s : EntryStep) (n : ℕ) (v w : List ℕ) → g < 24 → e ≡ entryIn l g → s ≡ sendEntry e → v ≡ putParts l g (s .entry)
+      → (w ≡ noteSent v g (s .answer)) × (n ≡ replyCode (routedReply (s .answer))) → lent w n ≡ steppedWords l g (sendEntry (entryIn l g))
+  sent-is e s n v w h p q z x =
+      let m : s ≡ sendEntry (entryIn l g) = q ∙ ap sendEntry p in
+      ap₂ lent (x .0 ∙ ap (λ (u : List ℕ). noteSent u g (s .answer)) z ∙ parts-sent l g h (s .entry) (s .answer)) (x .1)
+      ∙ ap (λ (r : EntryStep). lent (putParts (noteSent l g (r .answer)) g (r .entry)) (replyCode (routedReply (r .answer)))) m
+      ∙ ap (λ (u : List ℕ). lent (putParts u g (sendEntry (entryIn l g) .entry)) (replyCode (routedReply (sendEntry (entryIn l g) .answer)))) (sym (send-noted l g (entryIn l g)))
 
-  pub moved-is : (up : Bool) (e : Entry) (s : EntryStep) (n : ℕ) (v w : List ℕ) → e ≡ entryIn l g → s ≡ moveLine e up → n ≡ replyCode (routedReply (s .answer))
-      → v ≡ putFlag (set l g (s .entry .word)) 24 g (s .entry .«pending_level») → w ≡ putFlag v 25 g (s .entry .«input_level»)
+  pub moved-is : (up : Bool) (e : Entry) (s : EntryStep) (n : ℕ) (u v w : List ℕ) → e ≡ entryIn l g → s ≡ moveLine e up
+      → (u ≡ noteSent l g (s .answer)) × (n ≡ replyCode (routedReply (s .answer)))
+      → v ≡ putFlag (set u g (s .entry .word)) 24 g (s .entry .«pending_level») → w ≡ putFlag v 25 g (s .entry .«input_level»)
       → lent w n ≡ steppedWords l g (moveLine (entryIn l g) up)
-  moved-is up e s n v w p q x t z = ap₂ lent (put-is l v w g (s .entry) t z) x ∙ ap (steppedWords l g) (q ∙ ap (λ (d : Entry). moveLine d up) p)
+  moved-is up e s n u v w p q x t z =
+      let m : s ≡ moveLine (entryIn l g) up = q ∙ ap (λ (d : Entry). moveLine d up) p in
+      let y : u ≡ noteIn l g (remoteIrr (getD l g 0)) (remoteIrr (s .entry .word)) =
+      x .0 ∙ ap (λ (r : EntryStep). noteSent l g (r .answer)) m ∙ sym (move-noted l g (entryIn l g) up)
+      ∙ sym (ap (λ (r : EntryStep). noteIn l g (remoteIrr (getD l g 0)) (remoteIrr (r .entry .word))) m) in
+      ap₂ lent (parts-is u v w g (s .entry) t z ∙ ap (λ (c : List ℕ). putParts c g (s .entry)) y) (x .1) ∙ ap (steppedWords l g) m
 
   pub assert-in : (a : Lent) → g < 24 → a ≡ steppedWords l g (sendEntry (entryIn l g)) → a ≡ assertWords l g
   unfolding assertWords
@@ -237,6 +276,10 @@ module _ (l : List ℕ) (addr width n : ℕ) where
   write-done x z h k p = p ∙ rw (h, le-leb _ _ k)
 
 -- an EOI's answer
-pub ended-is : (l : List ℕ) (g n : ℕ) (e : Entry) (s : EntryStep) (w : List ℕ) → e ≡ entryIn l g → s ≡ endEntry e → w ≡ putEntry l g (s .entry) → n ≡ replyCode (pendingReply g (s .answer))
-    → lent w n ≡ endedWords l g (endEntry (entryIn l g))
-ended-is l g n e s w p q z x = ap₂ lent z x ∙ ap (endedWords l g) (q ∙ ap endEntry p)
+pub ended-is : (l : List ℕ) (g n : ℕ) (e : Entry) (s : EntryStep) (v w : List ℕ) → g < 24 → remoteIrr (getD l g 0) ≡ true → e ≡ entryIn l g → s ≡ endEntry e → v ≡ putParts l g (s .entry)
+    → (w ≡ noteEnded v g (s .answer)) × (n ≡ replyCode (pendingReply g (s .answer))) → lent w n ≡ endedWords l g (endEntry (entryIn l g))
+ended-is l g n e s v w h f p q z x =
+    let m : s ≡ endEntry (entryIn l g) = q ∙ ap endEntry p in
+    ap₂ lent (x .0 ∙ ap (λ (u : List ℕ). noteEnded u g (s .answer)) z ∙ parts-ended l g h (s .entry) (s .answer)) (x .1)
+    ∙ ap (λ (r : EntryStep). lent (putParts (noteEnded l g (r .answer)) g (r .entry)) (replyCode (pendingReply g (r .answer)))) m
+    ∙ ap (λ (u : List ℕ). lent (putParts u g (endEntry (entryIn l g) .entry)) (replyCode (pendingReply g (endEntry (entryIn l g) .answer)))) (sym (end-noted l g (entryIn l g) f))

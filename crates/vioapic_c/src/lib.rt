@@ -1,16 +1,17 @@
 // The boundary of the I/O APIC: the public calls of `EmulatedIoApic` in place on 32 words that a caller in C or Rust lends (include/sillwander.h has
 // their layout). A call takes the entry that it is about out of the words, has the chip's own rule done to it, and puts it back.
 
+ghost use mathlib.Core.Bool.{true};
 ghost use mathlib.Core.Path.{_≡_};
-ghost use Prim.Native.Nat.{_<_};
+ghost use Prim.Native.Nat.{_<_, _^_};
 ghost use lib.ListN.{getD};
 ghost use Rattle.utils.specs.Set.{bit};
 ghost use Rattle.boundary.specs.Lent.{replyCode};
-ghost use Rattle.vioapic.specs.Answers.{interruptReply, routedReply, pendingReply};
+ghost use Rattle.vioapic.specs.Answers.{routedReply, pendingReply};
 ghost use Rattle.vioapic.specs.IoApic.{isVersion, vectorForGsi, handleRead};
-ghost use Rattle.vioapic.specs.Redirection.{awaits, sendEntry, moveLine, endEntry};
+ghost use Rattle.vioapic.specs.Redirection.{remoteIrr, awaits, sendEntry, moveLine, endEntry};
 ghost use Rattle.vioapic.specs.Registers.{readSelected, readAt};
-ghost use Rattle.vioapic_c.specs.Words.{entryIn, selectorIn, isNewIn, versionIn, putFlag, putEntry, newWords, view};
+ghost use Rattle.vioapic_c.specs.Words.{entryIn, selectorIn, isNewIn, versionIn, flightIn, AgreesIn, putFlag, noteIn, noteSent, noteEnded, putParts, putEntry, newWords, view};
 ghost use Rattle.vioapic_c.specs.Calls.{firstIn, steppedWords, assertWords, setLevelWords, endedWords, endFirstWords, turnWords, turnEnds, endEveryWords, endWords, createdWords, rangeWords, writeSelectedWords, writeEoiWords, writeAtWords, writeWords, lent};
 use boundary::code;
 use boundary::is_up;
@@ -19,8 +20,8 @@ use types::Reply;
 use types::Vector;
 use utils::set32;
 use utils::set64;
+use vioapic::redirection;
 use vioapic::redirection::Entry;
-use vioapic::redirection::IoApicInterrupt;
 use vioapic::redirection::Routed;
 
 const ENTRIES: usize = 24;
@@ -36,6 +37,8 @@ const BASE: usize = 27;
 const SIZE: usize = 28;
 
 const VERSION: usize = 29;
+
+const IN_FLIGHT: usize = 30;
 
 // ---- The parts of the words
 
@@ -78,9 +81,25 @@ fn put_flag(words: &mut [u64; 32], at: usize, g: usize, was: bool, up: bool)
     }
 }
 
-fn put_entry(words: &mut [u64; 32], g: usize, before: Entry, after: Entry)
+// Puts entry g's bit of the lines in flight where its Remote IRR moves.
+fn note(words: &mut [u64; 32], g: usize, before: bool, after: bool)
+    requires { ⌜ g < 24 ⌝ }
+    ensures { λ _. ⌜ now (words .exit) ≡ noteIn (now (words .entry)) g before after ⌝ }
+{
+    if before {
+        if !after {
+            set_flag(&mut *words, IN_FLIGHT, g, false);
+        }
+        return;
+    }
+    if after {
+        set_flag(&mut *words, IN_FLIGHT, g, true);
+    }
+}
+
+fn put_parts(words: &mut [u64; 32], g: usize, before: Entry, after: Entry)
     requires { ⌜ (g < 24) × (before ≡ entryIn (now words) g) ⌝ }
-    ensures { λ _. ⌜ now (words .exit) ≡ putEntry (now (words .entry)) g after ⌝ }
+    ensures { λ _. ⌜ now (words .exit) ≡ putParts (now (words .entry)) g after ⌝ }
 {
     words[g] = after.word;
     put_flag(
@@ -91,6 +110,32 @@ fn put_entry(words: &mut [u64; 32], g: usize, before: Entry, after: Entry)
         after.pending_level,
     );
     put_flag(&mut *words, INPUT, g, before.input_level, after.input_level);
+}
+
+fn put_entry(words: &mut [u64; 32], g: usize, before: Entry, after: Entry)
+    requires { ⌜ (g < 24) × (before ≡ entryIn (now words) g) ⌝ }
+    ensures { λ _. ⌜ now (words .exit) ≡ putEntry (now (words .entry)) g after ⌝ }
+{
+    put_parts(&mut *words, g, before, after);
+    note(
+        &mut *words,
+        g,
+        redirection::remote_irr(before.word),
+        redirection::remote_irr(after.word),
+    );
+}
+
+// The same where the guest writes it: no write puts an entry in flight.
+fn put_written(words: &mut [u64; 32], g: usize, before: Entry, after: Entry)
+    requires { ⌜ (g < 24) × (before ≡ entryIn (now words) g) × (remoteIrr (after .word) ≡ true → remoteIrr (before .word) ≡ true) ⌝ }
+    ensures { λ _. ⌜ now (words .exit) ≡ putEntry (now (words .entry)) g after ⌝ }
+{
+    put_parts(&mut *words, g, before, after);
+    if redirection::remote_irr(before.word) {
+        if !redirection::remote_irr(after.word) {
+            set_flag(&mut *words, IN_FLIGHT, g, false);
+        }
+    }
 }
 
 fn selector_in(words: &[u64; 32]) -> u32
@@ -121,18 +166,26 @@ fn awaits_at(words: &[u64; 32], g: usize, vector: Vector) -> bool
     entry.awaits(vector)
 }
 
-// The lowest entry that an EOI of the vector ends, or 24.
-fn first_awaiting(words: &[u64; 32], vector: Vector) -> usize
-    ensures { λ r. ⌜ r ≡ firstIn (now (words .entry)) vector ⌝ }
+// The lines in flight of the 24: whatever else the word holds isn't looked at.
+fn lines_in_flight(words: &[u64; 32]) -> u32
+    ensures { λ r. ⌜ (r ≡ flightIn (now (words .entry))) × (r < 2 ^ 24) ⌝ }
 {
-    let mut g: usize = 0;
-    while g < ENTRIES {
-        if awaits_at(words, g, vector) {
-            return g;
+    (words[IN_FLIGHT] % 0x100_0000) as u32
+}
+
+// The lowest entry that an EOI of the vector ends, or 24. Only those in flight are looked at.
+fn first_awaiting(words: &[u64; 32], vector: Vector) -> usize
+    ensures { λ r. ⌜ (AgreesIn (now (words .entry)) → r ≡ firstIn (now (words .entry)) vector) × (r < 24 → remoteIrr (getD (now (words .entry)) r 0) ≡ true) ⌝ }
+{
+    let mut left = lines_in_flight(words);
+    while left != 0 {
+        let g = set32::lowest(left);
+        if awaits_at(words, g as usize, vector) {
+            return g as usize;
         }
-        g += 1;
+        left = set32::without(left, g);
     }
-    g
+    ENTRIES
 }
 
 // ---- New words
@@ -220,37 +273,40 @@ pub extern "C" fn sillwander_ioapic_new_default(words: &mut [u64; 32]) -> u64
 
 // ---- Lines and EOIs
 
-// The code of an interrupt: with the two trigger modes apart, each way through a rule has its code at hand.
-fn interrupt_code(interrupt: IoApicInterrupt) -> u64
-    ensures { λ r. ⌜ r ≡ replyCode (interruptReply interrupt) ⌝ }
-{
-    let vector = interrupt.vector;
-    if interrupt.level_triggered {
-        return code(Reply::Two(vector.0 as u64, 1));
-    }
-    code(Reply::Two(vector.0 as u64, 0))
-}
-
-fn routed_code(answer: Routed) -> u64
-    ensures { λ r. ⌜ r ≡ replyCode (routedReply answer) ⌝ }
+// The code of an answer, and the bit of the lines in flight that it moves: with the two trigger modes apart, each way through a rule has both at hand.
+fn routed_code(words: &mut [u64; 32], g: usize, answer: Routed) -> u64
+    requires { ⌜ g < 24 ⌝ }
+    ensures { λ r. ⌜ (now (words .exit) ≡ noteSent (now (words .entry)) g answer) × (r ≡ replyCode (routedReply answer)) ⌝ }
 {
     match answer {
         Routed::NotRouted => code(Reply::Nothing),
-        Routed::Interrupt(interrupt) => interrupt_code(interrupt),
+        Routed::Interrupt(interrupt) => {
+            let vector = interrupt.vector;
+            if interrupt.level_triggered {
+                set_flag(&mut *words, IN_FLIGHT, g, true);
+                return code(Reply::Two(vector.0 as u64, 1));
+            }
+            code(Reply::Two(vector.0 as u64, 0))
+        }
     }
 }
 
-// The code of an EOI's answer, likewise.
-fn ended_code(g: usize, pending: Routed) -> u64
-    ensures { λ r. ⌜ r ≡ replyCode (pendingReply g pending) ⌝ }
+// The same of an EOI's answer.
+fn ended_code(words: &mut [u64; 32], g: usize, pending: Routed) -> u64
+    requires { ⌜ g < 24 ⌝ }
+    ensures { λ r. ⌜ (now (words .exit) ≡ noteEnded (now (words .entry)) g pending) × (r ≡ replyCode (pendingReply g pending)) ⌝ }
 {
     match pending {
-        Routed::NotRouted => code(Reply::One(g as u64)),
+        Routed::NotRouted => {
+            set_flag(&mut *words, IN_FLIGHT, g, false);
+            code(Reply::One(g as u64))
+        }
         Routed::Interrupt(interrupt) => {
             let vector = interrupt.vector;
             if interrupt.level_triggered {
                 return code(Reply::Three(g as u64, vector.0 as u64, 1));
             }
+            set_flag(&mut *words, IN_FLIGHT, g, false);
             code(Reply::Three(g as u64, vector.0 as u64, 0))
         }
     }
@@ -265,8 +321,8 @@ fn sent(words: &mut [u64; 32], g: usize) -> u64
     let step = entry.send();
     let after = step.entry;
     let answer = step.answer;
-    put_entry(&mut *words, g, entry, after);
-    routed_code(answer)
+    put_parts(&mut *words, g, entry, after);
+    routed_code(&mut *words, g, answer)
 }
 
 // A step of an entry that moves its line.
@@ -278,7 +334,7 @@ fn moved(words: &mut [u64; 32], g: usize, up: bool) -> u64
     let step = entry.move_line(up);
     let after = step.entry;
     let answer = step.answer;
-    let answered = routed_code(answer);
+    let answered = routed_code(&mut *words, g, answer);
     words[g] = after.word;
     put_flag(
         &mut *words,
@@ -329,17 +385,17 @@ pub extern "C" fn sillwander_ioapic_set_gsi_level(
     code(Reply::Nothing)
 }
 
-// An EOI ends entry g.
+// An EOI ends entry g, which is in flight.
 fn ended(words: &mut [u64; 32], g: usize) -> u64
-    requires { ⌜ g < 24 ⌝ }
+    requires { ⌜ (g < 24) × (remoteIrr (getD (now words) g 0) ≡ true) ⌝ }
     ensures { λ r. ⌜ lent (now (words .exit)) r ≡ endedWords (now (words .entry)) g (endEntry (entryIn (now (words .entry)) g)) ⌝ }
 {
     let entry = entry_in(&*words, g);
     let step = entry.end();
     let after = step.entry;
     let pending = step.answer;
-    put_entry(&mut *words, g, entry, after);
-    ended_code(g, pending)
+    put_parts(&mut *words, g, entry, after);
+    ended_code(&mut *words, g, pending)
 }
 
 fn is_new(words: &[u64; 32]) -> bool
@@ -350,7 +406,7 @@ fn is_new(words: &[u64; 32]) -> bool
 
 // Version 0x11: the lowest of the entries that await the EOI ends.
 fn end_first(words: &mut [u64; 32], vector: Vector) -> u64
-    ensures { λ r. ⌜ lent (now (words .exit)) r ≡ endFirstWords (now (words .entry)) vector ⌝ }
+    ensures { λ r. ⌜ (AgreesIn (now (words .entry)) → lent (now (words .exit)) r ≡ endFirstWords (now (words .entry)) vector) ⌝ }
 {
     let g = first_awaiting(&*words, vector);
     if g < ENTRIES {
@@ -396,24 +452,25 @@ fn seen(words: &[u64]) {}
 
 // Version 0x20: all of them end.
 fn end_every(words: &mut [u64; 32], vector: Vector) -> u64
-    ensures { λ r. ⌜ lent (now (words .exit)) r ≡ endEveryWords (now (words .entry)) vector ⌝ }
+    ensures { λ r. ⌜ (AgreesIn (now (words .entry)) → lent (now (words .exit)) r ≡ endEveryWords (now (words .entry)) vector) ⌝ }
 {
     seen(&*words);
     let mut ends = Ends {
         cleared: 0,
         sent: 0,
     };
-    let mut g: usize = 0;
-    while g < ENTRIES {
-        ends = end_at(&mut *words, g, vector, ends);
-        g += 1;
+    let mut left = lines_in_flight(&*words);
+    while left != 0 {
+        let g = set32::lowest(left);
+        ends = end_at(&mut *words, g as usize, vector, ends);
+        left = set32::without(left, g);
     }
     code(vioapic::every_answer(ends.cleared, ends.sent).reply())
 }
 
 #[no_mangle]
 pub extern "C" fn sillwander_ioapic_end_of_interrupt(words: &mut [u64; 32], vector: u64) -> u64
-    ensures { λ r. ⌜ lent (now (words .exit)) r ≡ endWords (now (words .entry)) vector ⌝ }
+    ensures { λ r. ⌜ (AgreesIn (now (words .entry)) → lent (now (words .exit)) r ≡ endWords (now (words .entry)) vector) ⌝ }
 {
     if 256 <= vector {
         return code(Reply::Refused(Refusal::OutOfRange));
@@ -483,7 +540,7 @@ fn write_selected(words: &mut [u64; 32], value: u32)
     if vioapic::is_entry_word(selector) {
         let g = vioapic::entry_of(selector);
         let entry = entry_in(&*words, g);
-        put_entry(
+        put_written(
             &mut *words,
             g,
             entry,
@@ -494,7 +551,7 @@ fn write_selected(words: &mut [u64; 32], value: u32)
 
 // The EOI register, which version 0x20 alone has.
 fn write_eoi(words: &mut [u64; 32], value: u32) -> u64
-    ensures { λ r. ⌜ lent (now (words .exit)) r ≡ writeEoiWords (now (words .entry)) value ⌝ }
+    ensures { λ r. ⌜ (AgreesIn (now (words .entry)) → lent (now (words .exit)) r ≡ writeEoiWords (now (words .entry)) value) ⌝ }
 {
     if is_new(&*words) {
         return end_every(&mut *words, Vector((value % 0x100) as u8));
@@ -503,7 +560,7 @@ fn write_eoi(words: &mut [u64; 32], value: u32) -> u64
 }
 
 fn write_at(words: &mut [u64; 32], offset: u64, value: u32) -> u64
-    ensures { λ r. ⌜ lent (now (words .exit)) r ≡ writeAtWords (now (words .entry)) offset value ⌝ }
+    ensures { λ r. ⌜ (AgreesIn (now (words .entry)) → lent (now (words .exit)) r ≡ writeAtWords (now (words .entry)) offset value) ⌝ }
 {
     if offset == vioapic::IOREGSEL {
         words[SELECTOR] = value as u64;
@@ -526,7 +583,7 @@ pub extern "C" fn sillwander_ioapic_handle_write(
     width: u64,
     value: u64,
 ) -> u64
-    ensures { λ r. ⌜ lent (now (words .exit)) r ≡ writeWords (now (words .entry)) addr width value ⌝ }
+    ensures { λ r. ⌜ (AgreesIn (now (words .entry)) → lent (now (words .exit)) r ≡ writeWords (now (words .entry)) addr width value) ⌝ }
 {
     if !vioapic::good_width(width) {
         return code(Reply::Refused(Refusal::Unsupported));

@@ -52,23 +52,23 @@ reply-requires-5 c κs = search needs
 
 returns : tie.Need-returns
 unfolding outcome
-returns c = rw (c .before .before .before .call .given .1) (replied _ _ _ _ (c .reply .ensures) (ap (kept _) (c .before .handle-read .ensures)))
+returns c = λ k. rw (c .before .before .before .call .given .1) (replied _ _ _ _ (c .reply .ensures) (ap (kept _) (c .before .handle-read .ensures)))
 
 returns-2 : tie.Need-returns-2
 unfolding outcome
-returns-2 c = rw (c .before .before .before .before .call2 .given .1) (replied _ _ _ _ (c .reply2 .ensures) (c .before .before .handle-write .ensures))
+returns-2 c = λ k. rw (c .before .before .before .before .call2 .given .1) (replied _ _ _ _ (c .reply2 .ensures) (c .before .before .handle-write .ensures k))
 
 returns-3 : tie.Need-returns-3
 unfolding outcome
-returns-3 c = rw (c .before .before .before .before .call3 .given .1) (replied _ _ _ _ (c .reply3 .ensures) (c .before .before .set-gsi-level .ensures))
+returns-3 c = λ k. rw (c .before .before .before .before .call3 .given .1) (replied _ _ _ _ (c .reply3 .ensures) (c .before .before .set-gsi-level .ensures))
 
 returns-4 : tie.Need-returns-4
 unfolding outcome
-returns-4 c = rw (c .before .before .before .before .call4 .given .1) (replied _ _ _ _ (c .reply4 .ensures) (c .before .before .assert-gsi .ensures))
+returns-4 c = λ k. rw (c .before .before .before .before .call4 .given .1) (replied _ _ _ _ (c .reply4 .ensures) (c .before .before .assert-gsi .ensures))
 
 returns-5 : tie.Need-returns-5
 unfolding outcome
-returns-5 c = rw (c .before .before .before .before .call5 .given .1) (replied _ _ _ _ (c .reply5 .ensures) (c .before .before .end-of-interrupt .ensures))
+returns-5 c = λ k. rw (c .before .before .before .before .call5 .given .1) (replied _ _ _ _ (c .reply5 .ensures) (c .before .before .end-of-interrupt .ensures k))
 
 pub call-ioapic-spec : {M : Type 1} → statement M
 call-ioapic-spec =

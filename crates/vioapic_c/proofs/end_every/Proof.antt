@@ -1,39 +1,49 @@
--- The invariant: the entries before `g` have had their turn. The measure is what is left of the table.
-use native.Mathlib.Omega.{arith}
-use Prim.Native.Nat.{_≤_, _-_}
-use mathlib.Core.Path.{_≡_, refl}
-use lib.ListN.{length}
+-- The invariant: the turns that are left lead from where the EOI has come to where all of them lead. The measure is what is left of the lines in flight.
 use borrow.Author.Needs.{needs}
-use Rattle.utils.specs.Set.{setOf}
-use Rattle.vioapic_c.proofs.Turns.{none-ended, next-words, next-ends, every-is}
-use Rattle.vioapic_c.specs.Calls.{endedBelow, clearedIn, sentIn}
+use Prim.Native.Nat.{ℕ, _<_, _^_}
+use mathlib.Core.Path.{_≡_, ap}
+use lib.ListN.{length}
+use Rattle.utils.proofs.Walk.{walk}
+use Rattle.vioapic.proofs.FlightLaws.{left-index, left-bit, left-less, left-small}
+use Rattle.vioapic_c.specs.Words.{flightIn}
+use Rattle.vioapic_c.proofs.Turns.{turn, next-turn, every-is}
 use Rattle.vioapic_c.proofs.end_every.Statement.{statement}
 use Rattle.vioapic_c.proofs.end_every.Tie as tie
 
 abbrev Inv-loop : tie.InvT-loop
-Inv-loop words₀ vector ends₀ g₀ words ends g =
-    (g ≤ 24) × (length words₀ ≡ 32) × (words ≡ endedBelow words₀ vector g) × (ends ≡ record { cleared = setOf g (clearedIn vector words₀); sent = setOf g (sentIn vector words₀) })
+Inv-loop words₀ vector ends₀ left₀ words ends left =
+    (left < 2 ^ 24) × (length words₀ ≡ 32) × (walk (turn vector) 24 0 left (words, ends) ≡ walk (turn vector) 24 0 (flightIn words₀) (words₀, ends₀))
 
 abbrev μ-loop : tie.MeasureT-loop
-μ-loop words₀ vector ends₀ g₀ words ends g = 24 - g
+μ-loop words₀ vector ends₀ left₀ words ends left = left
 
 seen-requires : tie.Need-seen-requires Inv-loop μ-loop
 seen-requires c κs = search needs
 
+lines-in-flight-requires : tie.Need-lines-in-flight-requires Inv-loop μ-loop
+lines-in-flight-requires c κs = search needs
+
 loop-holds : tie.Need-loop-holds Inv-loop μ-loop
-loop-holds c = (omega arith, c .before .seen-arg2 .given .0, none-ended _ _, refl)
+loop-holds c =
+    (c .lines-in-flight .ensures .1, c .before .before .before .seen-arg2 .given .0, ap (λ (n : ℕ). walk (turn (c .before .before .before .before .before .args .vector)) 24 0 n (c .before .before .before .before .before .args .words .now, record { cleared = 0; sent = 0 })) (c .lines-in-flight .ensures .0))
+
+lowest-requires : tie.Need-lowest-requires Inv-loop μ-loop
+lowest-requires c κs = search needs
+
+cast-end-at : tie.Need-cast-end-at Inv-loop μ-loop
+cast-end-at c = search (needs, left-index)
 
 end-at-requires : tie.Need-end-at-requires Inv-loop μ-loop
-end-at-requires c κs = search needs
+end-at-requires c κs = search (needs, left-index)
 
-add-g : tie.Need-add-g Inv-loop μ-loop
-add-g c = omega arith
+without-requires : tie.Need-without-requires Inv-loop μ-loop
+without-requires c κs = search (needs, left-bit)
 
 loop-less : tie.Need-loop-less Inv-loop μ-loop
-loop-less c = omega arith
+loop-less c = search (left-less)
 
 loop-again : tie.Need-loop-again Inv-loop μ-loop
-loop-again c = (omega arith, c .before .before .before .loop .inv .1, next-words _ _ (c .before .before .before .loop .inv .1) _ _ _ (c .before .before .loop-test .taken) (c .before .before .before .loop .inv .2) (c .end-at .ensures .0), next-ends _ _ (c .before .before .before .loop .inv .1) _ _ _ _ (c .before .before .loop-test .taken) (c .before .before .before .loop .inv .2) (c .before .before .before .loop .inv .3) (c .end-at .ensures .1))
+loop-again c = (search (left-small), c .before .before .before .before .before .loop .inv .1, search (next-turn))
 
 every-answer-requires : tie.Need-every-answer-requires Inv-loop μ-loop
 every-answer-requires c κs = search needs
@@ -45,7 +55,7 @@ code-requires : tie.Need-code-requires Inv-loop μ-loop
 code-requires c κs = search needs
 
 returns : tie.Need-returns Inv-loop μ-loop
-returns c = every-is _ _ (c .before .before .before .before .loop .inv .1) _ _ _ _ _ _ (c .before .before .before .loop-test .left) (c .before .before .before .before .loop .inv .0) (c .before .before .before .before .loop .inv .2) (c .before .before .before .before .loop .inv .3) (c .before .before .every-answer .ensures) (c .before .reply .ensures) (c .code .ensures)
+returns c = λ k. search (every-is)
 
 pub end-every-spec : {M : Type 1} → statement M
 end-every-spec =
@@ -54,9 +64,12 @@ end-every-spec =
     Inv-loop
     μ-loop
     seen-requires
+    lines-in-flight-requires
     loop-holds
+    lowest-requires
+    cast-end-at
     end-at-requires
-    add-g
+    without-requires
     loop-less
     loop-again
     every-answer-requires

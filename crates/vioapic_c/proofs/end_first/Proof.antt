@@ -7,16 +7,16 @@ first-awaiting-requires : tie.Need-first-awaiting-requires
 first-awaiting-requires c κs = search needs
 
 ended-requires : tie.Need-ended-requires
-ended-requires c κs = search needs
+ended-requires c κs = (c .before .if1 .taken, c .before .before .first-awaiting .ensures .1 (c .before .if1 .taken))
 
 returns : tie.Need-returns
-returns c = search (first-ended)
+returns c = λ k. search (first-ended, c .before .before .before .first-awaiting .ensures .0 k)
 
 code-requires : tie.Need-code-requires
 code-requires c κs = search needs
 
 returns-2 : tie.Need-returns-2
-returns-2 c = search (first-none)
+returns-2 c = λ k. search (first-none, c .before .before .first-awaiting .ensures .0 k)
 
 pub end-first-spec : {M : Type 1} → statement M
 end-first-spec =

@@ -9,11 +9,11 @@ entry-in-requires c κs = search needs
 end-requires : tie.Need-end-requires
 end-requires c κs = search needs
 
-put-entry-requires : tie.Need-put-entry-requires
-put-entry-requires c κs = search needs
-
 ended-code-requires : tie.Need-ended-code-requires
 ended-code-requires c κs = search needs
+
+put-parts-requires : tie.Need-put-parts-requires
+put-parts-requires c κs = search needs
 
 returns : tie.Need-returns
 returns c = search (ended-is)
@@ -21,4 +21,4 @@ returns c = search (ended-is)
 pub ended-spec : {M : Type 1} → statement M
 ended-spec =
     tie.close
-    (tie.spec entry-in-requires end-requires put-entry-requires ended-code-requires returns)
+    (tie.spec entry-in-requires end-requires put-parts-requires ended-code-requires returns)

@@ -1,4 +1,4 @@
-use Rattle.vioapic_c.proofs.WordLaws.{pending-still, moved-is}
+use Rattle.vioapic_c.proofs.WordLaws.{pending-still, sent-still, moved-is}
 use borrow.Author.Needs.{needs}
 use Rattle.vioapic_c.proofs.moved.Statement.{statement}
 use Rattle.vioapic_c.proofs.moved.Tie as tie
@@ -19,7 +19,7 @@ element-write-words : tie.Need-element-write-words
 element-write-words c = search needs
 
 put-flag-requires : tie.Need-put-flag-requires
-put-flag-requires c κs = search (needs, pending-still)
+put-flag-requires c κs = search (needs, pending-still, sent-still)
 
 set-flag-requires : tie.Need-set-flag-requires
 set-flag-requires c κs = search needs

@@ -1,19 +1,19 @@
-use Rattle.vioapic_c.proofs.WordLaws.{pending-still, input-still, put-is}
+use Rattle.vioapic_c.proofs.WordLaws.{put-is}
 use borrow.Author.Needs.{needs}
 use Rattle.vioapic_c.proofs.put_entry.Statement.{statement}
 use Rattle.vioapic_c.proofs.put_entry.Tie as tie
 
-mul-words : tie.Need-mul-words
-mul-words c = search needs
+remote-irr-requires : tie.Need-remote-irr-requires
+remote-irr-requires c κs = search needs
 
-element-write-words : tie.Need-element-write-words
-element-write-words c = search needs
+remote-irr-requires-2 : tie.Need-remote-irr-requires-2
+remote-irr-requires-2 c κs = search needs
 
-put-flag-requires : tie.Need-put-flag-requires
-put-flag-requires c κs = search (needs, pending-still)
+note-requires : tie.Need-note-requires
+note-requires c κs = search needs
 
-put-flag-requires-2 : tie.Need-put-flag-requires-2
-put-flag-requires-2 c κs = search (needs, input-still)
+put-parts-requires : tie.Need-put-parts-requires
+put-parts-requires c κs = search needs
 
 returns : tie.Need-returns
 returns c = search (put-is)
@@ -21,4 +21,4 @@ returns c = search (put-is)
 pub put-entry-spec : {M : Type 1} → statement M
 put-entry-spec =
     tie.close
-    (tie.spec mul-words element-write-words put-flag-requires put-flag-requires-2 returns)
+    (tie.spec put-parts-requires remote-irr-requires remote-irr-requires-2 note-requires returns)

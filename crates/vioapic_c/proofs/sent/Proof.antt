@@ -9,11 +9,11 @@ entry-in-requires c κs = search needs
 send-requires : tie.Need-send-requires
 send-requires c κs = search needs
 
-put-entry-requires : tie.Need-put-entry-requires
-put-entry-requires c κs = search needs
-
 routed-code-requires : tie.Need-routed-code-requires
 routed-code-requires c κs = search needs
+
+put-parts-requires : tie.Need-put-parts-requires
+put-parts-requires c κs = search needs
 
 returns : tie.Need-returns
 returns c = search (sent-is)
@@ -21,4 +21,4 @@ returns c = search (sent-is)
 pub sent-spec : {M : Type 1} → statement M
 sent-spec =
     tie.close
-    (tie.spec entry-in-requires send-requires put-entry-requires routed-code-requires returns)
+    (tie.spec entry-in-requires send-requires put-parts-requires routed-code-requires returns)

@@ -8,7 +8,7 @@ code-requires : tie.Need-code-requires
 code-requires c κs = search needs
 
 returns : tie.Need-returns
-returns c = search (end-wide)
+returns c = λ k. search (end-wide)
 
 is-new-requires : tie.Need-is-new-requires
 is-new-requires c κs = search needs
@@ -20,7 +20,7 @@ end-every-requires : tie.Need-end-every-requires
 end-every-requires c κs = search needs
 
 returns-2 : tie.Need-returns-2
-returns-2 c = search (end-new, so)
+returns-2 c = λ k. search (end-new, so, c .end-every .ensures k)
 
 cast-t12 : tie.Need-cast-t12
 cast-t12 c = search needs
@@ -29,7 +29,7 @@ end-first-requires : tie.Need-end-first-requires
 end-first-requires c κs = search needs
 
 returns-3 : tie.Need-returns-3
-returns-3 c = search (end-old, so)
+returns-3 c = λ k. search (end-old, so, c .end-first .ensures k)
 
 pub sillwander-ioapic-end-of-interrupt-spec : {M : Type 1} → statement M
 sillwander-ioapic-end-of-interrupt-spec =

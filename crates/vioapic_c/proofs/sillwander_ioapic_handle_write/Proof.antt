@@ -11,7 +11,7 @@ code-requires : tie.Need-code-requires
 code-requires c κs = search needs
 
 returns : tie.Need-returns
-returns c = search (write-width, so)
+returns c = λ k. search (write-width, so)
 
 element-copy-out-base : tie.Need-element-copy-out-base
 element-copy-out-base c = search needs
@@ -20,7 +20,7 @@ code-requires-2 : tie.Need-code-requires-2
 code-requires-2 c κs = search needs
 
 returns-2 : tie.Need-returns-2
-returns-2 c = search (write-below, so)
+returns-2 c = λ k. search (write-below, so)
 
 cast-write-at : tie.Need-cast-write-at
 cast-write-at c = search needs
@@ -29,7 +29,7 @@ write-at-requires : tie.Need-write-at-requires
 write-at-requires c κs = search needs
 
 returns-3 : tie.Need-returns-3
-returns-3 c = search (write-done, so)
+returns-3 c = λ k. search (write-done, so, c .write-at .ensures k)
 
 pub sillwander-ioapic-handle-write-spec : {M : Type 1} → statement M
 sillwander-ioapic-handle-write-spec =

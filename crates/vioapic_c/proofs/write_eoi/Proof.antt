@@ -14,13 +14,13 @@ end-every-requires : tie.Need-end-every-requires
 end-every-requires c κs = search needs
 
 returns : tie.Need-returns
-returns c = search (eoi-new, so)
+returns c = λ k. search (eoi-new, so, c .end-every .ensures k)
 
 code-requires : tie.Need-code-requires
 code-requires c κs = search needs
 
 returns-2 : tie.Need-returns-2
-returns-2 c = search (eoi-old, so)
+returns-2 c = λ k. search (eoi-old, so)
 
 pub write-eoi-spec : {M : Type 1} → statement M
 write-eoi-spec =

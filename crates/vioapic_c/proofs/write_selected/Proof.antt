@@ -1,6 +1,7 @@
 use Rattle.utils.specs.Cases.{cases}
 use Rattle.utils.specs.Cases.{so}
 use Rattle.vioapic_c.proofs.WordLaws.{write-in, write-out}
+use Rattle.vioapic_c.proofs.Noted.{written-from}
 use borrow.Author.Needs.{needs}
 use Rattle.vioapic_c.proofs.write_selected.Statement.{statement}
 use Rattle.vioapic_c.proofs.write_selected.Tie as tie
@@ -20,8 +21,8 @@ entry-in-requires c κs = search needs
 write-word-requires : tie.Need-write-word-requires
 write-word-requires c κs = search needs
 
-put-entry-requires : tie.Need-put-entry-requires
-put-entry-requires c κs = search needs
+put-written-requires : tie.Need-put-written-requires
+put-written-requires c κs = (search needs, search needs, written-from _ _ _ _ (c .write-word .ensures))
 
 returns : tie.Need-returns
 returns c = search (write-in, so)
@@ -38,6 +39,6 @@ write-selected-spec =
     entry-of-requires
     entry-in-requires
     write-word-requires
-    put-entry-requires
+    put-written-requires
     returns
     returns-2)

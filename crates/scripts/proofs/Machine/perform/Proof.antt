@@ -48,23 +48,23 @@ call-apic-requires c κs = search needs
 
 returns : tie.Need-returns
 unfolding performed
-returns c = rw (c .before .before .before .call .given .1) (c .with-ioapic .ensures ∙ ap (onIoApic (c .before .before .before .before .before .before .before .args .self)) (c .before .call-ioapic .ensures))
+returns c = λ k. rw (c .before .before .before .call .given .1) (c .with-ioapic .ensures ∙ ap (onIoApic (c .before .before .before .before .before .before .before .args .self)) (c .before .call-ioapic .ensures k))
 
 returns-2 : tie.Need-returns-2
 unfolding performed
-returns-2 c = rw (c .before .before .before .call2 .given .1) (c .with-ioapic2 .ensures ∙ ap (onIoApic (c .before .before .before .before .before .before .before .args .self)) (c .before .choose-version .ensures))
+returns-2 c = λ k. rw (c .before .before .before .call2 .given .1) (c .with-ioapic2 .ensures ∙ ap (onIoApic (c .before .before .before .before .before .before .before .args .self)) (c .before .choose-version .ensures))
 
 returns-3 : tie.Need-returns-3
 unfolding performed
-returns-3 c = rw (c .before .before .before .call3 .given .1) (c .with-pic .ensures ∙ ap (onPic (c .before .before .before .before .before .before .before .args .self)) (c .before .call-pic .ensures))
+returns-3 c = λ k. rw (c .before .before .before .call3 .given .1) (c .with-pic .ensures ∙ ap (onPic (c .before .before .before .before .before .before .before .args .self)) (c .before .call-pic .ensures))
 
 returns-4 : tie.Need-returns-4
 unfolding performed
-returns-4 c = rw (c .before .before .before .call4 .given .1) (c .with-pic2 .ensures ∙ ap (onPic (c .before .before .before .before .before .before .before .args .self)) (c .before .choose-rule .ensures))
+returns-4 c = λ k. rw (c .before .before .before .call4 .given .1) (c .with-pic2 .ensures ∙ ap (onPic (c .before .before .before .before .before .before .before .args .self)) (c .before .choose-rule .ensures))
 
 returns-5 : tie.Need-returns-5
 unfolding performed
-returns-5 c = rw (c .before .before .call5 .given .1) (c .call-apic .ensures)
+returns-5 c = λ k. rw (c .before .before .call5 .given .1) (c .call-apic .ensures)
 
 pub perform-spec : {M : Type 1} → statement M
 perform-spec =

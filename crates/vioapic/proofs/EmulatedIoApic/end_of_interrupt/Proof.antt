@@ -12,7 +12,7 @@ with-state-requires c κs = search needs
 
 returns : tie.Need-returns
 unfolding endOfInterrupt
-returns c = search (ended-is)
+returns c = λ k. search (ended-is, c .before .before .end-of-interrupt .ensures k)
 
 pub end-of-interrupt-spec : {M : Type 1} → statement M
 end-of-interrupt-spec = tie.close (tie.spec end-of-interrupt-requires with-state-requires returns)

@@ -10,11 +10,11 @@ good-width-requires c κs = search needs
 
 returns : tie.Need-returns
 unfolding handleWrite
-returns c = search cases
+returns c = λ k. search cases
 
 returns-2 : tie.Need-returns-2
 unfolding handleWrite
-returns-2 c = search cases
+returns-2 c = λ k. search cases
 
 cast-write-at : tie.Need-cast-write-at
 cast-write-at c = search needs
@@ -27,7 +27,7 @@ with-state-requires c κs = search needs
 
 returns-3 : tie.Need-returns-3
 unfolding handleWrite
-returns-3 c = search (wrote-is, cases)
+returns-3 c = λ k. search (wrote-is, cases, c .before .before .write-at .ensures k)
 
 pub handle-write-spec : {M : Type 1} → statement M
 handle-write-spec =

@@ -1,39 +1,49 @@
--- The invariant: the entries before `index` have had their turn. The measure is what is left of the table.
-use native.Mathlib.Omega.{arith}
-use Prim.Native.Nat.{_≤_, _-_}
-use mathlib.Core.Path.{_≡_, refl}
-use lib.ListN.{length}
+-- The invariant: the turns that are left lead from where the EOI has come to where all of them lead. The measure is what is left of the lines in flight.
 use borrow.Author.Needs.{needs}
-use Rattle.vioapic.proofs.EveryLaws.{table-long, upTo, next-turn, all-turns}
+use Prim.Native.Nat.{ℕ, _<_, _%_, _^_}
+use mathlib.Core.Path.{_≡_, ap}
+use Rattle.utils.proofs.Walk.{walk}
+use Rattle.vioapic.specs.Table.{endNext}
+use Rattle.vioapic.proofs.FlightLaws.{left-index, left-bit, left-less, left-small}
+use Rattle.vioapic.proofs.EveryLaws.{next-turn, all-turns}
 use Rattle.vioapic.proofs.IoApicState.end_every.Statement.{statement}
 use Rattle.vioapic.proofs.IoApicState.end_every.Tie as tie
 
 abbrev Inv-loop : tie.InvT-loop
-Inv-loop vector ends₀ index₀ ends index = (index ≤ 24) × (length (ends₀ .state .entries) ≡ 24) × (ends ≡ upTo vector (ends₀ .state) index)
+Inv-loop vector left₀ ends₀ left ends = (left < 2 ^ 24) × (walk (endNext vector) 24 0 left ends ≡ walk (endNext vector) 24 0 (ends₀ .state .«in_flight» % 2 ^ 24) ends₀)
 
 abbrev μ-loop : tie.MeasureT-loop
-μ-loop vector ends₀ index₀ ends index = 24 - index
+μ-loop vector left₀ ends₀ left ends = left
+
+table-lines-requires : tie.Need-table-lines-requires Inv-loop μ-loop
+table-lines-requires c κs = search needs
 
 loop-holds : tie.Need-loop-holds Inv-loop μ-loop
-loop-holds c = let n : length (c .args .self .entries) ≡ 24 = search (needs, table-long) in (omega arith, n, refl)
+loop-holds c = (c .table-lines .ensures .1, ap (λ (n : ℕ). walk (endNext (c .before .args .vector)) 24 0 n (record { state = c .before .args .self; cleared = 0; sent = 0 })) (c .table-lines .ensures .0))
+
+lowest-requires : tie.Need-lowest-requires Inv-loop μ-loop
+lowest-requires c κs = search needs
+
+cast-end-at : tie.Need-cast-end-at Inv-loop μ-loop
+cast-end-at c = search (needs, left-index)
 
 end-at-requires : tie.Need-end-at-requires Inv-loop μ-loop
-end-at-requires c κs = search needs
+end-at-requires c κs = search (needs, left-index)
 
-add-index : tie.Need-add-index Inv-loop μ-loop
-add-index c = omega arith
+without-requires : tie.Need-without-requires Inv-loop μ-loop
+without-requires c κs = search (needs, left-bit)
 
 loop-less : tie.Need-loop-less Inv-loop μ-loop
-loop-less c = omega arith
+loop-less c = search (left-less)
 
 loop-again : tie.Need-loop-again Inv-loop μ-loop
-loop-again c = (omega arith, c .before .before .loop .inv .1, next-turn _ _ _ _ _ (c .before .before .loop .inv .1) (c .before .loop-test .taken) (c .before .before .loop .inv .2) (c .end-at .ensures))
+loop-again c = (search (left-small), search (next-turn))
 
 every-answer-requires : tie.Need-every-answer-requires Inv-loop μ-loop
 every-answer-requires c κs = search needs
 
 returns : tie.Need-returns Inv-loop μ-loop
-returns c = all-turns _ _ _ _ _ (c .before .before .before .loop .inv .1) (c .before .before .loop-test .left) (c .before .before .before .loop .inv .0) (c .before .before .before .loop .inv .2) (c .every-answer .ensures)
+returns c = λ k. search (all-turns)
 
 pub end-every-spec : {M : Type 1} → statement M
 end-every-spec =
@@ -41,9 +51,12 @@ end-every-spec =
     (tie.spec
     Inv-loop
     μ-loop
+    table-lines-requires
     loop-holds
+    lowest-requires
+    cast-end-at
     end-at-requires
-    add-index
+    without-requires
     loop-less
     loop-again
     every-answer-requires

@@ -19,10 +19,10 @@ routed-requires : tie.Need-routed-requires
 routed-requires c κs = search needs
 
 returns : tie.Need-returns
-returns c = search (eoi-in)
+returns c = λ k. search (eoi-in, c .before .before .before .before .before .first-awaiting .ensures k)
 
 returns-2 : tie.Need-returns-2
-returns-2 c = search (eoi-none)
+returns-2 c = λ k. search (eoi-none, c .before .first-awaiting .ensures k)
 
 pub end-first-spec : {M : Type 1} → statement M
 end-first-spec =

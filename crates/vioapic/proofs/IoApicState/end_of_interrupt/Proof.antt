@@ -12,14 +12,14 @@ end-every-requires c κs = search needs
 
 returns : tie.Need-returns
 unfolding endOf
-returns c = search cases
+returns c = λ k. search (cases, c .end-every .ensures k)
 
 end-first-requires : tie.Need-end-first-requires
 end-first-requires c κs = search needs
 
 returns-2 : tie.Need-returns-2
 unfolding endOf
-returns-2 c = search cases
+returns-2 c = λ k. search (cases, c .end-first .ensures k)
 
 pub end-of-interrupt-spec : {M : Type 1} → statement M
 end-of-interrupt-spec =

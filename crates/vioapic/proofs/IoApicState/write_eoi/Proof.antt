@@ -8,7 +8,7 @@ is-new-requires : tie.Need-is-new-requires
 is-new-requires c κs = search needs
 
 returns : tie.Need-returns
-returns c = search (eoi-old, so)
+returns c = λ k. search (eoi-old, so)
 
 cast-t10 : tie.Need-cast-t10
 cast-t10 c = search needs
@@ -20,7 +20,7 @@ written-requires : tie.Need-written-requires
 written-requires c κs = search needs
 
 returns-2 : tie.Need-returns-2
-returns-2 c = search (eoi-written, so)
+returns-2 c = λ k. search (eoi-written, so, c .before .before .end-every .ensures k)
 
 pub write-eoi-spec : {M : Type 1} → statement M
 write-eoi-spec =
