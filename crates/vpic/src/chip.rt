@@ -232,7 +232,7 @@ impl PicChip {
     }
 
     // Whether it is this line that would be acknowledged next: that takes no search.
-    pub fn is_next(self, irq: u8) -> bool
+    fn is_next(self, irq: u8) -> bool
         requires { ⌜ irq < 8 ⌝ }
         ensures { λ r. ⌜ r ≡ eqb (pendingLine self) irq ⌝ }
     {
@@ -241,6 +241,13 @@ impl PicChip {
             return false;
         }
         self.is_above(irq)
+    }
+
+    // The same of the cascade line.
+    pub fn cascade_is_next(self) -> bool
+        ensures { λ r. ⌜ r ≡ eqb (pendingLine self) 2 ⌝ }
+    {
+        self.is_next(2)
     }
 
     // The output, INT: whether a request counts.
@@ -255,7 +262,7 @@ impl PicChip {
     }
 
     // A line that is driven by a level: its request stands exactly while that is up.
-    pub fn driven(mut self, irq: u8, up: bool) -> Self
+    pub(crate) fn driven(mut self, irq: u8, up: bool) -> Self
         requires { ⌜ irq < 8 ⌝ }
         ensures { λ r. ⌜ r ≡ driven self irq up ⌝ }
     {

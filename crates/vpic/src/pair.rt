@@ -171,7 +171,7 @@ impl PicState {
     {
         let master = self.master;
         let slave = self.slave;
-        if master.is_next(CASCADE_IRQ) {
+        if master.cascade_is_next() {
             let PendingIrq::Irq(slave_irq) = slave.pending_irq() else {
                 return PicPlace::Master(PicLine(CASCADE_IRQ));
             };

@@ -308,7 +308,7 @@ fn take(words: &mut [u64; 4]) -> u64
         return code(Reply::Nothing);
     }
     let master = chip_of(words[0]);
-    if master.is_next(CASCADE_IRQ) {
+    if master.cascade_is_next() {
         let slave = chip_of(words[1]);
         let PendingIrq::Irq(slave_irq) = slave.pending_irq() else {
             return claim_master(&mut *words, PicLine(CASCADE_IRQ));

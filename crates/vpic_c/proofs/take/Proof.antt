@@ -22,8 +22,8 @@ element-copy-out-chip-of c = search needs
 chip-of-requires : tie.Need-chip-of-requires
 chip-of-requires c κs = search needs
 
-is-next-requires : tie.Need-is-next-requires
-is-next-requires c κs = search needs
+cascade-is-next-requires : tie.Need-cascade-is-next-requires
+cascade-is-next-requires c κs = search needs
 
 element-copy-out-chip-of-2 : tie.Need-element-copy-out-chip-of-2
 element-copy-out-chip-of-2 c = search needs
@@ -41,16 +41,16 @@ enum-told : tie.Need-enum-told
 enum-told c = search needs
 
 claim-master-requires : tie.Need-claim-master-requires
-claim-master-requires c κs = in-cascade _ _ _ _ (c .before .before .before .before .before .before .before .before .chip-of .ensures) (c .before .before .before .before .before .before .before .is-next .ensures) _ (c .before .before .before .before .before .before .if2 .taken) (c .before .before .before .before .chip-of2 .ensures) (c .before .before .before .pending-irq .ensures) (c .before .enum-told .given .1)
+claim-master-requires c κs = in-cascade _ _ _ _ (c .before .before .before .before .before .before .before .before .chip-of .ensures) (c .before .before .before .before .before .before .before .cascade-is-next .ensures) _ (c .before .before .before .before .before .before .if2 .taken) (c .before .before .before .before .chip-of2 .ensures) (c .before .before .before .pending-irq .ensures) (c .before .enum-told .given .1)
 
 returns-2 : tie.Need-returns-2
-returns-2 c = taken-master _ _ _ _ (in-cascade _ _ _ _ (c .before .before .before .before .before .before .before .before .before .chip-of .ensures) (c .before .before .before .before .before .before .before .before .is-next .ensures) _ (c .before .before .before .before .before .before .before .if2 .taken) (c .before .before .before .before .before .chip-of2 .ensures) (c .before .before .before .before .pending-irq .ensures) (c .before .before .enum-told .given .1)) (c .before .before .before .before .before .before .before .before .before .before .before .before .before .before .pre) (c .claim-master .ensures)
+returns-2 c = taken-master _ _ _ _ (in-cascade _ _ _ _ (c .before .before .before .before .before .before .before .before .before .chip-of .ensures) (c .before .before .before .before .before .before .before .before .cascade-is-next .ensures) _ (c .before .before .before .before .before .before .before .if2 .taken) (c .before .before .before .before .before .chip-of2 .ensures) (c .before .before .before .before .pending-irq .ensures) (c .before .before .enum-told .given .1)) (c .before .before .before .before .before .before .before .before .before .before .before .before .before .before .pre) (c .claim-master .ensures)
 
 claim-slave-requires : tie.Need-claim-slave-requires
-claim-slave-requires c κs = in-slave _ _ _ _ (c .before .before .before .before .before .before .before .before .before .chip-of .ensures) (c .before .before .before .before .before .before .before .before .is-next .ensures) _ _ (c .before .before .before .before .before .before .before .if2 .taken) (c .before .before .before .before .before .chip-of2 .ensures) (c .before .before .before .before .pending-irq .ensures) (c .before .before .slave-irq .given .1)
+claim-slave-requires c κs = in-slave _ _ _ _ (c .before .before .before .before .before .before .before .before .before .chip-of .ensures) (c .before .before .before .before .before .before .before .before .cascade-is-next .ensures) _ _ (c .before .before .before .before .before .before .before .if2 .taken) (c .before .before .before .before .before .chip-of2 .ensures) (c .before .before .before .before .pending-irq .ensures) (c .before .before .slave-irq .given .1)
 
 returns-3 : tie.Need-returns-3
-returns-3 c = taken-slave _ _ _ _ (in-slave _ _ _ _ (c .before .before .before .before .before .before .before .before .before .before .chip-of .ensures) (c .before .before .before .before .before .before .before .before .before .is-next .ensures) _ _ (c .before .before .before .before .before .before .before .before .if2 .taken) (c .before .before .before .before .before .before .chip-of2 .ensures) (c .before .before .before .before .before .pending-irq .ensures) (c .before .before .before .slave-irq .given .1)) (c .before .before .before .before .before .before .before .before .before .before .before .before .before .before .before .pre) (c .claim-slave .ensures)
+returns-3 c = taken-slave _ _ _ _ (in-slave _ _ _ _ (c .before .before .before .before .before .before .before .before .before .before .chip-of .ensures) (c .before .before .before .before .before .before .before .before .before .cascade-is-next .ensures) _ _ (c .before .before .before .before .before .before .before .before .if2 .taken) (c .before .before .before .before .before .before .chip-of2 .ensures) (c .before .before .before .before .before .pending-irq .ensures) (c .before .before .before .slave-irq .given .1)) (c .before .before .before .before .before .before .before .before .before .before .before .before .before .before .before .pre) (c .claim-slave .ensures)
 
 pending-irq-requires-2 : tie.Need-pending-irq-requires-2
 pending-irq-requires-2 c κs = search needs
@@ -83,7 +83,7 @@ take-spec =
     returns
     element-copy-out-chip-of
     chip-of-requires
-    is-next-requires
+    cascade-is-next-requires
     element-copy-out-chip-of-2
     chip-of-requires-2
     pending-irq-requires

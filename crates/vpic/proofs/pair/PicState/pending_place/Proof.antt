@@ -3,8 +3,8 @@ use borrow.Author.Needs.{needs}
 use Rattle.vpic.proofs.pair.PicState.pending_place.Statement.{statement}
 use Rattle.vpic.proofs.pair.PicState.pending_place.Tie as tie
 
-is-next-requires : tie.Need-is-next-requires
-is-next-requires c κs = search needs
+cascade-is-next-requires : tie.Need-cascade-is-next-requires
+cascade-is-next-requires c κs = search needs
 
 pending-irq-requires : tie.Need-pending-irq-requires
 pending-irq-requires c κs = search needs
@@ -40,7 +40,7 @@ pub pending-place-spec : {M : Type 1} → statement M
 pending-place-spec =
     tie.close
     (tie.spec
-    is-next-requires
+    cascade-is-next-requires
     pending-irq-requires
     enum-known-slave-irq
     enum-told
