@@ -1,10 +1,10 @@
 // The program of document 01, "Scripts": it reads a script of at most 65,536 bytes from standard input and prints a line for each field.
-use fields::Cursor;
-use fields::Field;
+use script_format::Cursor;
+use script_format::Field;
 use libc::STDIN_FILENO;
 use libc::STDOUT_FILENO;
-use scripts::Machine;
-use scripts::next_field;
+use script_machine::Machine;
+use script_machine::next_field;
 use types::Refusal;
 use types::Reply;
 
@@ -14,8 +14,8 @@ fn main() {
     let mut script = [0u8; 65537];
     let n = io::read_full(STDIN_FILENO, &mut script);
     if n > LIMIT {
-        show::print_number(Refusal::ScriptTooLong.number() as u64);
-        show::print_text(b"\n");
+        reply_text::print_number(Refusal::ScriptTooLong.number() as u64);
+        reply_text::print_text(b"\n");
         return;
     }
     print_fields(&script[..n]);
@@ -56,13 +56,13 @@ fn print_fields(script: &[u8]) {
 // The tag, the refusal and the answer.
 fn print_line(tag: u8, reply: Reply) {
     io::print_hex(STDOUT_FILENO, tag as u64, 2);
-    show::print_text(b" ");
-    show::print_reply(reply);
+    reply_text::print_text(b" ");
+    reply_text::print_reply(reply);
 }
 
 // The place of the bad field's tag.
 fn print_bad(place: Cursor) {
-    show::print_text(b"bad ");
-    show::print_number(place.at as u64);
-    show::print_text(b"\n");
+    reply_text::print_text(b"bad ");
+    reply_text::print_number(place.at as u64);
+    reply_text::print_text(b"\n");
 }

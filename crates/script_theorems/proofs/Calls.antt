@@ -8,18 +8,18 @@ use native.Mathlib.Omega.{arith}
 use lib.Dec.{eqb}
 use Rattle.types.specs.Reply.{Outcome, replyNumber}
 use Rattle.vpic.specs.declared.pair.EmulatedPic.{EmulatedPic}
-use Rattle.vpic_claims.specs.Statements as claims
+use Rattle.vpic_theorems.specs.Statements as claims
 use Rattle.vlapic.specs.Calls as vlapic
 use Rattle.vlapic.specs.declared.VirtualApicRegs.{VirtualApicRegs}
-use Rattle.fields.specs.declared.Call.{Call}
-use Rattle.fields.specs.declared.PicCall.{PicCall}
-use Rattle.fields.specs.declared.PicCall.the-variants as pic
-use Rattle.fields.specs.declared.ApicCall.{ApicCall}
-use Rattle.fields.specs.declared.ApicCall.the-variants as apic
-use Rattle.scripts.specs.declared.Used.{Used}
-use Rattle.scripts.specs.declared.Machine.{Machine}
-use Rattle.scripts.specs.Late.{isLate, usedAfter}
-use Rattle.scripts.specs.Machine.{picOutcome, onApic, withVcpus, setUp, apicOutcome}
+use Rattle.script_format.specs.declared.Call.{Call}
+use Rattle.script_format.specs.declared.PicCall.{PicCall}
+use Rattle.script_format.specs.declared.PicCall.the-variants as pic
+use Rattle.script_format.specs.declared.ApicCall.{ApicCall}
+use Rattle.script_format.specs.declared.ApicCall.the-variants as apic
+use Rattle.script_machine.specs.declared.Used.{Used}
+use Rattle.script_machine.specs.declared.Machine.{Machine}
+use Rattle.script_machine.specs.Late.{isLate, usedAfter}
+use Rattle.script_machine.specs.Machine.{picOutcome, onApic, withVcpus, setUp, apicOutcome}
 use Rattle.script_theorems.specs.Runs.{inTime}
 
 -- the other chips of a machine are those of another

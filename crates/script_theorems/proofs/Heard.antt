@@ -3,22 +3,22 @@ use mathlib.Core.Path.{_≡_, refl, ap, _∙_}
 use mathlib.Core.List.{List, [], _∷_}
 use Prim.Native.Nat.{ℕ, _+_}
 use native.Mathlib.Omega.{arith}
-use Rattle.heard.specs.Sends.{sends}
-use Rattle.heard.specs.Heard20.{eoisAt}
-use Rattle.heard.proofs.Keeps.{new-keeps-rules, calls-keep-rules, calls-keep-version}
-use Rattle.heard.proofs.Demand.{heard-from-rules}
-use Rattle.heard.proofs.Heard20.{heard-20}
+use Rattle.vioapic_theorems.specs.Sends.{sends}
+use Rattle.vioapic_theorems.specs.Heard20.{eoisAt}
+use Rattle.vioapic_theorems.proofs.Keeps.{new-keeps-rules, calls-keep-rules, calls-keep-version}
+use Rattle.vioapic_theorems.proofs.Demand.{heard-from-rules}
+use Rattle.vioapic_theorems.proofs.Heard20.{heard-20}
 use Rattle.vioapic.specs.declared.EmulatedIoApic.{EmulatedIoApic}
 use Rattle.vioapic.specs.Calls.{outcome, run}
-use Rattle.fields.specs.declared.Call.{Call}
-use Rattle.fields.specs.declared.Call.the-variants.{Io, IoVersion, Pic, PicRule, Apic}
-use Rattle.fields.specs.declared.IoCall.the-variants.{SetGsiLevel}
+use Rattle.script_format.specs.declared.Call.{Call}
+use Rattle.script_format.specs.declared.Call.the-variants.{Io, IoVersion, Pic, PicRule, Apic}
+use Rattle.script_format.specs.declared.IoCall.the-variants.{SetGsiLevel}
 use mathlib.Core.Bool.{true, not, _&&_}
-use Rattle.scripts.specs.declared.Used.{Used}
-use Rattle.scripts.specs.declared.Machine.{Machine}
-use Rattle.scripts.specs.Late.{usedAfter}
-use Rattle.scripts.specs.Machine.{newMachine, ioCall, performed}
-use Rattle.scripts.specs.Run.{afterCalls, callsFrom, runOf}
+use Rattle.script_machine.specs.declared.Used.{Used}
+use Rattle.script_machine.specs.declared.Machine.{Machine}
+use Rattle.script_machine.specs.Late.{usedAfter}
+use Rattle.script_machine.specs.Machine.{newMachine, ioCall, performed}
+use Rattle.script_machine.specs.Run.{afterCalls, callsFrom, runOf}
 use Rattle.script_theorems.specs.Runs.{inTime}
 use Rattle.script_theorems.specs.Heard.{ioCalls, startOf, ioReplies, answers, scriptSends, IoApicRuns, IoApicAnswers, IoApicSends, MachineRules, MachinesKeepRules, callsAfter, HeardInScripts, HeardInScripts20}
 use Rattle.script_theorems.proofs.Calls.{keeps-others, later}

@@ -7,16 +7,16 @@ use native.Mathlib.Omega.{arith}
 use Rattle.types.specs.Reply.{Outcome}
 use Rattle.vpic.specs.declared.pair.EmulatedPic.{EmulatedPic}
 use Rattle.vpic.specs.Pair.{newState, newPic}
-use Rattle.vpic_claims.specs.Statements.{Keeps}
-use Rattle.vpic_claims.proofs.Rule.{new-keeps, calls-keep, calls-keep-number, slave-heard}
-use Rattle.fields.specs.declared.Call.{Call}
-use Rattle.fields.specs.declared.Call.the-variants.{Io, IoVersion, Pic, PicRule, Apic}
-use Rattle.fields.specs.declared.PicCall.{PicCall}
-use Rattle.scripts.specs.declared.Used.{Used}
-use Rattle.scripts.specs.declared.Machine.{Machine}
-use Rattle.scripts.specs.Late.{usedAfter}
-use Rattle.scripts.specs.Machine.{newMachine, picOutcome, performed}
-use Rattle.scripts.specs.Run.{callsFrom, afterCalls}
+use Rattle.vpic_theorems.specs.Statements.{Keeps}
+use Rattle.vpic_theorems.proofs.Rule.{new-keeps, calls-keep, calls-keep-number, slave-heard}
+use Rattle.script_format.specs.declared.Call.{Call}
+use Rattle.script_format.specs.declared.Call.the-variants.{Io, IoVersion, Pic, PicRule, Apic}
+use Rattle.script_format.specs.declared.PicCall.{PicCall}
+use Rattle.script_machine.specs.declared.Used.{Used}
+use Rattle.script_machine.specs.declared.Machine.{Machine}
+use Rattle.script_machine.specs.Late.{usedAfter}
+use Rattle.script_machine.specs.Machine.{newMachine, picOutcome, performed}
+use Rattle.script_machine.specs.Run.{callsFrom, afterCalls}
 use Rattle.script_theorems.specs.Runs.{inTime}
 use Rattle.script_theorems.specs.Pairs.{ruleChosen, PairRule, pairAfter, PairKeeps, SlaveHeardInScripts}
 use Rattle.script_theorems.proofs.Calls.{keeps-others, picCall, as-call, later}

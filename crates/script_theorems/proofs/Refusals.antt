@@ -8,9 +8,9 @@ use Rattle.types.specs.Reply.{Outcome, replyNumber}
 use Rattle.types.specs.declared.Reply.{Reply}
 use Rattle.types.specs.declared.Reply.the-variants as reply
 use Rattle.vioapic.specs.declared.EmulatedIoApic.{EmulatedIoApic}
-use Rattle.heard.proofs.Keeps.{refused-keeps}
+use Rattle.vioapic_theorems.proofs.Keeps.{refused-keeps}
 use Rattle.vpic.specs.declared.pair.EmulatedPic.{EmulatedPic}
-use Rattle.vpic_claims.proofs.Calls.{refused-unchanged}
+use Rattle.vpic_theorems.proofs.Calls.{refused-unchanged}
 use Rattle.vlapic.specs.declared.VirtualApicRegs.{VirtualApicRegs}
 use Rattle.vlapic.specs.Priority.{findIsrv, broadcasts, acceptInterrupt, endOf, handleEoi}
 use Rattle.vlapic.specs.Answers.{done}
@@ -18,13 +18,13 @@ use Rattle.vlapic.specs.Calls as vlapic
 use Rattle.vlapic.specs.Regs.{withCommand}
 use Rattle.vlapic_theorems.specs.Refusals as local
 use Rattle.vlapic_theorems.proofs.Refusals.{writes, setups}
-use Rattle.fields.specs.declared.PicCall.{PicCall}
-use Rattle.fields.specs.declared.ApicCall.{ApicCall}
-use Rattle.fields.specs.declared.ApicCall.the-variants as apic
-use Rattle.fields.specs.declared.Call.{Call}
-use Rattle.fields.specs.declared.Call.the-variants.{Io, IoVersion, Pic, PicRule, Apic}
-use Rattle.scripts.specs.declared.Machine.{Machine}
-use Rattle.scripts.specs.Machine.{usedIo, usedPic, ioCall, picOutcome, apicOutcome, onApic, withVcpus, setUpBy, setUp, performed}
+use Rattle.script_format.specs.declared.PicCall.{PicCall}
+use Rattle.script_format.specs.declared.ApicCall.{ApicCall}
+use Rattle.script_format.specs.declared.ApicCall.the-variants as apic
+use Rattle.script_format.specs.declared.Call.{Call}
+use Rattle.script_format.specs.declared.Call.the-variants.{Io, IoVersion, Pic, PicRule, Apic}
+use Rattle.script_machine.specs.declared.Machine.{Machine}
+use Rattle.script_machine.specs.Machine.{usedIo, usedPic, ioCall, picOutcome, apicOutcome, onApic, withVcpus, setUpBy, setUp, performed}
 use Rattle.script_theorems.proofs.Calls.{picCall, as-call}
 use Rattle.script_theorems.specs.Refusals.{isCommand, withWordsOf, having, Kept, RefusedUnchanged}
 

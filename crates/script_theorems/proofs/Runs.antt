@@ -10,24 +10,24 @@ use lib.Dec.{leb, ltb}
 use lib.ListN.{length, getD}
 use borrow.Author.Tests.{le-leb, leb-true, ltb-false}
 use Rattle.types.specs.declared.Reply.{Reply}
-use Rattle.fields.specs.declared.Call.{Call}
-use Rattle.fields.specs.declared.Call.the-variants.{Io, IoVersion, Pic, PicRule, Apic}
-use Rattle.fields.specs.declared.Body.{Body}
-use Rattle.fields.specs.declared.Body.the-variants.{Says, Malformed}
-use Rattle.fields.specs.declared.Cursor.{Cursor}
-use Rattle.fields.specs.declared.Field.{Field}
-use Rattle.fields.specs.declared.Field.the-variants.{Good, Bad, End}
-use Rattle.fields.specs.Format.{decoded}
-use Rattle.fields.specs.Fields.{endAt, bodyAt, fieldOf, fieldAt}
-use Rattle.scripts.specs.declared.Used.{Used}
-use Rattle.scripts.specs.declared.Machine.{Machine}
-use Rattle.scripts.specs.declared.Run.{Run}
-use Rattle.scripts.specs.declared.Stop.{Stop}
-use Rattle.scripts.specs.declared.Stop.the-variants as stop
-use Rattle.scripts.specs.Late.{isLate, usedAfter, taken, fieldFor}
-use Rattle.scripts.specs.Machine.{unused, newMachine, performed}
-use Rattle.scripts.specs.Run.{byField, fieldCount, placeAfter, stopAfter, callsFrom, afterCalls, replies, runOf}
-use Rattle.scripts.proofs.Runs.{remembers}
+use Rattle.script_format.specs.declared.Call.{Call}
+use Rattle.script_format.specs.declared.Call.the-variants.{Io, IoVersion, Pic, PicRule, Apic}
+use Rattle.script_format.specs.declared.Body.{Body}
+use Rattle.script_format.specs.declared.Body.the-variants.{Says, Malformed}
+use Rattle.script_format.specs.declared.Cursor.{Cursor}
+use Rattle.script_format.specs.declared.Field.{Field}
+use Rattle.script_format.specs.declared.Field.the-variants.{Good, Bad, End}
+use Rattle.script_format.specs.Format.{decoded}
+use Rattle.script_format.specs.Fields.{endAt, bodyAt, fieldOf, fieldAt}
+use Rattle.script_machine.specs.declared.Used.{Used}
+use Rattle.script_machine.specs.declared.Machine.{Machine}
+use Rattle.script_machine.specs.declared.Run.{Run}
+use Rattle.script_machine.specs.declared.Stop.{Stop}
+use Rattle.script_machine.specs.declared.Stop.the-variants as stop
+use Rattle.script_machine.specs.Late.{isLate, usedAfter, taken, fieldFor}
+use Rattle.script_machine.specs.Machine.{unused, newMachine, performed}
+use Rattle.script_machine.specs.Run.{byField, fieldCount, placeAfter, stopAfter, callsFrom, afterCalls, replies, runOf}
+use Rattle.script_machine.proofs.Runs.{remembers}
 use Rattle.script_theorems.specs.Runs.{Counted, Together, InTwo, answersOf, AnsweredInTwo, bars, barred, Remembered, LateIsBad, inTime, InTime, Within, Beyond, Ended, Ends}
 
 -- ---- the count

@@ -20,14 +20,14 @@ use Rattle.vlapic_icr.specs.Icr as icr
 use Rattle.vlapic.specs.Priority as priority
 use Rattle.vlapic.specs.Registers as registers
 use Rattle.vlapic.specs.Calls as vlapic
-use Rattle.fields.specs.declared.IoCall.the-variants as io
-use Rattle.fields.specs.declared.PicCall.the-variants as pic
-use Rattle.fields.specs.declared.ApicCall.the-variants as apic
-use Rattle.fields.specs.declared.Call.{Call}
-use Rattle.fields.specs.declared.Call.the-variants.{Io, IoVersion, Pic, PicRule, Apic}
-use Rattle.scripts.specs.declared.Machine.{Machine}
-use Rattle.scripts.specs.Machine.{newMachine, setUp, performed}
-use Rattle.scripts.specs.Run.{afterCalls, replies}
+use Rattle.script_format.specs.declared.IoCall.the-variants as io
+use Rattle.script_format.specs.declared.PicCall.the-variants as pic
+use Rattle.script_format.specs.declared.ApicCall.the-variants as apic
+use Rattle.script_format.specs.declared.Call.{Call}
+use Rattle.script_format.specs.declared.Call.the-variants.{Io, IoVersion, Pic, PicRule, Apic}
+use Rattle.script_machine.specs.declared.Machine.{Machine}
+use Rattle.script_machine.specs.Machine.{newMachine, setUp, performed}
+use Rattle.script_machine.specs.Run.{afterCalls, replies}
 
 pub record Example : Type 0 where
   pub number : ℕ

@@ -11,17 +11,17 @@ use Rattle.types.specs.declared.Reply.the-variants.{Two}
 use Rattle.vioapic.specs.declared.EmulatedIoApic.{EmulatedIoApic}
 use Rattle.vioapic.specs.Table.{isNew}
 use Rattle.vioapic.specs.Calls as ioapic
-use Rattle.heard.specs.Rules.{ChipRules}
-use Rattle.heard.specs.Sends.{sent, sends, eois, lowerInFlight}
-use Rattle.heard.specs.Premises.{throughout, demanded}
-use Rattle.heard.specs.Heard20.{eoisAt, heldUp}
-use Rattle.fields.specs.declared.IoCall.the-variants.{SetGsiLevel}
-use Rattle.fields.specs.declared.Call.{Call}
-use Rattle.fields.specs.declared.Call.the-variants.{Io, IoVersion, Pic, PicRule, Apic}
-use Rattle.scripts.specs.declared.Used.{Used}
-use Rattle.scripts.specs.declared.Machine.{Machine}
-use Rattle.scripts.specs.Machine.{newMachine, ioCall, chosen, performed}
-use Rattle.scripts.specs.Run.{callsFrom, afterCalls, runOf}
+use Rattle.vioapic_theorems.specs.Rules.{ChipRules}
+use Rattle.vioapic_theorems.specs.Sends.{sent, sends, eois, lowerInFlight}
+use Rattle.vioapic_theorems.specs.Premises.{throughout, demanded}
+use Rattle.vioapic_theorems.specs.Heard20.{eoisAt, heldUp}
+use Rattle.script_format.specs.declared.IoCall.the-variants.{SetGsiLevel}
+use Rattle.script_format.specs.declared.Call.{Call}
+use Rattle.script_format.specs.declared.Call.the-variants.{Io, IoVersion, Pic, PicRule, Apic}
+use Rattle.script_machine.specs.declared.Used.{Used}
+use Rattle.script_machine.specs.declared.Machine.{Machine}
+use Rattle.script_machine.specs.Machine.{newMachine, ioCall, chosen, performed}
+use Rattle.script_machine.specs.Run.{callsFrom, afterCalls, runOf}
 use Rattle.script_theorems.specs.Runs.{inTime}
 
 -- the I/O APIC's calls among a script's

@@ -7,14 +7,14 @@ use mathlib.Core.Path.{_≡_}
 use Rattle.vpic.specs.declared.pair.PicState.{PicState}
 use Rattle.vpic.specs.Chip.{counts, pendingLine}
 use Rattle.vpic.specs.Pair.{isCascade}
-use Rattle.vpic_claims.specs.Statements.{Keeps}
-use Rattle.vpic_claims.specs.Rule.{Clear, Heard}
-use Rattle.fields.specs.declared.Call.{Call}
-use Rattle.fields.specs.declared.Call.the-variants.{Io, IoVersion, Pic, PicRule, Apic}
-use Rattle.scripts.specs.declared.Used.{Used}
-use Rattle.scripts.specs.declared.Machine.{Machine}
-use Rattle.scripts.specs.Machine.{newMachine}
-use Rattle.scripts.specs.Run.{afterCalls, runOf}
+use Rattle.vpic_theorems.specs.Statements.{Keeps}
+use Rattle.vpic_theorems.specs.Rule.{Clear, Heard}
+use Rattle.script_format.specs.declared.Call.{Call}
+use Rattle.script_format.specs.declared.Call.the-variants.{Io, IoVersion, Pic, PicRule, Apic}
+use Rattle.script_machine.specs.declared.Used.{Used}
+use Rattle.script_machine.specs.declared.Machine.{Machine}
+use Rattle.script_machine.specs.Machine.{newMachine}
+use Rattle.script_machine.specs.Run.{afterCalls, runOf}
 use Rattle.script_theorems.specs.Runs.{inTime}
 
 -- the rule that calls choose: the one of the first of fields 10 to 16, if that is a 16; else it stays

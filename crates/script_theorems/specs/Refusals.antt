@@ -6,12 +6,12 @@ use mathlib.Core.Path.{_≡_}
 use lib.Dec.{eqb}
 use Rattle.types.specs.Reply.{Outcome, replyNumber}
 use Rattle.vlapic.specs.Regs.{withCommand}
-use Rattle.fields.specs.declared.Call.{Call}
-use Rattle.fields.specs.declared.Call.the-variants.{Io, IoVersion, Pic, PicRule, Apic}
-use Rattle.fields.specs.declared.ApicCall.the-variants as apic
-use Rattle.scripts.specs.declared.Machine.{Machine}
-use Rattle.scripts.specs.Late.{usedAfter}
-use Rattle.scripts.specs.Machine.{performed}
+use Rattle.script_format.specs.declared.Call.{Call}
+use Rattle.script_format.specs.declared.Call.the-variants.{Io, IoVersion, Pic, PicRule, Apic}
+use Rattle.script_format.specs.declared.ApicCall.the-variants as apic
+use Rattle.script_machine.specs.declared.Machine.{Machine}
+use Rattle.script_machine.specs.Late.{usedAfter}
+use Rattle.script_machine.specs.Machine.{performed}
 
 -- the call writes the interrupt command register's low word, which is the command
 abbrev pub isCommand : Call → Bool

@@ -6,18 +6,18 @@ use mathlib.Core.Logic.{_⊎_}
 use mathlib.Core.Path.{_≡_}
 use lib.ListN.{length}
 use Rattle.types.specs.declared.Reply.{Reply}
-use Rattle.fields.specs.declared.Call.{Call}
-use Rattle.fields.specs.declared.Call.the-variants.{Io, IoVersion, Pic, PicRule, Apic}
-use Rattle.fields.specs.declared.Cursor.{Cursor}
-use Rattle.fields.specs.declared.Field.the-variants.{Good, Bad}
-use Rattle.fields.specs.Fields.{fieldAt}
-use Rattle.scripts.specs.Late.{isIo, isPic, isLate, usedAfter, fieldFor}
-use Rattle.scripts.specs.Machine.{unused, newMachine}
-use Rattle.scripts.specs.declared.Used.{Used}
-use Rattle.scripts.specs.declared.Machine.{Machine}
-use Rattle.scripts.specs.declared.Run.{Run}
-use Rattle.scripts.specs.declared.Stop.the-variants as stop
-use Rattle.scripts.specs.Run.{fieldCount, placeAfter, callsFrom, afterCalls, replies, runOf}
+use Rattle.script_format.specs.declared.Call.{Call}
+use Rattle.script_format.specs.declared.Call.the-variants.{Io, IoVersion, Pic, PicRule, Apic}
+use Rattle.script_format.specs.declared.Cursor.{Cursor}
+use Rattle.script_format.specs.declared.Field.the-variants.{Good, Bad}
+use Rattle.script_format.specs.Fields.{fieldAt}
+use Rattle.script_machine.specs.Late.{isIo, isPic, isLate, usedAfter, fieldFor}
+use Rattle.script_machine.specs.Machine.{unused, newMachine}
+use Rattle.script_machine.specs.declared.Used.{Used}
+use Rattle.script_machine.specs.declared.Machine.{Machine}
+use Rattle.script_machine.specs.declared.Run.{Run}
+use Rattle.script_machine.specs.declared.Stop.the-variants as stop
+use Rattle.script_machine.specs.Run.{fieldCount, placeAfter, callsFrom, afterCalls, replies, runOf}
 
 -- the number that a run answers is the number of fields read off the bytes, and that many calls were made
 abbrev pub Counted : Type 0

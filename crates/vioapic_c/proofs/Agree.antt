@@ -6,7 +6,7 @@ use mathlib.Core.Path.{_≡_, refl, sym, subst}
 use borrow.Author.Tests.{ltb-true}
 use lib.Dec.{ltb}
 use lib.ListN.{length}
-use Rattle.boundary.specs.Lent.{Lent, Shows, isUp}
+use Rattle.reply_code.specs.Lent.{Lent, Shows, isUp}
 use Rattle.vioapic.proofs.Agree.{new-agrees, calls-agree}
 use Rattle.vioapic.specs.Calls.{Call, AssertGsi, SetGsiLevel, EndOfInterrupt, HandleWrite, outcome}
 use Rattle.vioapic.specs.IoApic.{isVersion}

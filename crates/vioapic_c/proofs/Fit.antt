@@ -14,7 +14,7 @@ use Rattle.types.specs.Counters.{entryIndex}
 use Rattle.types.specs.declared.Gsi.{Gsi}
 use Rattle.types.specs.declared.Vector.{Vector}
 use Rattle.types.specs.declared.Reply.{Reply}
-use Rattle.boundary.specs.Lent.{Fits}
+use Rattle.reply_code.specs.Lent.{Fits}
 use Rattle.vioapic.proofs.ChipLaws.{entry-word-range}
 use Rattle.vioapic.specs.Answers.{routedReply, pendingReply, eoiReply, writtenReply}
 use Rattle.vioapic.specs.IoApic.{goodWidth, assertGsi, setGsiLevel, endOfInterrupt, vectorForGsi, handleRead, handleWrite}

@@ -14,7 +14,7 @@ use Rattle.utils.proofs.Laws.{setOf-same}
 use Rattle.utils.proofs.Search.{first-same}
 use Rattle.types.specs.declared.Vector.{Vector}
 use Rattle.types.specs.Reply.{Outcome}
-use Rattle.boundary.specs.Lent.{replyCode, isUp, Shows}
+use Rattle.reply_code.specs.Lent.{replyCode, isUp, Shows}
 use Rattle.types.specs.declared.Reply.the-variants.{Nothing}
 use Rattle.vioapic.proofs.ChipLaws.{entry-word-range}
 use Rattle.vioapic.proofs.FlightLaws.{put-agrees}

@@ -13,7 +13,7 @@ use Rattle.utils.proofs.Laws.{setOf-next}
 use Rattle.utils.proofs.Walk.{firstOf, first-without, first-lowest, first-empty, first-among, walk, walk-empty, walk-lowest, walk-stages}
 use Rattle.types.specs.declared.Reply.{Reply}
 use Rattle.types.specs.declared.Vector.{Vector}
-use Rattle.boundary.specs.Lent.{replyCode}
+use Rattle.reply_code.specs.Lent.{replyCode}
 use Rattle.vioapic.proofs.FlightLaws.{awaits-flying}
 use Rattle.vioapic.specs.Answers.{isRouted, eoiReply}
 use Rattle.vioapic.specs.Redirection.{remoteIrr, awaits, endEntry20}

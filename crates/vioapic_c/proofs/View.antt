@@ -12,8 +12,8 @@ use borrow.Author.Tests.{eqb-true, eqb-false}
 use lib.Seq.{getD-set-same, getD-set-other}
 use Rattle.utils.specs.Set.{bit}
 use Rattle.utils.proofs.Laws.{bit-cut, same-bits, with-lt, without-le}
-use Rattle.boundary.proofs.Flags.{bit-marked-same, bit-marked-other, marked-kept}
-use Rattle.boundary.specs.Lent.{marked}
+use Rattle.reply_code.proofs.Flags.{bit-marked-same, bit-marked-other, marked-kept}
+use Rattle.reply_code.specs.Lent.{marked}
 use Rattle.vioapic.proofs.FlightLaws.{agrees-at}
 use Rattle.vioapic.specs.IoApic.{withState, chipAt}
 use Rattle.vioapic.specs.Redirection.{remoteIrr}

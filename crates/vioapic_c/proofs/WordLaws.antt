@@ -12,8 +12,8 @@ use Rattle.types.specs.declared.Vector.{Vector}
 use Rattle.types.specs.declared.Refusal.the-variants.{Unsupported, InvalidAddress, OutOfRange}
 use Rattle.types.specs.declared.Reply.{Reply}
 use Rattle.types.specs.declared.Reply.the-variants.{Refused, Nothing, One}
-use Rattle.boundary.proofs.Flags.{marked-kept}
-use Rattle.boundary.specs.Lent.{replyCode, marked, isUp, Lent}
+use Rattle.reply_code.proofs.Flags.{marked-kept}
+use Rattle.reply_code.specs.Lent.{replyCode, marked, isUp, Lent}
 use Rattle.vioapic.specs.Answers.{routedReply, pendingReply, gsiVectorReply}
 use Rattle.vioapic.specs.IoApic.{goodWidth, fits, isVersion, addressRange, vectorForGsi, handleRead}
 use Rattle.vioapic.specs.Redirection.{remoteIrr, awaits, sendEntry, moveLine, endEntry}

@@ -10,7 +10,7 @@ use Rattle.types.specs.declared.Vector.{Vector}
 use Rattle.types.specs.declared.Refusal.the-variants.{Unsupported, InvalidAddress, OutOfRange}
 use Rattle.types.specs.declared.Reply.{Reply}
 use Rattle.types.specs.declared.Reply.the-variants.{Refused, Nothing, One, Two, Three}
-use Rattle.boundary.specs.Lent.{replyCode, Lent, refusing, answering, isUp}
+use Rattle.reply_code.specs.Lent.{replyCode, Lent, refusing, answering, isUp}
 use Rattle.vioapic.specs.Answers.{isRouted, routedReply, pendingReply, eoiReply}
 use Rattle.vioapic.specs.IoApic.{goodWidth, fits, isVersion, addressRange}
 use Rattle.vioapic.specs.Redirection.{awaits, sendEntry, moveLine, endEntry, endEntry20}

@@ -7,7 +7,7 @@ use mathlib.Core.List.{List, [], _∷_, _++_}
 use lib.Dec.{eqb}
 use lib.ListN.{getD, set, replicate}
 use Rattle.utils.specs.Set.{bit}
-use Rattle.boundary.specs.Lent.{marked}
+use Rattle.reply_code.specs.Lent.{marked}
 use Rattle.vioapic.specs.Redirection.{remoteIrr}
 use Rattle.vioapic.specs.Table.{Agrees}
 use Rattle.vioapic.specs.declared.redirection.Entry.{Entry}

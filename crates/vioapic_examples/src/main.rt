@@ -11,9 +11,9 @@ const IOWIN: u64 = 0xfec0_0010;
 
 // A line: what was done, the reply's number, and its values or `-`.
 fn say(what: &[u8], reply: Reply) {
-    show::print_text(what);
-    show::print_text(b": ");
-    show::print_reply(reply);
+    reply_text::print_text(what);
+    reply_text::print_text(b": ");
+    reply_text::print_reply(reply);
 }
 
 fn select(chip: EmulatedIoApic, register: u64) -> EmulatedIoApic {
@@ -111,16 +111,16 @@ fn example_6() {
 }
 
 fn main() {
-    show::print_text(b"example 1\n");
+    reply_text::print_text(b"example 1\n");
     example_1();
-    show::print_text(b"example 2\n");
+    reply_text::print_text(b"example 2\n");
     example_2();
-    show::print_text(b"example 3\n");
+    reply_text::print_text(b"example 3\n");
     example_3();
-    show::print_text(b"example 4\n");
+    reply_text::print_text(b"example 4\n");
     example_4();
-    show::print_text(b"example 5\n");
+    reply_text::print_text(b"example 5\n");
     example_5();
-    show::print_text(b"example 6\n");
+    reply_text::print_text(b"example 6\n");
     example_6();
 }

@@ -14,7 +14,7 @@ use Rattle.vlapic_regs.specs.Lvt.{lvtTimer, lvtError, lvtPin, lvtMonitor}
 use Rattle.vlapic.specs.declared.VirtualApicRegs.{VirtualApicRegs}
 use Rattle.vlapic.specs.Regs.{start, withError}
 use Rattle.vlapic.specs.Registers.{topByte, modelBits, stored}
-use Rattle.boundary.specs.Lent.{isUp}
+use Rattle.reply_code.specs.Lent.{isUp}
 use Rattle.vlapic_c.specs.Words.{word, wordsFrom, eight, view, put, putRegs, singles}
 use Rattle.vlapic_c.proofs.Runs.{put-at, put-other, put-length}
 use Rattle.vlapic_c.proofs.View.{cut, cut-small}

@@ -12,8 +12,8 @@ use Rattle.types.specs.declared.Refusal.{Refusal}
 use Rattle.types.specs.declared.Reply.{Reply}
 use Rattle.types.specs.declared.Reply.the-variants.{Refused, Nothing, One, Two, Three}
 use Rattle.types.specs.Reply.{Outcome}
-use Rattle.boundary.specs.Lent.{replyCode, Lent, Fits, Shows}
-use Rattle.boundary.proofs.Codes.{code-same}
+use Rattle.reply_code.specs.Lent.{replyCode, Lent, Fits, Shows}
+use Rattle.reply_code.proofs.Codes.{code-same}
 use Rattle.types.specs.declared.VcpuId.{VcpuId}
 use Rattle.types.specs.declared.Vector.{Vector}
 use Rattle.types.specs.declared.Refusal.the-variants.{InvalidDelivery}

@@ -25,7 +25,7 @@ use Rattle.vlapic.specs.Registers.{isStored, writeStored}
 use Rattle.vlapic.specs.Calls.{outOfRange, setup, answered, icrWidth, icrHigh, writeIcr, writeIcrLow, writeSelfIpi, handleWrite}
 use Rattle.vlapic.proofs.Range.{in-range}
 use Rattle.vlapic.proofs.Width.{icr-right, icr-wrong}
-use Rattle.boundary.specs.Lent.{isUp, Shows}
+use Rattle.reply_code.specs.Lent.{isUp, Shows}
 use Rattle.vlapic_c.specs.Words.{word, eight, view, put, putRegs}
 use Rattle.vlapic_c.specs.Calls.{newWords, setupWords, endedWords, ShowsSent, wholeSent, commandIn, icrAnswered, icrSent, writeWords}
 use Rattle.vlapic_c.proofs.Runs.{put-at, put-other, put-length, from-other}

@@ -15,7 +15,7 @@ use Rattle.vlapic_icr.specs.Fields.{idle}
 use Rattle.vlapic_icr.specs.Icr.{command}
 use Rattle.vlapic.specs.Priority.{priority, broadcast, handleEoi}
 use Rattle.vlapic.specs.Calls.{outOfRange, icrWidth, icrHigh, handleWrite}
-use Rattle.boundary.specs.Lent.{replyCode, isUp}
+use Rattle.reply_code.specs.Lent.{replyCode, isUp}
 use Rattle.vlapic_c.specs.Words.{word, eight, view}
 use Rattle.vlapic_c.specs.Calls.{leaving, highestBelow, served, markedIn, ranked, acceptWords, endedWords, eoiWords, Sent, sending, sentBy, wholeSent, icrAnswered, icrSent, writeWords}
 use Rattle.vlapic_c.proofs.Search.{next}

@@ -21,7 +21,7 @@ use Rattle.vlapic.specs.declared.VirtualApicRegs.{VirtualApicRegs}
 use Rattle.vlapic.specs.Regs.{start, servicing, commanding}
 use Rattle.vlapic.specs.Priority.{priority, updatePpr, acceptInterrupt, handleEoi}
 use Rattle.vlapic.specs.Calls.{outOfRange}
-use Rattle.boundary.specs.Lent.{isUp, marked, Shows}
+use Rattle.reply_code.specs.Lent.{isUp, marked, Shows}
 use Rattle.vlapic_c.specs.Words.{word, wordsFrom, eight, view, put, putRegs, singles}
 use Rattle.vlapic_c.specs.Calls.{served, markedIn, ranked, acceptWords, endedWords, eoiWords}
 use Rattle.vlapic_c.proofs.Runs.{at-from, from-other, from-set}

@@ -24,7 +24,7 @@ use Rattle.vlapic_icr.specs.declared.IcrAnswer.{IcrAnswer}
 use Rattle.vlapic_icr.specs.declared.IcrAnswer.the-variants as icr
 use Rattle.vlapic_icr.specs.Fields.{idle}
 use Rattle.vlapic_icr.specs.Icr.{command}
-use Rattle.boundary.specs.Lent.{replyCode, isUp, marked, Lent, refusing, answering}
+use Rattle.reply_code.specs.Lent.{replyCode, isUp, marked, Lent, refusing, answering}
 use Rattle.vlapic_c.specs.Words.{word, eight, view, put, putRegs}
 
 -- the words after a call and its code

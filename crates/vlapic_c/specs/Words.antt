@@ -5,7 +5,7 @@ use mathlib.Core.List.{List, [], _∷_}
 use lib.ListN.{getD, set}
 use Rattle.types.specs.Reply.{flag}
 use Rattle.vlapic.specs.declared.VirtualApicRegs.{VirtualApicRegs}
-use Rattle.boundary.specs.Lent.{isUp}
+use Rattle.reply_code.specs.Lent.{isUp}
 
 -- ---- read
 

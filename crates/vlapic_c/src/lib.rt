@@ -7,7 +7,7 @@ ghost use mathlib.Core.Bool.{false};
 ghost use mathlib.Core.List.{[], _∷_};
 ghost use lib.ListN.{set};
 ghost use Rattle.vlapic_regs.specs.Vectors.{inWords};
-ghost use Rattle.boundary.specs.Lent.{marked};
+ghost use Rattle.reply_code.specs.Lent.{marked};
 ghost use Rattle.vlapic.specs.Answers.{writeReply};
 ghost use Rattle.vlapic.specs.Priority.{priority};
 ghost use Rattle.vlapic.specs.Calls.{handleWrite};
@@ -62,7 +62,7 @@ fn take(words: &[u64; 48]) -> VirtualApicRegs
     let tmr = eight(words, TMR);
     let irr = eight(words, IRR);
     VirtualApicRegs {
-        x2apic: boundary::is_up(words[0]),
+        x2apic: reply_code::is_up(words[0]),
         vapic_id: word(words, 1),
         tpr: word(words, 2),
         ppr: word(words, 3),
@@ -270,11 +270,11 @@ pub extern "C" fn sillwander_lapic_setup(
     ensures { λ r. ⌜ leaving (now (words .exit)) r ≡ setupWords (now (words .entry)) x2apic «vcpu_id» «vcpu_num» ⌝ }
 {
     let regs = take(&*words);
-    let w = regs.setup(boundary::is_up(x2apic), VcpuId(vcpu_id), vcpu_num);
+    let w = regs.setup(reply_code::is_up(x2apic), VcpuId(vcpu_id), vcpu_num);
     let after = w.regs;
     let answer = w.answer;
     put_unless(&mut *words, after, answer);
-    boundary::code(answer.reply())
+    reply_code::code(answer.reply())
 }
 
 #[no_mangle]
@@ -286,11 +286,11 @@ pub extern "C" fn sillwander_lapic_accept_interrupt(
     ensures { λ r. ⌜ leaving (now (words .exit)) r ≡ acceptWords (now (words .entry)) vector «level_triggered» ⌝ }
 {
     if vector > 255 {
-        return boundary::code(Reply::Refused(Refusal::OutOfRange));
+        return reply_code::code(Reply::Refused(Refusal::OutOfRange));
     }
     let v = vector as u8;
     mark(&mut *words, ISR, v, true);
-    mark(&mut *words, TMR, v, boundary::is_up(level_triggered));
+    mark(&mut *words, TMR, v, reply_code::is_up(level_triggered));
     let isrv = find_isrv(&*words);
     rank(&mut *words, isrv);
     0
@@ -307,7 +307,7 @@ pub extern "C" fn sillwander_lapic_handle_eoi(words: &mut [u64; 48]) -> u64
     let is_told = vlapic::is_broadcast(has(&*words, TMR, vector), word(&*words, 6));
     end(&mut *words, vector);
     if is_told {
-        return boundary::code(Reply::One(vector as u64));
+        return reply_code::code(Reply::One(vector as u64));
     }
     0
 }
@@ -317,7 +317,7 @@ pub extern "C" fn sillwander_lapic_handle_read(words: &[u64; 48], offset: u64) -
     ensures { λ r. ⌜ r ≡ readCode (now (words .entry)) offset ⌝ }
 {
     let regs = take(words);
-    boundary::code(regs.handle_read(offset).reply())
+    reply_code::code(regs.handle_read(offset).reply())
 }
 
 // A write's answer as a code; of an IPI the mask goes to `ipi`.
@@ -328,9 +328,9 @@ fn sent(answer: WriteAnswer, ipi: &mut [u64; 1]) -> u64
         WriteAnswer::Done => 0,
         WriteAnswer::Ipi { kind, vector, mask } => {
             ipi[0] = mask;
-            boundary::code(Reply::Two(kind as u64, vector.0 as u64))
+            reply_code::code(Reply::Two(kind as u64, vector.0 as u64))
         }
-        WriteAnswer::Refused(why) => boundary::code(Reply::Refused(why)),
+        WriteAnswer::Refused(why) => reply_code::code(Reply::Refused(why)),
     }
 }
 
@@ -356,7 +356,7 @@ fn write_icr(
     requires { ⌜ («vcpu_num» ≤ 64) × (word (now words) 1 ≤ 63) ⌝ }
     ensures { λ r. ⌜ sending (now (words .exit)) (now (ipi .exit)) r ≡ icrSent (now (words .entry)) (now (ipi .entry)) value width «vcpu_num» «active_vcpus» ⌝ }
 {
-    let x2apic = boundary::is_up(words[0]);
+    let x2apic = reply_code::is_up(words[0]);
     if vlapic::is_icr_width(x2apic, width) {
         let lo = vlapic_icr::fields::idle((value % 0x1_0000_0000) as u32);
         let hi = vlapic::icr_high(x2apic, value, word(&*words, 10));
@@ -376,7 +376,7 @@ fn write_icr(
             &mut *ipi,
         );
     }
-    boundary::code(Reply::Refused(Refusal::InvalidRegister))
+    reply_code::code(Reply::Refused(Refusal::InvalidRegister))
 }
 
 // What becomes of a command.
@@ -392,9 +392,9 @@ fn answer(words: &mut [u64; 48], answer: IcrAnswer, ipi: &mut [u64; 1]) -> u64
         }
         IcrAnswer::Ipi { kind, vector, mask } => {
             ipi[0] = mask;
-            boundary::code(Reply::Two(kind as u64, vector.0 as u64))
+            reply_code::code(Reply::Two(kind as u64, vector.0 as u64))
         }
-        IcrAnswer::Refused(why) => boundary::code(Reply::Refused(why)),
+        IcrAnswer::Refused(why) => reply_code::code(Reply::Refused(why)),
     }
 }
 
@@ -431,10 +431,10 @@ pub extern "C" fn sillwander_lapic_handle_write(
     ensures { λ r. ⌜ sending (now (words .exit)) (now (ipi .exit)) r ≡ writeWords (now (words .entry)) (now (ipi .entry)) offset value width «vcpu_num» «active_vcpus» ⌝ }
 {
     if width > 255 {
-        return boundary::code(Reply::Refused(Refusal::InvalidRegister));
+        return reply_code::code(Reply::Refused(Refusal::InvalidRegister));
     }
     if vlapic::is_out_of_range(vcpu_num, word(&*words, 1) as usize) {
-        return boundary::code(Reply::Refused(Refusal::OutOfRange));
+        return reply_code::code(Reply::Refused(Refusal::OutOfRange));
     }
     match offset {
         vlapic::consts::EOI => {

@@ -22,13 +22,13 @@ fn write(regs: VirtualApicRegs, offset: u64, val: u64) -> VirtualApicRegs {
 }
 
 fn show_read(regs: VirtualApicRegs, offset: u64) {
-    show::print_reply(regs.handle_read(offset).reply());
+    reply_text::print_reply(regs.handle_read(offset).reply());
 }
 
 fn show_eoi(regs: VirtualApicRegs) -> VirtualApicRegs {
     let step = regs.handle_eoi();
     let answer = step.answer;
-    show::print_reply(answer.reply());
+    reply_text::print_reply(answer.reply());
     let next = step.regs;
     next
 }
@@ -36,18 +36,18 @@ fn show_eoi(regs: VirtualApicRegs) -> VirtualApicRegs {
 // TPR written, then 0x31 accepted, level-triggered: PPR. Then an EOI.
 fn priority(tpr: u64) {
     let regs = write(VirtualApicRegs::new(), TPR, tpr).accept_interrupt(Vector(0x31), true);
-    show::print_text(b"10 PPR ");
+    reply_text::print_text(b"10 PPR ");
     show_read(regs, PPR);
-    show::print_text(b"10 EOI ");
+    reply_text::print_text(b"10 EOI ");
     show_eoi(regs);
 }
 
 // 0x1f accepted, and an EOI: it is in service still.
 fn unseen() {
     let regs = VirtualApicRegs::new().accept_interrupt(Vector(0x1f), false);
-    show::print_text(b"11 EOI ");
+    reply_text::print_text(b"11 EOI ");
     let next = show_eoi(regs);
-    show::print_text(b"11 ISR ");
+    reply_text::print_text(b"11 ISR ");
     show_read(next, ISR);
 }
 
@@ -56,12 +56,12 @@ fn illegal() {
     let written = VirtualApicRegs::new().handle_write(ICR_LOW, 15, 4, 1, 1);
     let answer = written.answer;
     let regs = written.regs;
-    show::print_text(b"12 ICR ");
-    show::print_reply(answer.reply());
-    show::print_text(b"12 ESR ");
+    reply_text::print_text(b"12 ICR ");
+    reply_text::print_reply(answer.reply());
+    reply_text::print_text(b"12 ESR ");
     show_read(regs, ESR);
     let shown = write(regs, ESR, 0);
-    show::print_text(b"12 ESR ");
+    reply_text::print_text(b"12 ESR ");
     show_read(shown, ESR);
 }
 

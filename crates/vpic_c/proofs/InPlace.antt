@@ -11,7 +11,7 @@ use Rattle.types.specs.declared.PicLine.{PicLine}
 use Rattle.types.specs.declared.Reply.the-variants as reply
 use Rattle.vpic.specs.declared.chip.PicChip.{PicChip}
 use Rattle.vpic.specs.Chip.{nonSpecificEoi, withRequest, withInService, pulsed, asks, driven, acknowledged, unacknowledged, commanded, commandRead}
-use Rattle.boundary.specs.Lent.{replyCode}
+use Rattle.reply_code.specs.Lent.{replyCode}
 use Rattle.vpic_c.specs.Words.{chipIn, withChip}
 use Rattle.vpic_c.proofs.Packing.{Bytes, bytes-in, with-same, with-request, without-request, with-service, without-service}
 

@@ -25,8 +25,8 @@ use Rattle.vpic.specs.declared.pair.PicValue.{PicValue}
 use Rattle.vpic.specs.Chip.{opened, acknowledged, commandRead, vectorReply}
 use Rattle.vpic.specs.Pair.{newState, isRule, newRule, pic, grew, refused, latchedAt, latched, masterClaim, slaveClaim, claimAt, pendingPlace, claimPending, claimIrq, claimReply, claimVector, valueReply, withClaim, withVector, restoredAt, restored, restoreInterrupt, portRead, isPort, writtenAt, portWritten, handleRead, handleWrite}
 use Rattle.vpic.proofs.PairLaws.{Ready, pending-ready}
-use Rattle.boundary.specs.Lent.{Lent, replyCode, refusing, Shows, Fits}
-use Rattle.boundary.proofs.Codes.{code-same}
+use Rattle.reply_code.specs.Lent.{Lent, replyCode, refusing, Shows, Fits}
+use Rattle.reply_code.proofs.Codes.{code-same}
 use Rattle.vpic_c.specs.Words.{ruleIn, view}
 use Rattle.vpic_c.specs.Calls.{line, after, newPair, newWords, claimWith, isClaim, claimIrqWords, claimPendingWords, pulseIrqWords, nextInterruptWords, restoreWords, readWords, writeWords}
 use Rattle.vpic_c.proofs.Packing.{Bytes}

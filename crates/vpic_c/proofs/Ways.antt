@@ -33,7 +33,7 @@ use Rattle.vpic.specs.Chip.{pulsed, asks, driven, pendingLine, pendingIrq, pend
 use Rattle.vpic.specs.Pair.{newState, isRule, portRanges, chips, pic, isCascade, settled, grew, cascadeIrq, latched, latchedAt, masterClaim, slaveClaim, pendingPlace, claimAt, claimPending, claimIrq, claimFlags, claimReply, claimVector, withClaim, withVector, restoredAt, restored, portRead, isPort, writtenAt, portWritten, valueReply}
 use Rattle.vpic.proofs.ChipLaws.{Pending, pending-none}
 use Rattle.vpic.proofs.PairLaws.{place-nowhere, place-master, place-cascade, place-slave, ready-master, ready-slave}
-use Rattle.boundary.specs.Lent.{Lent, replyCode}
+use Rattle.reply_code.specs.Lent.{Lent, replyCode}
 use Rattle.vpic_c.specs.Words.{chipIn, wordOf, withChip, isCascadeIn, ruleIn, view, put}
 use Rattle.vpic_c.specs.Calls.{lent, line, after, newPair, newWords, masterTaken, slaveTaken, rangeWords, claimIrqWords, claimPendingWords, pulseIrqWords, nextInterruptWords, claimWith, isClaim, restoreWords, readWords, writeWords}
 use Rattle.vpic_c.proofs.Packing.{bytes-in, chip-back, with-with, with-same}

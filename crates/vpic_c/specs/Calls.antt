@@ -12,7 +12,7 @@ use Rattle.vpic.specs.declared.pair.EmulatedPic.{EmulatedPic}
 use Rattle.vpic.specs.declared.pair.PicInterruptClaim.{PicInterruptClaim}
 use Rattle.vpic.specs.Chip.{acknowledged}
 use Rattle.vpic.specs.Pair.{newState, isRule, portRanges, chips, masterClaim, slaveClaim, claimReply, claimIrq, claimPending, withClaim, withVector, restoreInterrupt, handleRead, handleWrite}
-use Rattle.boundary.specs.Lent.{Lent, replyCode, refusing, answering}
+use Rattle.reply_code.specs.Lent.{Lent, replyCode, refusing, answering}
 use Rattle.vpic_c.specs.Words.{wordOf, view, put}
 
 abbrev pub lent : List ℕ → ℕ → Lent

@@ -17,7 +17,7 @@ fn main() {
     example_7(RULE_LATCH);
     example_8(RULE_LATCH);
     example_9();
-    show::print_text(b"by rule 1\n");
+    reply_text::print_text(b"by rule 1\n");
     example_7(RULE_CASCADE);
     example_8(RULE_CASCADE);
 }
@@ -41,8 +41,8 @@ fn eoi_both(pic: EmulatedPic) -> EmulatedPic {
 }
 
 fn print_claim(name: &[u8], claim: PicClaim) {
-    show::print_text(name);
-    show::print_reply(claim.reply());
+    reply_text::print_text(name);
+    reply_text::print_reply(claim.reply());
 }
 
 fn claim(name: &[u8], pic: EmulatedPic, line: u8) -> EmulatedPic {
@@ -64,8 +64,8 @@ fn claim_pending(name: &[u8], pic: EmulatedPic) -> EmulatedPic {
 fn read(name: &[u8], pic: EmulatedPic, port: u16) {
     let seen = pic.handle_read(port, 1);
     let value = seen.value;
-    show::print_text(name);
-    show::print_reply(value.reply());
+    reply_text::print_text(name);
+    reply_text::print_reply(value.reply());
 }
 
 fn example_7(rule: u8) {
@@ -89,8 +89,8 @@ fn example_8(rule: u8) {
     let restored = after.restore_interrupt(taken);
     let done = restored.done;
     let pic = restored.pic;
-    show::print_text(b"8 restore: ");
-    show::print_reply(done.reply());
+    reply_text::print_text(b"8 restore: ");
+    reply_text::print_reply(done.reply());
     read(b"8 requests: ", pic, MASTER_COMMAND);
     read(
         b"8 in service: ",

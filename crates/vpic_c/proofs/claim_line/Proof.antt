@@ -5,7 +5,7 @@ use Rattle.vpic_c.proofs.claim_line.Statement.{statement}
 use Rattle.vpic_c.proofs.claim_line.Tie as tie
 use Rattle.vpic_c.proofs.claim_line.Reads as reads
 use Rattle.vpic_c.proofs.claim_line.Lts as lts
-use Rattle.boundary.proofs.code.Reads as code-reads
+use Rattle.reply_code.proofs.code.Reads as code-reads
 use Rattle.vpic_c.proofs.claim.Reads as claim-reads
 use Rattle.vpic_c.proofs.latch.Reads as latch-reads
 use Rattle.vpic_c.proofs.seen.Reads as seen-reads

@@ -1,5 +1,5 @@
 use mathlib.Core.Path.{ap, _∙_}
-use Rattle.boundary.specs.Lent.{replyCode}
+use Rattle.reply_code.specs.Lent.{replyCode}
 use borrow.Author.Needs.{needs}
 use Rattle.vpic_c.proofs.claimed.Statement.{statement}
 use Rattle.vpic_c.proofs.claimed.Tie as tie

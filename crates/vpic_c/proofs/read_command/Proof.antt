@@ -4,7 +4,7 @@ use Rattle.vpic_c.proofs.read_command.Statement.{statement}
 use Rattle.vpic_c.proofs.read_command.Tie as tie
 use Rattle.vpic_c.proofs.read_command.Reads as reads
 use Rattle.vpic_c.proofs.read_command.Lts as lts
-use Rattle.boundary.proofs.code.Reads as code-reads
+use Rattle.reply_code.proofs.code.Reads as code-reads
 use Rattle.vpic.proofs.chip.PicChip.read_command.Reads as read-command-reads
 use Rattle.vpic_c.proofs.chip_of.Reads as chip-of-reads
 

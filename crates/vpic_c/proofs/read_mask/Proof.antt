@@ -4,7 +4,7 @@ use Rattle.vpic_c.proofs.read_mask.Statement.{statement}
 use Rattle.vpic_c.proofs.read_mask.Tie as tie
 use Rattle.vpic_c.proofs.read_mask.Reads as reads
 use Rattle.vpic_c.proofs.read_mask.Lts as lts
-use Rattle.boundary.proofs.code.Reads as code-reads
+use Rattle.reply_code.proofs.code.Reads as code-reads
 use Rattle.vpic_c.proofs.chip_of.Reads as chip-of-reads
 
 chip-of-requires : tie.Need-chip-of-requires

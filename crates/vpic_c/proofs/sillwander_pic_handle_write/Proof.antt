@@ -5,7 +5,7 @@ use Rattle.vpic_c.proofs.sillwander_pic_handle_write.Statement.{stateme
 use Rattle.vpic_c.proofs.sillwander_pic_handle_write.Tie as tie
 use Rattle.vpic_c.proofs.sillwander_pic_handle_write.Reads as reads
 use Rattle.vpic_c.proofs.sillwander_pic_handle_write.Lts as lts
-use Rattle.boundary.proofs.code.Reads as code-reads
+use Rattle.reply_code.proofs.code.Reads as code-reads
 use Rattle.vpic_c.proofs.refused.Reads as refused-reads
 use Rattle.vpic_c.proofs.seen.Reads as seen-reads
 use Rattle.vpic_c.proofs.settle.Reads as settle-reads

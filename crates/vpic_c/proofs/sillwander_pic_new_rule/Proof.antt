@@ -5,7 +5,7 @@ use Rattle.vpic_c.proofs.sillwander_pic_new_rule.Statement.{statement}
 use Rattle.vpic_c.proofs.sillwander_pic_new_rule.Tie as tie
 use Rattle.vpic_c.proofs.sillwander_pic_new_rule.Reads as reads
 use Rattle.vpic_c.proofs.sillwander_pic_new_rule.Lts as lts
-use Rattle.boundary.proofs.code.Reads as code-reads
+use Rattle.reply_code.proofs.code.Reads as code-reads
 use Rattle.vpic_c.proofs.is_rule.Reads as is-rule-reads
 use Rattle.vpic_c.proofs.put_new.Reads as put-new-reads
 use Rattle.vpic_c.proofs.refused.Reads as refused-reads

@@ -6,7 +6,7 @@ use Rattle.vpic_c.proofs.sillwander_pic_restore_interrupt.Statement.{st
 use Rattle.vpic_c.proofs.sillwander_pic_restore_interrupt.Tie as tie
 use Rattle.vpic_c.proofs.sillwander_pic_restore_interrupt.Reads as reads
 use Rattle.vpic_c.proofs.sillwander_pic_restore_interrupt.Lts as lts
-use Rattle.boundary.proofs.code.Reads as code-reads
+use Rattle.reply_code.proofs.code.Reads as code-reads
 use Rattle.vpic_c.proofs.is_claim.Reads as is-claim-reads
 use Rattle.vpic_c.proofs.is_usual.Reads as is-usual-reads
 use Rattle.vpic_c.proofs.refused.Reads as refused-reads

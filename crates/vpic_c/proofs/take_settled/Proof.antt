@@ -5,7 +5,7 @@ use Rattle.vpic_c.proofs.take_settled.Statement.{statement}
 use Rattle.vpic_c.proofs.take_settled.Tie as tie
 use Rattle.vpic_c.proofs.take_settled.Reads as reads
 use Rattle.vpic_c.proofs.take_settled.Lts as lts
-use Rattle.boundary.proofs.code.Reads as code-reads
+use Rattle.reply_code.proofs.code.Reads as code-reads
 use Rattle.vpic.proofs.pair.PicState.pending_place.Reads as pending-place-reads
 use Rattle.vpic_c.proofs.claim_slave.Reads as claim-slave-reads
 use Rattle.vpic_c.proofs.is_idle.Reads as is-idle-reads

@@ -1,0 +1,59 @@
+-- A run of a script (document 01, "Scripts"): of the fields from a place on as many as are allowed, up to the first bad one or the end. Which fields that are, how
+-- many, where the next one starts and why the run ends is read off the bytes, and which chips were used before them; the machine is the one after their calls.
+use Prim.Native.Nat.{ℕ, zero, suc, _+_}
+use mathlib.Core.List.{List, [], _∷_}
+use Rattle.script_format.specs.declared.Call.{Call}
+use Rattle.script_format.specs.declared.Field.{Field}
+use Rattle.script_format.specs.declared.Field.the-variants.{Good, Bad, End}
+use Rattle.types.specs.declared.Reply.{Reply}
+use Rattle.script_machine.specs.declared.Used.{Used}
+use Rattle.script_machine.specs.declared.Machine.{Machine}
+use Rattle.script_machine.specs.declared.Stop.{Stop}
+use Rattle.script_machine.specs.declared.Stop.the-variants as stop
+use Rattle.script_machine.specs.declared.Run.{Run}
+use Rattle.script_machine.specs.Late.{usedAfter, fieldFor}
+use Rattle.script_machine.specs.Machine.{performed}
+
+-- what a good field gives, by its call and the place after it; what a bad field gives; what the end gives
+abbrev pub byField : {A : Type 0} → Field → (Call → ℕ → A) → A → A → A
+byField (Good tag call next) good bad end = good call (next .at)
+byField Bad good bad end = bad
+byField End good bad end = end
+
+-- how many fields a run performs from a place on if n are allowed: a field that is performed counts, be its call refused or not, and a bad one doesn't
+unfoldable pub fieldCount : List ℕ → Used → ℕ → ℕ → ℕ
+fieldCount s used at zero = 0
+fieldCount s used at (suc n) = byField (fieldFor s used at) (λ call next. suc (fieldCount s (usedAfter used call) next n)) 0 0
+
+-- where the next field starts: at a bad field that is its tag's place, at the end the length
+unfoldable pub placeAfter : List ℕ → Used → ℕ → ℕ → ℕ
+placeAfter s used at zero = at
+placeAfter s used at (suc n) = byField (fieldFor s used at) (λ call next. placeAfter s (usedAfter used call) next n) at at
+
+-- why the run ends: once the allowance is used up the next field isn't looked at
+unfoldable pub stopAfter : List ℕ → Used → ℕ → ℕ → Stop
+stopAfter s used at zero = stop.Allowance
+stopAfter s used at (suc n) = byField (fieldFor s used at) (λ call next. stopAfter s (usedAfter used call) next n) stop.BadField stop.End
+
+-- the calls of the fields that are performed
+unfoldable pub callsFrom : List ℕ → Used → ℕ → ℕ → List Call
+callsFrom s used at zero = []
+callsFrom s used at (suc n) = byField (fieldFor s used at) (λ call next. call ∷ callsFrom s (usedAfter used call) next n) [] []
+
+-- the machine after calls, and what they say back
+unfoldable pub afterCalls : Machine → List Call → Machine
+afterCalls m [] = m
+afterCalls m (c ∷ cs) = afterCalls (performed m c .state) cs
+
+unfoldable pub replies : Machine → List Call → List Reply
+replies m [] = []
+replies m (c ∷ cs) = performed m c .reply ∷ replies (performed m c .state) cs
+
+-- a run
+abbrev pub runOf : List ℕ → Machine → ℕ → ℕ → Run
+runOf s m at n = record {
+  machine = afterCalls m (callsFrom s (m .used) at n);
+  done = fieldCount s (m .used) at n;
+  next = record { at = placeAfter s (m .used) at n };
+  stop = stopAfter s (m .used) at n;
+}

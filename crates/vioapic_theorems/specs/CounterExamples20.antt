@@ -1,0 +1,50 @@
+-- Version 0x20: what each of its two premises is for, and last spring's story run in both versions. Entries 0 and 1 are level entries of vector 0x30 on a
+-- new chip at address 0; entry 1 is the one that is counted.
+use Prim.Native.Nat.{ℕ, _+_}
+use mathlib.Core.Bool.{true, false}
+use mathlib.Core.List.{List, [], _∷_}
+use mathlib.Core.Path.{_≡_, refl}
+use Rattle.vioapic.specs.Redirection.{sendEntry, raiseEntry, lowerEntry, endEntry, endEntry20, writeLow, writeHigh}
+use Rattle.vioapic.specs.Table.{interruptForEntry, setLevel, firstAwaiting, endOfEntry, endOfEvery, endOf}
+use Rattle.vioapic.specs.Registers.{writeWord, writeSelected, writeEoi, writeAt}
+use Rattle.vioapic.specs.IoApic.{chipOf, assertGsi, setGsiLevel, endOfInterrupt, handleWrite}
+use Rattle.vioapic.specs.Calls.{Call, HandleWrite, outcome, next, run}
+use Rattle.vioapic.specs.Departures.{raise, lower, assert, eoi, select, write}
+use Rattle.vioapic.specs.declared.EmulatedIoApic.{EmulatedIoApic}
+use Rattle.vioapic_theorems.specs.Sends.{sent, sends}
+use Rattle.vioapic_theorems.specs.Premises.{throughout}
+use Rattle.vioapic_theorems.specs.Heard20.{eoisAt, heldUp}
+use Rattle.vioapic_theorems.specs.CounterExamples.{vector, along}
+
+-- the chip of a version after both entries were written
+abbrev pub written : ℕ → EmulatedIoApic
+written version = run (chipOf version 0 0x1000) (select 0x10 ∷ write 0x8030 ∷ select 0x12 ∷ write 0x8030 ∷ [])
+
+-- line 1 goes up and then come some calls: entry 1 is sent once, where demand 3 would say twice
+abbrev pub SentOnce : List Call → Type 0
+SentOnce from = (sends 1 (written 0x20) (raise 1 ∷ from) ≡ 1) × (1 + eoisAt 0 vector from ≡ 2)
+
+-- its line goes down; its low word is changed
+pub counter-examples-20 :
+    (along (heldUp 1) (next (written 0x20) (raise 1)) (lower 1 ∷ eoi 0x30 ∷ []) ≡ false ∷ true ∷ [])
+    × SentOnce (lower 1 ∷ eoi 0x30 ∷ [])
+    × (along (heldUp 1) (next (written 0x20) (raise 1)) (write 0x8031 ∷ eoi 0x30 ∷ []) ≡ true ∷ false ∷ [])
+    × SentOnce (write 0x8031 ∷ eoi 0x30 ∷ [])
+unfolding along run outcome sends sent eoisAt assertGsi setGsiLevel endOfInterrupt handleWrite interruptForEntry setLevel endOfEvery endOf writeWord writeSelected writeEoi writeAt sendEntry raiseEntry lowerEntry endEntry20 writeLow writeHigh
+counter-examples-20 = (refl, (refl, refl), refl, (refl, refl))
+
+-- both lines are up, and three EOIs come, one of them a write of 0x130 to the EOI register
+abbrev pub spring : List Call
+spring = raise 0 ∷ raise 1 ∷ eoi 0x30 ∷ HandleWrite 0x40 4 0x130 ∷ eoi 0x30 ∷ []
+
+-- in version 0x11 the upper entry is sent once, and the lower one again at each EOI, of which the write is none; in version 0x20 both are sent four times
+pub spring-told :
+    (sends 0 (written 0x11) spring ≡ 3) × (sends 1 (written 0x11) spring ≡ 1)
+    × (sends 0 (written 0x20) spring ≡ 4) × (sends 1 (written 0x20) spring ≡ 4)
+unfolding run outcome sends sent setGsiLevel endOfInterrupt handleWrite setLevel firstAwaiting endOfEntry endOfEvery endOf writeWord writeSelected writeEoi writeAt sendEntry raiseEntry endEntry endEntry20 writeLow writeHigh
+spring-told = (refl, refl, refl, refl)
+
+-- and the premises can be met, with the lower line up all the while
+pub premises-met-20 : throughout (heldUp 1) (run (written 0x20) (raise 0 ∷ raise 1 ∷ [])) (eoi 0x30 ∷ HandleWrite 0x40 4 0x130 ∷ assert 0 ∷ eoi 0x30 ∷ []) ≡ true
+unfolding throughout run outcome assertGsi setGsiLevel endOfInterrupt handleWrite interruptForEntry setLevel endOfEvery endOf writeWord writeSelected writeEoi writeAt sendEntry raiseEntry endEntry20 writeLow writeHigh
+premises-met-20 = refl

@@ -1,0 +1,135 @@
+-- Demand 3 in version 0x20, whose EOI reaches every entry in flight with its vector: nothing is asked of other entries. And the cure of last spring's story.
+-- I/O Controller Hub: EOI register (offset 0x40).
+use Prim.Native.Nat.{ℕ, _+_, _%_, _^_, _<_}
+use mathlib.Core.Bool.{Bool, true, false, cond, _&&_}
+use mathlib.Core.List.{List, [], _∷_}
+use mathlib.Core.Path.{_≡_}
+use lib.Dec.{eqb}
+use lib.ListN.{length, replicate}
+use Rattle.types.specs.declared.Gsi.{Gsi}
+use Rattle.types.specs.declared.Vector.{Vector}
+use Rattle.types.specs.declared.Reply.the-variants.{Two}
+use Rattle.vioapic.specs.Redirection.{isFit, awaits}
+use Rattle.vioapic.specs.Table.{isNew, entryAt}
+use Rattle.vioapic.specs.IoApic.{goodWidth, chipOf, setGsiLevel}
+use Rattle.vioapic.specs.Calls.{Call, SetGsiLevel, AssertGsi, EndOfInterrupt, VectorForGsi, AddressRange, HandleRead, HandleWrite, outcome, next, run}
+use Rattle.vioapic.specs.declared.redirection.Entry.{Entry}
+use Rattle.vioapic.specs.declared.EmulatedIoApic.{EmulatedIoApic}
+use Rattle.vioapic_theorems.specs.Rules.{implies, ChipRules}
+use Rattle.vioapic_theorems.specs.Sends.{sent, sends}
+use Rattle.vioapic_theorems.specs.Premises.{always, lineUp, keepsLow, asks, throughout}
+
+-- ---- EOIs by either road
+
+-- the call is an EOI of v to a chip at this address: the call itself, or a served write of the EOI register
+abbrev pub isEoiAt : ℕ → Vector → Call → Bool
+isEoiAt base v (EndOfInterrupt u) = eqb (u .0) (v .0)
+isEoiAt base v (HandleWrite addr width x) = (goodWidth width && eqb addr (base + 0x40)) && eqb (x % 2 ^ 8) (v .0)
+isEoiAt base v (SetGsiLevel h up) = false
+isEoiAt base v (AssertGsi h) = false
+isEoiAt base v (VectorForGsi h) = false
+isEoiAt base v AddressRange = false
+isEoiAt base v (HandleRead addr width) = false
+
+-- how many of the calls are
+unfoldable pub eoisAt : ℕ → Vector → List Call → ℕ
+eoisAt base v [] = 0
+eoisAt base v (c ∷ cs) = cond (isEoiAt base v c) 1 0 + eoisAt base v cs
+
+-- ---- one EOI
+
+-- what an EOI of v sends again: in flight with v (and so level), fit to be sent, and its line is up or something was put off
+abbrev pub again : Vector → Entry → Bool
+again v e = awaits v e && (isFit (e .word) && asks e)
+
+-- from any chip of version 0x20, by either road, for each entry: it is sent exactly if it is such a one; it is in flight with v afterwards exactly if it
+-- was sent; and if it was in flight with v, nothing is put off any more
+abbrev pub EveryEnded : Type 0
+EveryEnded =
+    (m : EmulatedIoApic) (g : ℕ) (v : Vector) (c : Call)
+    → isNew (m .state) ≡ true
+    → g < 24
+    → isEoiAt (m .base) v c ≡ true
+    → (sent g c (outcome m c .reply) ≡ cond (again v (entryAt (m .state) g)) 1 0)
+    × (awaits v (entryAt (next m c .state) g) ≡ again v (entryAt (m .state) g))
+    × (awaits v (entryAt (m .state) g) ≡ true → entryAt (next m c .state) g .«pending_level» ≡ false)
+
+-- ---- demand 3
+
+-- its premises: the line of entry g stays up, and its low word, Remote IRR apart, the same
+abbrev pub heldUp : ℕ → EmulatedIoApic → Call → List Bool
+heldUp g m c = always (lineUp g) m c ∷ keepsLow m c g ∷ []
+
+-- the count: raising line g sends its level entry with vector v, and then come the calls `after`. Entry g is sent, that first time counted, once and
+-- then once more for each EOI of v
+abbrev pub SentEachTime : EmulatedIoApic → Gsi → Vector → List Call → Type 0
+SentEachTime m g v after = sends (g .0) m (SetGsiLevel g true ∷ after) ≡ 1 + eoisAt (m .base) v after
+
+-- from any chip of version 0x20 with 24 entries, and so from any that keeps the rules
+abbrev pub Heard20 : Type 0
+Heard20 =
+    (m : EmulatedIoApic) (g : Gsi) (v : Vector) (after : List Call)
+    → isNew (m .state) ≡ true
+    → length (m .state .entries) ≡ 24
+    → setGsiLevel m g true .reply ≡ Two (v .0) 1
+    → throughout (heldUp (g .0)) (next m (SetGsiLevel g true)) after ≡ true
+    → SentEachTime m g v after
+
+-- after any calls on a new chip of version 0x20
+abbrev pub Demand3Of20 : Type 0
+Demand3Of20 =
+    (base size : ℕ) (before after : List Call) (g : Gsi) (v : Vector)
+    → setGsiLevel (run (chipOf 0x20 base size) before) g true .reply ≡ Two (v .0) 1
+    → throughout (heldUp (g .0)) (next (run (chipOf 0x20 base size) before) (SetGsiLevel g true)) after ≡ true
+    → SentEachTime (run (chipOf 0x20 base size) before) g v after
+
+-- ---- the cure
+
+-- in flight with v (and so level), fit to be sent, and its line is up
+abbrev pub waits : Vector → Entry → Bool
+waits v e = awaits v e && (isFit (e .word) && e .«input_level»)
+
+-- two such entries: one EOI of v, by either road, sends both
+abbrev pub BothSent : Type 0
+BothSent =
+    (m : EmulatedIoApic) (g h : ℕ) (v : Vector) (c : Call)
+    → isNew (m .state) ≡ true
+    → g < 24
+    → h < 24
+    → waits v (entryAt (m .state) g) ≡ true
+    → waits v (entryAt (m .state) h) ≡ true
+    → isEoiAt (m .base) v c ≡ true
+    → (sent g c (outcome m c .reply) ≡ 1) × (sent h c (outcome m c .reply) ≡ 1)
+
+-- whichever of the calls is an EOI of v sends entry g
+abbrev pub sentAtEoi : Vector → ℕ → EmulatedIoApic → Call → Bool
+sentAtEoi v g m c = implies (isEoiAt (m .base) v c) (eqb (sent g c (outcome m c .reply)) 1)
+
+-- and over any calls, while their lines stay up and their low words the same, every EOI of v does
+abbrev pub BothHeard : Type 0
+BothHeard =
+    (m : EmulatedIoApic) (g h : ℕ) (v : Vector) (cs : List Call)
+    → isNew (m .state) ≡ true
+    → length (m .state .entries) ≡ 24
+    → g < 24
+    → h < 24
+    → waits v (entryAt (m .state) g) ≡ true
+    → waits v (entryAt (m .state) h) ≡ true
+    → throughout (heldUp g) m cs ≡ true
+    → throughout (heldUp h) m cs ≡ true
+    → throughout (λ n c. sentAtEoi v g n c ∷ sentAtEoi v h n c ∷ []) m cs ≡ true
+
+-- last spring's story again, in the words of `NeverHeard`: of two entries of one vector both are in flight with their lines up. However many EOIs of the
+-- vector come, and nothing else, each of them sends both
+abbrev pub NeverStarved : Type 0
+NeverStarved =
+    (m : EmulatedIoApic) (h g : ℕ) (v : Vector) (n : ℕ)
+    → isNew (m .state) ≡ true
+    → ChipRules (m .state)
+    → h < g
+    → g < 24
+    → awaits v (entryAt (m .state) h) ≡ true
+    → entryAt (m .state) h .«input_level» ≡ true
+    → awaits v (entryAt (m .state) g) ≡ true
+    → entryAt (m .state) g .«input_level» ≡ true
+    → (sends h m (replicate n (EndOfInterrupt v)) ≡ n) × (sends g m (replicate n (EndOfInterrupt v)) ≡ n)

@@ -1,0 +1,40 @@
+-- A refused call hands back the pair that it was given, whatever it was called with. Assumes nothing.
+use mathlib.Core.Path.{_≡_, refl, sym, ap}
+use mathlib.Core.Bool.{Bool, true, false, cond}
+use Prim.Native.Nat.{ℕ, _%_}
+use lib.Dec.{ltb, eqb}
+use Rattle.types.specs.declared.Refusal.{Refusal}
+use Rattle.types.specs.declared.Refusal.the-variants.{Unsupported, OutOfRange}
+use Rattle.types.specs.declared.Reply.the-variants as reply
+use Rattle.types.specs.Reply.{Outcome, replyNumber}
+use Rattle.vpic.specs.declared.pair.EmulatedPic.{EmulatedPic}
+use Rattle.vpic.specs.declared.pair.PicClaim.{PicClaim}
+use Rattle.vpic.specs.declared.pair.PicClaim.the-variants.{Claimed, Nothing as NoClaim}
+use Rattle.vpic.specs.Chip.{vectorReply}
+use Rattle.vpic.specs.Pair.{isPort, claimReply, claimVector, claimIrq, claimPending, withClaim, withVector, refused}
+use Rattle.vpic_theorems.specs.Statements.{Call, claim-irq, claim-pending-interrupt, pulse-irq, next-interrupt, restore-interrupt, handle-read, handle-write, outcome, RefusedUnchanged}
+
+-- a claim is never refused, and neither is its vector
+claim-done : (c : PicClaim) → replyNumber (claimReply c) ≡ 0
+claim-done (Claimed c) = refl
+claim-done NoClaim = refl
+
+vector-done : (c : PicClaim) → replyNumber (vectorReply (claimVector c)) ≡ 0
+vector-done (Claimed c) = refl
+vector-done NoClaim = refl
+
+-- a test between an outcome that is done and a refusal: where the number isn't 0, it is the refusal
+or-refused : (p : EmulatedPic) (why : Refusal) (b : Bool) (o : Outcome EmulatedPic) → ((replyNumber (o .reply) ≡ 0 → ⊥) → o .state ≡ p)
+    → (replyNumber (cond b o (refused p why) .reply) ≡ 0 → ⊥) → cond b o (refused p why) .state ≡ p
+or-refused p why true o h n = h n
+or-refused p why false o h n = refl
+
+pub refused-unchanged : RefusedUnchanged
+unfolding outcome
+refused-unchanged p (claim-irq l) n = absurd (n (claim-done (claimIrq (p .state) l .claim)))
+refused-unchanged p claim-pending-interrupt n = absurd (n (claim-done (claimPending (p .state) .claim)))
+refused-unchanged p (pulse-irq l) n = absurd (n (vector-done (claimIrq (p .state) l .claim)))
+refused-unchanged p next-interrupt n = absurd (n (vector-done (claimPending (p .state) .claim)))
+refused-unchanged p (restore-interrupt c) n = or-refused p OutOfRange (ltb (c .irq .0) 16) _ (λ m. absurd (m refl)) n
+refused-unchanged p (handle-read port width) n = or-refused p Unsupported (eqb width 1) _ (λ m. refl) n
+refused-unchanged p (handle-write port width value) n = or-refused p Unsupported (eqb width 1) _ (or-refused p Unsupported (isPort port) _ (λ m. absurd (m refl))) n

@@ -1,0 +1,177 @@
+-- A claim that is restored at once gives back the pair as it was, and serves the highest request of each chip. Assumes nothing.
+use mathlib.Core.Path.{_≡_, refl, sym, ap, ap₂, subst, _∙_}
+use mathlib.Core.Bool.{Bool, true, false, cond, not, true≢false}
+use Prim.Native.Nat.{ℕ, _+_, _-_, _^_, _<_, _≤_}
+use native.Mathlib.Omega.{arith}
+use lib.Dec.{ltb, eqb}
+use lib.Pow.{pow-pos}
+use borrow.Author.Tests.{lt-ltb, le-ltb, ltb-true, eqb-true}
+use Rattle.utils.specs.Set.{bit, with, without, lowest}
+use Rattle.utils.proofs.Laws.{with-without, without-with}
+use Rattle.types.specs.declared.PicLine.{PicLine}
+use Rattle.types.specs.declared.Vector.{Vector}
+use Rattle.types.specs.declared.PicPlace.the-variants.{Master, Slave}
+use Rattle.types.specs.declared.Reply.the-variants as reply
+use Rattle.types.specs.Counters.{placeOf, lineVector}
+use Rattle.vpic.specs.declared.chip.PicChip.{PicChip}
+use Rattle.vpic.specs.declared.chip.PendingIrq.{PendingIrq}
+use Rattle.vpic.specs.declared.chip.PendingIrq.the-variants.{Irq, Nothing}
+use Rattle.vpic.specs.declared.pair.PicState.{PicState}
+use Rattle.vpic.specs.declared.pair.PicInterruptClaim.{PicInterruptClaim}
+use Rattle.vpic.specs.declared.pair.PicClaim.{PicClaim}
+use Rattle.vpic.specs.declared.pair.PicClaim.the-variants.{Claimed, Nothing as NoClaim}
+use Rattle.vpic.specs.declared.pair.StateClaim.{StateClaim}
+use Rattle.vpic.specs.Chip.{opened, commanded, fed, pulsed, counts, pendingLine, pendingIrq, acknowledged, unacknowledged, withRequest, withInService, specificEoi}
+use Rattle.vpic.specs.Pair.{chips, pic, grew, newState, settled, latchedAt, latched, cascadeIrq, claimed, masterClaim, slaveClaim, cascadePlace, placeFrom, claimAt, claimPending, claimIrq, portWritten, writtenAt, restored, restoreInterrupt}
+use Rattle.vpic.proofs.ChipLaws.{Pending, pended}
+use Rattle.vpic_theorems.specs.Rule.{LatchedKeeps}
+use Rattle.vpic_theorems.proofs.Settled.{settled-between, settled-kept, settled-keeps}
+use Rattle.vpic_theorems.specs.Statements.{Keeps, RestoredAtOnce, RestoredAfterRaise, Served, ServedBy, HighestServed, SecondCallerUnheard}
+
+-- ---- one chip: acknowledged, and taken back
+
+-- an in-service set grew exactly if the line was put in
+grew-with : (n k : ℕ) → bit n k ≡ false → ltb n (with n k) ≡ true
+unfolding with
+grew-with n k h = rw h (lt-ltb n (n + 2 ^ k) (omega (arith, pow-pos k)))
+
+chip-back : (c : PicChip) (k : PicLine) → Pending c (k .0) → unacknowledged (acknowledged c (k .0)) k (grew c (acknowledged c (k .0))) ≡ c
+unfolding unacknowledged acknowledged pulsed
+chip-back c k h = go (c .«auto_eoi»)
+  where
+    go : (b : Bool) → unacknowledged (withInService (withRequest c (without (c .request) (k .0))) (cond b (c .«in_service») (with (c .«in_service») (k .0)))) k
+        (ltb (c .«in_service») (cond b (c .«in_service») (with (c .«in_service») (k .0)))) ≡ c
+    go true = rw (le-ltb (c .«in_service») (c .«in_service») (omega arith), lt-ltb (k .0) 8 (h .low), with-without (c .request) (k .0) (h .asked))
+    go false =
+        rw (grew-with (c .«in_service») (k .0) (h .idle), lt-ltb (k .0) 8 (h .low), with-without (c .request) (k .0) (h .asked), without-with (c .«in_service») (k .0) (h .idle))
+
+-- ---- the pair: a claim of the master's line, and of the slave's
+
+place-low : (k : PicLine) → k .0 < 8 → placeOf k ≡ Master k
+place-low k h = rw (lt-ltb (k .0) 8 h)
+
+place-high : (k : PicLine) → k .0 < 8 → placeOf (record { 0 = k .0 + 8 }) ≡ Slave k
+place-high k h = rw (le-ltb (k .0 + 8) 8 (omega arith), lt-ltb (k .0 + 8) 16 (omega arith)) (ap (λ (n : ℕ). Slave (record { 0 = n })) e)
+  where
+    e : k .0 + 8 - 8 ≡ k .0
+    e = omega arith
+
+-- which claim a claim is
+the-claim : (p q : PicState) (v : Vector) (l : PicLine) → PicInterruptClaim
+the-claim p q v l = record { vector = v; irq = l; «master_in_service» = grew (p .master) (q .master); «slave_in_service» = grew (p .slave) (q .slave) }
+
+master-back : (p : PicState) (k : PicLine) (c : PicInterruptClaim) → Keeps p → Pending (p .master) (k .0) → masterClaim p k .claim ≡ Claimed c
+    → restored (masterClaim p k .state) c ≡ p
+unfolding masterClaim restored the-claim
+master-back p k c keeps h e =
+    let q = chips p (acknowledged (p .master) (k .0)) (p .slave) in
+    let f : c ≡ the-claim p q (lineVector (p .master .«vector_base») k) k = cc in
+    rw (f, place-low k (h .low))
+    (settled-between q k (grew (p .master) (q .master)) (λ s. s) (h .low)
+    ∙ ap (λ (m : PicChip). settled (chips p m (p .slave))) (chip-back (p .master) k h)
+    ∙ settled-kept p keeps)
+
+slave-back : (p : PicState) (k : PicLine) (c : PicInterruptClaim) → Keeps p → Pending (p .master) 2 → Pending (p .slave) (k .0) → slaveClaim p k .claim ≡ Claimed c
+    → restored (slaveClaim p k .state) c ≡ p
+unfolding slaveClaim restored the-claim
+slave-back p k c keeps m h e =
+    let q = chips p (acknowledged (p .master) 2) (acknowledged (p .slave) (k .0)) in
+    let f : c ≡ the-claim p q (lineVector (p .slave .«vector_base») k) (record { 0 = k .0 + 8 }) = cc in
+    rw (f, place-high k (h .low))
+    (settled-between q cascadeIrq (grew (p .master) (q .master)) (λ s. unacknowledged s k (grew (p .slave) (q .slave))) (m .low)
+    ∙ ap₂ (λ (a b : PicChip). settled (chips p a b)) (chip-back (p .master) cascadeIrq m) (chip-back (p .slave) k h)
+    ∙ settled-kept p keeps)
+
+-- ---- any claim is one of the two
+
+-- what is shown of the master's and of the slave's claims holds of every claim
+by-claim : (P : StateClaim → PicInterruptClaim → Type 0) (p : PicState)
+    → ((k : PicLine) (c : PicInterruptClaim) → Pending (p .master) (k .0) → masterClaim p k .claim ≡ Claimed c → P (masterClaim p k) c)
+    → ((k : PicLine) (c : PicInterruptClaim) → Pending (p .master) 2 → Pending (p .slave) (k .0) → slaveClaim p k .claim ≡ Claimed c → P (slaveClaim p k) c)
+    → (c : PicInterruptClaim) → claimPending p .claim ≡ Claimed c → P (claimPending p) c
+unfolding claimPending
+by-claim P p m s c e = by-master (pendingIrq (p .master)) refl e
+  where
+    by-slave : (b : PendingIrq) → pendingIrq (p .slave) ≡ b → Pending (p .master) 2 → claimAt p (cascadePlace b) .claim ≡ Claimed c → P (claimAt p (cascadePlace b)) c
+    by-slave (Irq k) q h f = s k c h (pended (p .slave) k q) f
+    by-slave Nothing q h f = m cascadeIrq c h f
+
+    by-line : (k : PicLine) (b : Bool) → eqb (k .0) 2 ≡ b → Pending (p .master) (k .0) → claimAt p (cond b (cascadePlace (pendingIrq (p .slave))) (Master k)) .claim ≡ Claimed c
+        → P (claimAt p (cond b (cascadePlace (pendingIrq (p .slave))) (Master k))) c
+    by-line k true q h f = by-slave (pendingIrq (p .slave)) refl (subst (Pending (p .master)) (eqb-true (k .0) 2 q) h) f
+    by-line k false q h f = m k c h f
+
+    by-master : (a : PendingIrq) → pendingIrq (p .master) ≡ a → claimAt p (placeFrom p a) .claim ≡ Claimed c → P (claimAt p (placeFrom p a)) c
+    by-master (Irq k) q f = by-line k (eqb (k .0) 2) refl (pended (p .master) k q) f
+    by-master Nothing q f = let z : _≡_ {A = ℕ} 0 1 = cc in absurd (omega arith)
+
+-- the line of a claim
+master-line : (p : PicState) (k : PicLine) (c : PicInterruptClaim) → masterClaim p k .claim ≡ Claimed c → c .irq ≡ k
+unfolding masterClaim
+master-line p k c e = cc
+
+slave-line : (p : PicState) (k : PicLine) (c : PicInterruptClaim) → slaveClaim p k .claim ≡ Claimed c → c .irq .0 ≡ k .0 + 8
+unfolding slaveClaim
+slave-line p k c e = let f : c .irq ≡ record { 0 = k .0 + 8 } = cc in ap (λ (l : PicLine). l .0) f
+
+-- every claim names a line of the pair
+below-16 : (p : PicState) (c : PicInterruptClaim) → claimPending p .claim ≡ Claimed c → c .irq .0 < 16
+below-16 p =
+    by-claim (λ r c. c .irq .0 < 16) p (λ k c h e. omega (arith, h .low, ap (λ (l : PicLine). l .0) (master-line p k c e)))
+    (λ k c m h e. omega (arith, h .low, slave-line p k c e))
+
+pub restored-at-once : RestoredAtOnce
+restored-at-once p c keeps e =
+    rw (lt-ltb (c .irq .0) 16 (below-16 p c e))
+    (rw (by-claim (λ r d. restored (r .state) d ≡ p) p (λ k d h f. master-back p k d keeps h f) (λ k d m h f. slave-back p k d keeps m h f) c e))
+
+pub latched-keeps : LatchedKeeps
+unfolding latched
+latched-keeps p l = settled-keeps (latchedAt p (placeOf l))
+
+pub restored-after-raise : RestoredAfterRaise
+unfolding claimIrq
+restored-after-raise p l c e = go (ltb (l .0) 16) e
+  where
+    go : (b : Bool) → cond b (claimPending (latched p l)) (record { state = p; claim = NoClaim }) .claim ≡ Claimed c
+        → restoreInterrupt (pic (cond b (claimPending (latched p l)) (record { state = p; claim = NoClaim }) .state)) c ≡ record { state = pic (latched p l); reply = reply.Nothing }
+    go true f = restored-at-once (latched p l) c (latched-keeps p l) f
+    go false f = let z : _≡_ {A = ℕ} 0 1 = cc in absurd (omega arith)
+
+-- ---- the highest request is served
+
+serves : (c : PicChip) (k : ℕ) → Pending c k → Served c (acknowledged c k) k
+serves c k h = record { counted = h .counted; highest = h .highest; done = refl }
+
+master-serves : (p : PicState) (k : PicLine) → Pending (p .master) (k .0) → ServedBy p (masterClaim p k .state) (k .0)
+unfolding masterClaim
+master-serves p k h = record {
+  m = acknowledged (p .master) (k .0);
+  s = p .slave;
+  settles = refl;
+  master = λ l. serves (p .master) (k .0) h;
+  alone = λ l. refl;
+  cascade = λ l. absurd (omega (arith, h .low));
+  slave = λ l. absurd (omega (arith, h .low));
+}
+
+slave-serves : (p : PicState) (k : PicLine) → Pending (p .master) 2 → Pending (p .slave) (k .0) → ServedBy p (slaveClaim p k .state) (k .0 + 8)
+unfolding slaveClaim
+slave-serves p k m h = record {
+  m = acknowledged (p .master) 2;
+  s = acknowledged (p .slave) (k .0);
+  settles = refl;
+  master = λ l. absurd (omega arith);
+  alone = λ l. absurd (omega arith);
+  cascade = λ l. serves (p .master) 2 m;
+  slave = λ l. let e : k .0 + 8 - 8 ≡ k .0 = omega arith in rw e (serves (p .slave) (k .0) h);
+}
+
+pub highest-served : HighestServed
+highest-served p =
+    by-claim (λ r c. ServedBy p (r .state) (c .irq .0)) p (λ k c h e. rw (master-line p k c e) (master-serves p k h))
+    (λ k c m h e. rw (slave-line p k c e) (slave-serves p k m h))
+
+pub second-caller-unheard : SecondCallerUnheard
+unfolding opened commanded fed pulsed counts pendingLine pendingIrq acknowledged newState settled latched masterClaim slaveClaim claimPending claimIrq portWritten writtenAt with without lowest
+second-caller-unheard = (refl, refl, refl)

@@ -1,0 +1,108 @@
+-- Theorems about the cascade rule (8259A, cascade mode: a slave's INT output drives its line of the master): every call keeps it, and no slave request that counts
+-- goes unheard.
+use Prim.Native.Nat.{ℕ, _+_, _<_, _≤_}
+use mathlib.Core.Path.{_≡_}
+use mathlib.Core.Bool.{Bool, true, false}
+use mathlib.Core.List.{List, [], _∷_}
+use Rattle.utils.specs.Set.{bit}
+use Rattle.types.specs.declared.Reply.the-variants as reply
+use Rattle.types.specs.declared.PicLine.{PicLine}
+use Rattle.types.specs.Counters.{lineVector}
+use Rattle.vpic.specs.declared.chip.PicChip.{PicChip}
+use Rattle.vpic.specs.declared.pair.PicState.{PicState}
+use Rattle.vpic.specs.declared.pair.EmulatedPic.{EmulatedPic}
+use Rattle.vpic.specs.declared.pair.PicInterruptClaim.{PicInterruptClaim}
+use Rattle.vpic.specs.declared.pair.PicClaim.the-variants.{Claimed}
+use Rattle.vpic.specs.Chip.{asks, counts, pendingLine}
+use Rattle.vpic.specs.Pair.{pic, newState, isCascade, slaveClaim, claimPending, claimIrq, latched, claimReply, restoreInterrupt, handleRead}
+use Rattle.vpic.specs.Departures.{at, line, open', seventh}
+use Rattle.vpic_theorems.specs.Statements.{Call, outcome, Keeps}
+
+-- ---- what the rule says
+
+-- a chip's output is up exactly when some request of it counts: where one does, it is up
+abbrev pub AsksIfCounts : Type 0
+AsksIfCounts = (c : PicChip) (k : ℕ) → counts c k ≡ true → asks c ≡ true
+
+-- and where it is up, one does: the line that the search finds is the highest of them
+pub record Highest (c : PicChip) (k : ℕ) : Type 0 where
+  pub low : k < 8
+  pub counted : counts c k ≡ true
+  pub above : (j : ℕ) → j < k → counts c j ≡ false
+
+abbrev pub CountsIfAsks : Type 0
+CountsIfAsks = (c : PicChip) → asks c ≡ true → Highest c (pendingLine c)
+
+-- ---- it is kept
+
+-- calls one after another
+abbrev pub run : EmulatedPic → List Call → EmulatedPic
+run p [] = p
+run p (c ∷ l) = run (outcome p c .state) l
+
+-- a new pair of either rule keeps it
+abbrev pub NewKeeps : Type 0
+NewKeeps = (rule : ℕ) → Keeps (newState rule)
+
+-- so does every call, with any arguments, on a pair that keeps it; and the rule stays the one that was chosen
+abbrev pub CallsKeep : Type 0
+CallsKeep = (p : EmulatedPic) (c : Call) → Keeps (p .state) → Keeps (outcome p c .state .state)
+
+abbrev pub CallsKeepNumber : Type 0
+CallsKeepNumber = (p : EmulatedPic) (c : Call) → outcome p c .state .state .rule ≡ p .state .rule
+
+-- so any calls on a new pair do
+abbrev pub RunsKeep : Type 0
+RunsKeep = (rule : ℕ) (l : List Call) → Keeps (run (pic (newState rule)) l .state)
+
+-- a pair with a line latched, written to or restored keeps it, whatever it was before
+abbrev pub LatchedKeeps : Type 0
+LatchedKeeps = (p : PicState) (l : PicLine) → Keeps (latched p l)
+
+-- a read changes nothing
+abbrev pub ReadsUnchanged : Type 0
+ReadsUnchanged = (p : EmulatedPic) (port width : ℕ) → handleRead p port width .state ≡ p
+
+-- line 2 raised by hand latches nothing
+abbrev pub LineTwoLatchesNothing : Type 0
+LineTwoLatchesNothing = (p : PicState) → isCascade p ≡ true → Keeps p → latched p (line 2) ≡ p
+
+-- ---- no slave request that counts goes unheard
+
+-- nothing on the master stands before its line 2: it is unmasked, nothing at or above it is in service, and no unmasked request 0 or 1 waits
+pub record Clear (m : PicChip) : Type 0 where
+  pub unmasked : bit (m .mask) 2 ≡ false
+  pub idle : (k : ℕ) → k ≤ 2 → bit (m .«in_service») k ≡ false
+  pub quiet : (k : ℕ) → k < 2 → bit (m .request) k ≡ true → bit (m .mask) k ≡ true
+
+-- the slave answers for its line k, the highest of its requests that count: its vector, line k + 8
+pub record Heard (p : PicState) (k : ℕ) : Type 0 where
+  pub highest : Highest (p .slave) k
+  pub served : claimPending p ≡ slaveClaim p (line k)
+
+abbrev pub SlaveHeard : Type 0
+SlaveHeard = (p : PicState) (j : ℕ) → isCascade p ≡ true → Keeps p → counts (p .slave) j ≡ true → Clear (p .master) → Heard p (pendingLine (p .slave))
+
+-- ---- computed examples
+
+-- example 7 by rule 1: at its end line 14 is claimed
+abbrev pub SecondCallerHeard : Type 0
+SecondCallerHeard = claimReply (claimPending (seventh 1) .claim) ≡ reply.Three 0x76 14 3
+
+-- example 8 by rule 1: line 2 raised by hand claims nothing
+abbrev pub LineTwoUnanswered : Type 0
+LineTwoUnanswered = claimReply (claimIrq (open' 1) (line 2) .claim) ≡ reply.Nothing
+
+-- why a claim restored at once asks for a pair that keeps the rule: of the two chips of base 0 with nothing masked and nothing in service, the master's request 2 stands and
+-- no request of the slave's. The claim of line 2 is restored, and the request is gone: the rule holds then
+abbrev pub unkept : PicState
+unkept = record { rule = 1; master = at 4 0 0; slave = at 0 0 0 }
+
+abbrev pub lineTwo : PicInterruptClaim
+lineTwo = record { vector = record { 0 = 2 }; irq = line 2; «master_in_service» = true; «slave_in_service» = false }
+
+abbrev pub UnkeptNotRestored : Type 0
+UnkeptNotRestored =
+    (claimPending unkept .claim ≡ Claimed lineTwo)
+    × (restoreInterrupt (pic (claimPending unkept .state)) lineTwo .state .state .master .request ≡ 0)
+    × (unkept .master .request ≡ 4)
