@@ -11,12 +11,9 @@ use Rattle.types.specs.declared.PicPlace.{PicPlace}
 use Rattle.types.specs.declared.PicPlace.the-variants.{Master, Slave, Nowhere}
 use Rattle.types.specs.Counters.{entryIndex, placeOf}
 
--- a GSI below 24 is its entry's index, and one from 24 up has no entry
+-- a GSI below 24 is its entry's index
 pub entry-is : (g : Gsi) → g .0 < 24 → entryIndex g ≡ g .0
 entry-is g h = rw (lt-ltb (g .0) 24 h)
-
-pub entry-none : (g : Gsi) → 24 ≤ g .0 → entryIndex g ≡ 24
-entry-none g h = rw (le-ltb (g .0) 24 h)
 
 pub entry-of : (g : Gsi) → entryIndex g < 24 → entryIndex g ≡ g .0
 entry-of g h = go (ltb (g .0) 24) refl h

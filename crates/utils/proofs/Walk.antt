@@ -7,6 +7,7 @@ use native.Mathlib.Omega.{arith}
 use lib.Dec.{eqb, ltb}
 use lib.Pow.{pow-pos}
 use borrow.Author.Tests.{eqb-true, eqb-false, ltb-true, ltb-false}
+use Rattle.utils.specs.Cases.{and-right-no}
 use Rattle.utils.specs.Set.{bit, without, first, lowest}
 use Rattle.utils.proofs.Search.{first-same, first-is, first-none}
 use Rattle.utils.proofs.Laws.{bit-above, same-bits, bit-at-least, bit-without-same, bit-without-other, lowest-in, lowest-before}
@@ -47,10 +48,6 @@ module _ (w u n g : ℕ) (wide : w ≤ u) (small : n < 2 ^ w) (some : n ≡ 0 �
 unfoldable pub firstOf : (ℕ → Bool) → ℕ → ℕ → ℕ
 firstOf p w n = first w (λ k. bit n k && p k)
 
-and-no : (a b : Bool) → b ≡ false → (a && b) ≡ false
-and-no true b e = e
-and-no false b e = refl
-
 module _ (p : ℕ → Bool) where
   -- a member at which it doesn't hold may be left out
   pub first-without : (w n g : ℕ) → p g ≡ false → firstOf p w (without n g) ≡ firstOf p w n
@@ -60,7 +57,7 @@ module _ (p : ℕ → Bool) where
       go : (k : ℕ) → (b : Bool) → eqb k g ≡ b → (bit (without n g) k && p k) ≡ (bit n k && p k)
       go k true e =
           let q : p k ≡ false = ap p (eqb-true k g e) ∙ h in
-          and-no (bit (without n g) k) (p k) q ∙ sym (and-no (bit n k) (p k) q)
+          and-right-no (bit (without n g) k) (p k) q ∙ sym (and-right-no (bit n k) (p k) q)
       go k false e = ap (λ (b : Bool). b && p k) (bit-without-other n g k (eqb-false k g e))
 
   -- if it holds at the lowest, that is the first
@@ -82,7 +79,7 @@ module _ (p : ℕ → Bool) where
     where
       go : (k : ℕ) → k < w → (b : Bool) → p k ≡ b → (bit n k && p k) ≡ p k
       go k l true e = rw (h k l e)
-      go k l false e = and-no (bit n k) (p k) e ∙ sym e
+      go k l false e = and-right-no (bit n k) (p k) e ∙ sym e
 
 -- ---- a change for each member
 
