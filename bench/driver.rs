@@ -3,36 +3,45 @@
 //!     driver count N        each row N times, once a side, for callgrind: `bench/run` reads the counts of the functions `row::side`
 //!     driver time N         each row N times, nine times over: the least nanoseconds for once
 //!
-//! The sides are the original; `boundary`, the archives' functions on lent words, as C calls them; `krate`, the Rust crate; and `locked`, the Rust crate behind its
-//! spin lock. Each row adds up what it was answered, and the sides' sums must be the same; where the original answers otherwise (`is_like_original`), those of our sides.
+//! The sides are the original; `boundary`, the archives' functions on lent words, as C calls them; `krate`, the Rust
+//! crate; and `locked`, the Rust crate behind its spin lock. Before a row its answers are compared: they must be the
+//! same on all sides; where the original answers otherwise (`is_like_original`), on ours.
+mod caller;
 mod host;
+mod kinds;
 mod rows;
-mod setup;
+mod sides;
 
 use std::{hint::black_box, process::ExitCode, time::Instant};
 
 pub struct Row {
     name: &'static str,
-    /// By side, in the order of `SIDES`: so many times around, and the sum of what was answered.
-    sides: [fn(u64) -> u64; 4],
+    /// By side, in the order of `SIDES`: so many times around.
+    around: [fn(u64); 4],
+    /// What is answered so many times around.
+    answers: [fn(u64) -> caller::Recorded; 4],
     /// Whether the original answers the same. It has no version 0x20, and ends one line of a shared vector alone.
     is_like_original: bool,
 }
 
 const SIDES: [&str; 4] = ["original", "boundary", "krate", "locked"];
+const COMPARED: u64 = 10;
 
-fn sums(row: &Row, times: u64) -> [u64; 4] {
-    row.sides.map(|side| {
-        let answered = black_box(side(times));
-        answered.wrapping_add(host::injected())
-    })
+fn is_answered_alike(row: &Row) -> bool {
+    let answers = row.answers.map(|answers| answers(COMPARED));
+    let compared = if row.is_like_original { &answers[..] } else { &answers[1..] };
+    let is_alike = compared.iter().all(|side| *side == compared[0]);
+    if !is_alike {
+        eprintln!("{}: the sides' answers aren't the same: {SIDES:?} {answers:?}", row.name);
+    }
+    is_alike
 }
 
 /// The least of nine runs, in nanoseconds for once around.
-fn time(side: fn(u64) -> u64, times: u64) -> f64 {
+fn time(around: fn(u64), times: u64) -> f64 {
     let run = || {
         let start = Instant::now();
-        black_box(side(times));
+        around(times);
         start.elapsed().as_nanos() as f64 / times as f64
     };
     (0..9).map(|_| run()).fold(f64::INFINITY, f64::min)
@@ -44,17 +53,14 @@ fn main() -> ExitCode {
         eprintln!("usage: driver count|time N");
         return ExitCode::from(2);
     };
+    host::set_vcpus(black_box(8), black_box(0xff));
     for row in rows::ROWS {
+        if !is_answered_alike(row) {
+            return ExitCode::FAILURE;
+        }
         match way.as_str() {
-            "count" => {
-                let sums = sums(row, times);
-                let compared = if row.is_like_original { &sums[..] } else { &sums[1..] };
-                if compared.iter().any(|sum| *sum != compared[0]) {
-                    eprintln!("{}: the sides' answers aren't the same: {SIDES:?} {sums:?}", row.name);
-                    return ExitCode::FAILURE;
-                }
-            }
-            _ => println!("{} {}", row.name, row.sides.map(|side| format!("{:.2}", time(side, times))).join(" ")),
+            "count" => row.around.iter().for_each(|around| around(times)),
+            _ => println!("{} {}", row.name, row.around.map(|around| format!("{:.2}", time(around, times))).join(" ")),
         }
     }
     ExitCode::SUCCESS
