@@ -1,10 +1,12 @@
 """The comparison itself: both programs run on the same scripts, every line compared, a difference made small and shown."""
+import concurrent.futures
 import itertools
+import os
 import subprocess
 import sys
 import time
 
-from scripts import describe, pack, split, unpack
+from scripts import describe, is_unjudged, pack, split, unpack
 
 TIME_LIMIT = 120  # seconds for one run: a program that hangs is a difference
 SHRINKING = 60  # seconds for making a difference small; what is reached then is shown
@@ -25,30 +27,35 @@ def run(command, given):
 class Comparison:
     def __init__(self, command, oracle, in_batches):
         self.command, self.oracle, self.in_batches = command, oracle, in_batches
-        self.fields = self.scripts = self.by_rust = self.by_harness = 0
+        self.fields = self.scripts = self.ended_badly = self.by_rust = self.by_harness = 0
         self.different = []
 
     def expected_batch(self, scripts):
         answers, counts = run([self.oracle, "--batch", "--count"], pack(scripts))
         answers = unpack(answers)
         if len(answers) != len(scripts):
-            sys.exit(f"compare: the oracle failed: {counts.decode(errors='replace')}")
+            broke = next((script for script in scripts if run([self.oracle], script)[1]), b"")
+            sys.exit(f"compare: the oracle failed: {counts.decode(errors='replace')}\n    at the script {broke.hex(' ')}")
         by_rust, by_harness = map(int, counts.split())
         self.by_rust += by_rust
         self.by_harness += by_harness
         return answers
 
     def answers(self, scripts):
-        if not self.in_batches:
-            return [run(self.command, script)[0] for script in scripts]
-        answers = unpack(run(self.command + ["--batch"], pack(scripts))[0])
+        answers = unpack(run(self.command + ["--batch"], pack(scripts))[0]) if self.in_batches else []
         # A batch that broke off is asked again script by script, to find the one that broke it.
-        return answers if len(answers) == len(scripts) else [run(self.command, script)[0] for script in scripts]
+        return answers if len(answers) == len(scripts) else self.one_by_one(scripts)
+
+    def one_by_one(self, scripts):
+        """A process for each script, as many at once as there are processors."""
+        with concurrent.futures.ThreadPoolExecutor(os.cpu_count()) as pool:
+            return list(pool.map(lambda script: run(self.command, script)[0], scripts))
 
     def compare(self, scripts):
         for script, expected, answer in zip(scripts, self.expected_batch(scripts), self.answers(scripts), strict=True):
             self.scripts += 1
             self.fields += expected.count(b"\n")
+            self.ended_badly += expected.startswith(b"bad") or b"\nbad" in expected
             if expected != answer:
                 self.different.append(script)
 
@@ -57,7 +64,10 @@ class Comparison:
         return run([self.oracle], script)[0].splitlines(keepends=True), run(self.command, script)[0].splitlines(keepends=True)
 
     def cut(self, pieces):
-        """The pieces up to the first line that differs, if that is enough to show it; nothing if no line differs."""
+        """The pieces up to the first line that differs, if that is enough to show it; nothing if no line differs. Nothing too where dropping fields has made a
+        late choice the first of its chip, to which the Rust has no answer: that difference would be a false alarm."""
+        if is_unjudged(b"".join(pieces)):
+            return None
         expected, answer = self.both(pieces)
         if expected == answer:
             return None

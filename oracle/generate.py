@@ -1,10 +1,11 @@
 #!/usr/bin/env python3
-"""Makes scripts for the comparison: whole small domains, and seeded ones (sensible, random, damaged).
+"""Makes scripts for the comparison: whole small domains, seeded long ones (sensible, random, damaged), and seeded short ones from a new machine.
 
     generate.py SEED FIELDS [--thin] > BATCH       the same bytes for the same arguments, on every machine
+    generate.py SEED --short SCRIPTS > BATCH
 
-FIELDS is the least number of fields, the whole domains among them; --thin takes a part of the largest domains only. BATCH is the oracle's form: each
-script behind its length in four bytes, low byte first.
+FIELDS is the least number of fields, the whole domains among them; --thin takes a part of the largest domains only. --short: so many short scripts, half of
+them damaged, and nothing else. BATCH is the oracle's form: each script behind its length in four bytes, low byte first.
 """
 import argparse
 import itertools
@@ -18,6 +19,7 @@ PPR, IN_SERVICE, TRIGGER, EOI = 0xA0, 0x100, 0x180, 0xB0
 LVTS = [0x2F0] + list(range(0x320, 0x380, 0x10))
 ALL = 2**64 - 1
 LEAST_SEEDED = 12
+GATE_SHORT, GATE_SEEDS = 2_000, (1, 2, 3, 4)
 
 
 class Dice:
@@ -90,12 +92,19 @@ def io_selectors():
         yield [select(selector), io_read(IO_BASE), read_window(), window(0xDEADBEEF8030), read_window(), window(0x10000), read_window()]
 
 
+# Every offset that has a register in some version (version 0x20's EOI register is at 0x40; here it is one of the others) and its neighbours; then far ones.
+NEAR = range(-2, 0x49)
+FAR = [0x50, 0x80, 0x90, 0x100, 0x110, 0x200, 0x400, 0x410, 0x440, 0x800, 0xFF0, 0xFFF, 0x1000, 0x1010, 0x1040, 0x10000, 0x100010, 2**31, 2**31 + 0x10, 2**32,
+       2**32 + 0x10, 2**32 + 0x40]
+
+
 def io_addresses():
-    """Every offset around the two registers and the edges, in every width."""
-    near = [IO_BASE + d for d in range(-2, 0x24)] + [IO_BASE + 0xFF0, IO_BASE + 0xFFF, IO_BASE + 0x1000, IO_BASE + 2**32]
-    far = [0, 1, 0x10, IO_BASE % 2**31, 2**32 - 1, 2**63, 2**64 - 1, 2**64 - 0x10]
-    for address, width in itertools.product(near + far, [1, 2, 4, 8]):
-        yield [io_write(address, 0x12, width), io_read(address, width), io_read(IO_BASE), read_window()]
+    """Every offset near the registers, far ones and the edges, in every width. What is written, 0x12, is the vector that entry 1 has in flight, and not what is
+    selected, entry 1's high word: if a write selects, goes through the window or ends the vector, that shows."""
+    elsewhere = [0, 1, 0x10, 0x40, IO_BASE % 2**31, 2**32 - 1, 2**63, 2**64 - 1, 2**64 - 0x10]
+    for address, width in itertools.product([IO_BASE + offset for offset in [*NEAR, *FAR]] + elsewhere, [1, 2, 4, 8]):
+        start = write_low(1, 0x8012) + [select(0x13), window(0x77), assert_gsi(1)]
+        yield start + [io_read(address, width), io_write(address, 0x12, width), io_read(address, width), io_read(IO_BASE), read_window(), io_eoi(0x12)]
 
 
 def io_lines():
@@ -335,7 +344,7 @@ def whole_domains(thin):
 
 
 def io_visit(dice):
-    """A table program with few vectors, then lines held and dropped, masks, rewrites, EOIs."""
+    """A table program with few vectors, then lines held and dropped, masks, rewrites, EOIs, and a vector written where no register is."""
     gsis = [dice.below(24) for _ in range(1 + dice.below(4))]
     vectors = [dice.pick([0x30, 0x31, 0x41, 0x0F, 0x10, 0xFF]) for _ in range(1 + dice.below(3))]
     words = {}
@@ -354,6 +363,9 @@ def io_visit(dice):
             yield [assert_gsi(gsi)]
         elif act < 14:
             yield [io_eoi(vector)]
+        elif act == 14:
+            offset = dice.pick([0x40, 0x11 + dice.below(0x38)])
+            yield [io_write(IO_BASE + offset, vector), io_read(IO_BASE + offset)]
         else:
             yield read_low(gsi)
 
@@ -432,7 +444,7 @@ def random_field(dice):
     for part, size in TAGS[tag][1]:
         likely = {
             "width": [1, 2, 4, 8, 1, 4, 4, 8],
-            "address": [IO_BASE, IO_BASE + 0x10, IO_BASE + 0x10, IO_BASE + dice.below(64), IO_BASE - 1, dice.word()],
+            "address": [IO_BASE, IO_BASE + 0x10, IO_BASE + 0x10, IO_BASE + dice.below(0x49), IO_BASE + dice.pick(FAR), IO_BASE - 1, dice.word()],
             "port": [0x20, 0x21, 0xA0, 0xA1, 0x22, dice.below(65536)],
             "offset": [0x10 * dice.below(0x42), 0x10 * dice.below(0x42), dice.below(65536), ICR, ICR_HIGH, SELF_IPI],
             "gsi": [dice.below(26), dice.below(4), dice.below(256)],
@@ -481,13 +493,135 @@ def seeded(dice):
             yield damaged(dice, script) if dice.chance(10) else script
 
 
+# ---- short scripts from a new machine ------------------------------------------------------------------------------
+
+READABLE = [0x20, TPR, PPR, LDR, DFR, SVR, ESR, ICR, ICR_HIGH] + LVTS + [bank + 0x10 * n for bank in (IN_SERVICE, TRIGGER) for n in range(8)]
+
+
+def reads_of_everything():
+    """What there is to read: first as it stands, then by every selector and both read choices. Only the selector and the choices change."""
+    fields = [io_read(IO_BASE), read_window(), io_read(IO_BASE + 0x40)]
+    fields += [f for selector in range(0x41) for f in (select(selector), read_window())]
+    for chip in (MASTER, SLAVE):
+        fields += [pic_read(chip), pic_read(chip + 1), pic_write(chip, 0x0A), pic_read(chip), pic_write(chip, 0x0B), pic_read(chip)]
+    return fields + [local_read(offset) for offset in READABLE]
+
+
+def questions(pieces):
+    """What no read shows, asked: deferred entries by EOIs of the vectors written, lines that are up by an EOI of their own; a chip's step by data bytes, its
+    base and auto-EOI by claims; the local APIC's noted error, own id, count and active vCPUs, and what is in service."""
+    vectors = sorted({piece[12] for piece in pieces if piece[0] == 0x02})
+    gsis = sorted({piece[3] for piece in pieces if piece[0] == 0x03 and piece[3] < 24})
+    fields = [io_eoi(vector) for vector in vectors] * 2
+    for gsi in gsis:
+        fields += write_low(gsi, 0x8060) + [assert_gsi(gsi), io_eoi(0x60), window(0x10000)]
+    fields += [claim_pending()] * 2
+    for chip in (MASTER, SLAVE):
+        fields += [f for byte in (0x40, 0x02, 0) for f in (pic_write(chip + 1, byte), pic_read(chip + 1))]
+    fields += [claim(0), claim(8), claim_pending(), local_write(ESR, 0), local_read(ESR)]
+    fields += [local_write(ICR, 0x41 | short << 18, width) for short in (2, 3) for width in (4, 8)]
+    return fields + [local_eoi(), local_read(PPR)] * 3
+
+
+READS = b"".join(reads_of_everything())
+
+
+def ended(script):
+    """A script with reads of everything and the questions behind it, unless a bad field has ended it already."""
+    pieces = list(performed(script))
+    if pieces and pieces[-1][1]:
+        return script
+    return script + READS + b"".join(questions([piece for piece, _ in pieces]))
+
+
+def mixed_visits(dice):
+    """Visits of all chips at once, episode by episode."""
+    visits = [io_visit(dice), pic_visit(dice), local_visit(dice)]
+    while visits:
+        visit = dice.pick(visits)
+        try:
+            yield next(visit)
+        except StopIteration:
+            visits.remove(visit)
+
+
+def short_fields(dice):
+    """1 to 40 fields: of one chip, of all, or any; at times without the first episode (a local APIC's setup), at times with a choice, in place or too late."""
+    source = dice.pick([io_visit, pic_visit, local_visit, mixed_visits, endless_random])(dice)
+    if dice.chance(30):
+        next(source)
+    fields = list(itertools.islice(itertools.chain.from_iterable(source), 1 + dice.below(40)))
+    if dice.chance(20):
+        tag = dice.pick(list(CHOICES))
+        byte = CHOICES[tag][0] if dice.chance(80) else dice.below(256)
+        fields.insert(0 if dice.chance(80) else dice.below(len(fields) + 1), field(tag, byte))
+    return fields
+
+
+SAME_LENGTH = {tag: [other for other in TAGS if LENGTH[other] == LENGTH[tag] and other != tag] for tag in TAGS}
+
+
+def damaged_anywhere(dice, fields):
+    """The fields as one script, damaged at 1 to 3 places: bytes changed, mostly of bodies, so that much of it still runs; a tag made one with as long a body;
+    bytes taken out, put in or doubled; cut off."""
+    script = b"".join(fields)
+    for _ in range(dice.pick([1, 1, 2, 3])):
+        pieces = split(script) or [bytes(1)]
+        n, kind = dice.below(len(pieces)), dice.below(20)
+        start, piece = sum(map(len, pieces[:n])), pieces[n]
+        at = start + dice.below(len(piece))
+        if kind < 9 and len(piece) > 3:
+            at = start + 3 + dice.below(len(piece) - 3)
+        if kind < 12:
+            changed = dice.pick([1 << dice.below(8), 1 + dice.below(255)])
+            script = script[:at] + bytes(byte ^ changed for byte in script[at : at + 1]) + script[at + 1 :]
+        elif kind < 16:
+            script = script[:start] + bytes([dice.pick(SAME_LENGTH.get(piece[0]) or range(256))]) + script[start + 1 :]
+        elif kind == 16:
+            script = script[:at]
+        elif kind == 17:
+            script = script[:at] + script[at + 1 + dice.below(4) :]
+        elif kind == 18:
+            script = script[:at] + dice.word().to_bytes(8, "little")[: 1 + dice.below(8)] + script[at:]
+        else:
+            script = script[:at] + script[at : at + 1 + dice.below(20)] + script[at:]
+    return script
+
+
+def endless_short(dice, hurt):
+    while True:
+        fields = short_fields(dice)
+        yield ended(damaged_anywhere(dice, fields) if hurt else b"".join(fields))
+
+
+def short_scripts(seed, count):
+    """So many short scripts from a new machine, every second one damaged, each ended by reads of everything where no bad field ends it."""
+    dice = Dice(seed)
+    whole, hurt = judged(endless_short(dice, False)), judged(endless_short(dice, True))
+    return (next(hurt if n % 2 else whole) for n in range(count))
+
+
+def gate_short_scripts():
+    """The gate's short scripts: always the same, of several seeds."""
+    return itertools.chain.from_iterable(short_scripts(seed, GATE_SHORT // len(GATE_SEEDS)) for seed in GATE_SEEDS)
+
+
+# ---- all ------------------------------------------------------------------------------------------------------------
+
+
+def judged(scripts):
+    """Leaves out the scripts to which the Rust has no answer: a damaged or random byte can make a first field `06 20` or `16 01`, which chooses what the Rust
+    isn't. Ours would take it, the harness calls it bad, and that would be a false alarm. (While a difference is made small, comparison.py does the same.)"""
+    return (script for script in scripts if not is_unjudged(script))
+
+
 def scripts(seed, least_fields, thin):
     """The whole domains, then seeded scripts: some at least, and until there are as many fields as asked."""
     fields = 0
-    for script in whole_domains(thin):
+    for script in judged(whole_domains(thin)):
         fields += count_lines(script)
         yield script
-    for n, script in enumerate(seeded(Dice(seed))):
+    for n, script in enumerate(judged(seeded(Dice(seed)))):
         if fields >= least_fields and n >= LEAST_SEEDED:
             return
         fields += count_lines(script)
@@ -497,10 +631,11 @@ def scripts(seed, least_fields, thin):
 def main():
     parser = argparse.ArgumentParser(description=__doc__, formatter_class=argparse.RawDescriptionHelpFormatter)
     parser.add_argument("seed", type=int)
-    parser.add_argument("fields", type=int)
+    parser.add_argument("fields", type=int, nargs="?", default=0)
     parser.add_argument("--thin", action="store_true")
+    parser.add_argument("--short", type=int)
     given = parser.parse_args()
-    for script in scripts(given.seed, given.fields, given.thin):
+    for script in short_scripts(given.seed, given.short) if given.short else scripts(given.seed, given.fields, given.thin):
         sys.stdout.buffer.write(pack([script]))
 
 

@@ -137,17 +137,36 @@ def is_bad(piece, used=()):
     return not right or (piece[0] in WITH_WIDTH and piece[3] not in (1, 2, 4, 8))
 
 
+def performed(script):
+    """The pieces of a script that a program comes to, each with whether it is bad; the first bad one is the last."""
+    used = set()
+    for piece in split(script):
+        bad = is_bad(piece, used)
+        yield piece, bad
+        if bad:
+            return
+        used.add(piece[0] >> 4)
+
+
 def count_lines(script):
     """How many lines a script prints: one a field, the first bad one included, or one alone if it is too long."""
-    if len(script) > LONGEST:
-        return 1
-    lines, used = 0, set()
-    for piece in split(script):
-        lines += 1
-        if is_bad(piece, used):
-            break
-        used.add(piece[0] >> 4)
-    return lines
+    return 1 if len(script) > LONGEST else sum(1 for _ in performed(script))
+
+
+def ends_badly(script):
+    """Whether a script comes to a bad field."""
+    return any(bad for _, bad in performed(script))
+
+
+UNJUDGED = [field(tag, byte) for tag, (_, byte) in CHOICES.items()]
+
+
+def is_unjudged(script):
+    """Whether a script chooses what the Rust isn't: `06 20` or `16 01` before all other fields of its chip. Ours takes the choice, and the Rust has no answer
+    to it (the harness calls it bad): such a script compares nothing. Too late, the same field is bad to both."""
+    if len(script) > LONGEST or not any(choice in script for choice in UNJUDGED):
+        return False
+    return any(piece in UNJUDGED and not bad for piece, bad in performed(script))
 
 
 def describe(piece):
