@@ -64,8 +64,11 @@ class Comparison:
         return run([self.oracle], script)[0].splitlines(keepends=True), run(self.command, script)[0].splitlines(keepends=True)
 
     def cut(self, pieces):
-        """The pieces up to the first line that differs, if that is enough to show it; nothing if no line differs. Nothing too where dropping fields has made a
-        late choice the first of its chip, to which the Rust has no answer: that difference would be a false alarm."""
+        """The pieces up to the first line that differs, if that is enough to show it; nothing if no line differs.
+
+        Nothing too where dropping fields has made a late choice the first of its chip, one to which the Rust has no answer:
+        that difference would be a false alarm.
+        """
         if is_unjudged(b"".join(pieces)):
             return None
         expected, answer = self.both(pieces)

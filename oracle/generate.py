@@ -1,11 +1,13 @@
 #!/usr/bin/env python3
-"""Makes scripts for the comparison: whole small domains, seeded long ones (sensible, random, damaged), and seeded short ones from a new machine.
+"""Makes scripts for the comparison: whole small domains, seeded long ones (sensible, random, damaged), and seeded short
+ones from a new machine.
 
     generate.py SEED FIELDS [--thin] > BATCH       the same bytes for the same arguments, on every machine
     generate.py SEED --short SCRIPTS > BATCH
 
-FIELDS is the least number of fields, the whole domains among them; --thin takes a part of the largest domains only. --short: so many short scripts, half of
-them damaged, and nothing else. BATCH is the oracle's form: each script behind its length in four bytes, low byte first.
+FIELDS is the least number of fields, the whole domains among them; --thin takes a part of the largest domains only.
+--short: so many short scripts, half of them damaged, and nothing else. BATCH is the oracle's form: each script behind
+its length in four bytes, low byte first.
 """
 import argparse
 import itertools
@@ -92,19 +94,24 @@ def io_selectors():
         yield [select(selector), io_read(IO_BASE), read_window(), window(0xDEADBEEF8030), read_window(), window(0x10000), read_window()]
 
 
-# Every offset that has a register in some version (version 0x20's EOI register is at 0x40; here it is one of the others) and its neighbours; then far ones.
+# Every offset that has a register in some version, and its neighbours: version 0x20's EOI register is at 0x40, which in
+# version 0x11 is one of the others. Then far ones.
 NEAR = range(-2, 0x49)
-FAR = [0x50, 0x80, 0x90, 0x100, 0x110, 0x200, 0x400, 0x410, 0x440, 0x800, 0xFF0, 0xFFF, 0x1000, 0x1010, 0x1040, 0x10000, 0x100010, 2**31, 2**31 + 0x10, 2**32,
-       2**32 + 0x10, 2**32 + 0x40]
+FAR = [0x50, 0x80, 0x90, 0x100, 0x110, 0x200, 0x400, 0x410, 0x440, 0x800, 0xFF0, 0xFFF, 0x1000, 0x1010, 0x1040, 0x10000, 0x100010,
+       2**31, 2**31 + 0x10, 2**32, 2**32 + 0x10, 2**32 + 0x40]
 
 
 def io_addresses():
-    """Every offset near the registers, far ones and the edges, in every width. What is written, 0x12, is the vector that entry 1 has in flight, and not what is
-    selected, entry 1's high word: if a write selects, goes through the window or ends the vector, that shows."""
+    """Every offset near the registers, far ones and the edges, in every width.
+
+    What is written, 0x12, is the vector that entry 1 has in flight, and not what is selected, entry 1's high word: if a
+    write selects, goes through the window or ends the vector, that shows.
+    """
     elsewhere = [0, 1, 0x10, 0x40, IO_BASE % 2**31, 2**32 - 1, 2**63, 2**64 - 1, 2**64 - 0x10]
     for address, width in itertools.product([IO_BASE + offset for offset in [*NEAR, *FAR]] + elsewhere, [1, 2, 4, 8]):
         start = write_low(1, 0x8012) + [select(0x13), window(0x77), assert_gsi(1)]
-        yield start + [io_read(address, width), io_write(address, 0x12, width), io_read(address, width), io_read(IO_BASE), read_window(), io_eoi(0x12)]
+        written = [io_read(address, width), io_write(address, 0x12, width), io_read(address, width)]
+        yield start + written + [io_read(IO_BASE), read_window(), io_eoi(0x12)]
 
 
 def io_lines():
@@ -344,7 +351,8 @@ def whole_domains(thin):
 
 
 def io_visit(dice):
-    """A table program with few vectors, then lines held and dropped, masks, rewrites, EOIs, and a vector written where no register is."""
+    """A table program with few vectors, then lines held and dropped, masks, rewrites, EOIs, and vectors written where no
+    register is."""
     gsis = [dice.below(24) for _ in range(1 + dice.below(4))]
     vectors = [dice.pick([0x30, 0x31, 0x41, 0x0F, 0x10, 0xFF]) for _ in range(1 + dice.below(3))]
     words = {}
@@ -444,7 +452,8 @@ def random_field(dice):
     for part, size in TAGS[tag][1]:
         likely = {
             "width": [1, 2, 4, 8, 1, 4, 4, 8],
-            "address": [IO_BASE, IO_BASE + 0x10, IO_BASE + 0x10, IO_BASE + dice.below(0x49), IO_BASE + dice.pick(FAR), IO_BASE - 1, dice.word()],
+            "address": [IO_BASE, IO_BASE + 0x10, IO_BASE + 0x10, IO_BASE + dice.below(0x49), IO_BASE + dice.pick(FAR), IO_BASE - 1,
+                        dice.word()],
             "port": [0x20, 0x21, 0xA0, 0xA1, 0x22, dice.below(65536)],
             "offset": [0x10 * dice.below(0x42), 0x10 * dice.below(0x42), dice.below(65536), ICR, ICR_HIGH, SELF_IPI],
             "gsi": [dice.below(26), dice.below(4), dice.below(256)],
@@ -495,21 +504,26 @@ def seeded(dice):
 
 # ---- short scripts from a new machine ------------------------------------------------------------------------------
 
-READABLE = [0x20, TPR, PPR, LDR, DFR, SVR, ESR, ICR, ICR_HIGH] + LVTS + [bank + 0x10 * n for bank in (IN_SERVICE, TRIGGER) for n in range(8)]
+READABLE = [0x20, TPR, PPR, LDR, DFR, SVR, ESR, ICR, ICR_HIGH] + LVTS
+READABLE += [bank + 0x10 * n for bank in (IN_SERVICE, TRIGGER) for n in range(8)]
 
 
 def reads_of_everything():
-    """What there is to read: first as it stands, then by every selector and both read choices. Only the selector and the choices change."""
+    """What there is to read: first as it stands, then by every selector and both read choices. Only these change."""
     fields = [io_read(IO_BASE), read_window(), io_read(IO_BASE + 0x40)]
     fields += [f for selector in range(0x41) for f in (select(selector), read_window())]
     for chip in (MASTER, SLAVE):
-        fields += [pic_read(chip), pic_read(chip + 1), pic_write(chip, 0x0A), pic_read(chip), pic_write(chip, 0x0B), pic_read(chip)]
+        fields += [pic_read(chip), pic_read(chip + 1)]
+        fields += [pic_write(chip, 0x0A), pic_read(chip), pic_write(chip, 0x0B), pic_read(chip)]
     return fields + [local_read(offset) for offset in READABLE]
 
 
 def questions(pieces):
-    """What no read shows, asked: deferred entries by EOIs of the vectors written, lines that are up by an EOI of their own; a chip's step by data bytes, its
-    base and auto-EOI by claims; the local APIC's noted error, own id, count and active vCPUs, and what is in service."""
+    """What no read shows, asked behind the fields of a script.
+
+    Deferred entries by EOIs of the vectors written, lines that are up by an EOI of their own; a chip's step by data bytes,
+    its base and auto-EOI by claims; the local APIC's noted error, own id, count and active vCPUs, and the highest in service.
+    """
     vectors = sorted({piece[12] for piece in pieces if piece[0] == 0x02})
     gsis = sorted({piece[3] for piece in pieces if piece[0] == 0x03 and piece[3] < 24})
     fields = [io_eoi(vector) for vector in vectors] * 2
@@ -546,7 +560,8 @@ def mixed_visits(dice):
 
 
 def short_fields(dice):
-    """1 to 40 fields: of one chip, of all, or any; at times without the first episode (a local APIC's setup), at times with a choice, in place or too late."""
+    """1 to 40 fields: of one chip, of all, or any; at times without the first episode (a local APIC's setup), at times with
+    a choice more, in place or too late."""
     source = dice.pick([io_visit, pic_visit, local_visit, mixed_visits, endless_random])(dice)
     if dice.chance(30):
         next(source)
@@ -562,8 +577,8 @@ SAME_LENGTH = {tag: [other for other in TAGS if LENGTH[other] == LENGTH[tag] and
 
 
 def damaged_anywhere(dice, fields):
-    """The fields as one script, damaged at 1 to 3 places: bytes changed, mostly of bodies, so that much of it still runs; a tag made one with as long a body;
-    bytes taken out, put in or doubled; cut off."""
+    """The fields as one script, damaged at 1 to 3 places: bytes changed, mostly of bodies, so that much of it still runs; a
+    tag made one with as long a body; bytes taken out, put in or doubled; cut off."""
     script = b"".join(fields)
     for _ in range(dice.pick([1, 1, 2, 3])):
         pieces = split(script) or [bytes(1)]
@@ -595,7 +610,8 @@ def endless_short(dice, hurt):
 
 
 def short_scripts(seed, count):
-    """So many short scripts from a new machine, every second one damaged, each ended by reads of everything where no bad field ends it."""
+    """So many short scripts from a new machine, every second one damaged, each ended by reads of everything where no bad
+    field ends it."""
     dice = Dice(seed)
     whole, hurt = judged(endless_short(dice, False)), judged(endless_short(dice, True))
     return (next(hurt if n % 2 else whole) for n in range(count))
@@ -610,8 +626,12 @@ def gate_short_scripts():
 
 
 def judged(scripts):
-    """Leaves out the scripts to which the Rust has no answer: a damaged or random byte can make a first field `06 20` or `16 01`, which chooses what the Rust
-    isn't. Ours would take it, the harness calls it bad, and that would be a false alarm. (While a difference is made small, comparison.py does the same.)"""
+    """Leaves out the scripts to which the Rust has no answer.
+
+    A damaged or random byte can make a first field `06 20` or `16 01`, which chooses what the Rust isn't. Ours would take
+    it, the harness calls it bad, and that would be a false alarm. (While a difference is made small, `cut` in comparison.py
+    sees to the same.)
+    """
     return (script for script in scripts if not is_unjudged(script))
 
 
@@ -635,7 +655,8 @@ def main():
     parser.add_argument("--thin", action="store_true")
     parser.add_argument("--short", type=int)
     given = parser.parse_args()
-    for script in short_scripts(given.seed, given.short) if given.short else scripts(given.seed, given.fields, given.thin):
+    chosen = short_scripts(given.seed, given.short) if given.short else scripts(given.seed, given.fields, given.thin)
+    for script in chosen:
         sys.stdout.buffer.write(pack([script]))
 
 

@@ -162,8 +162,11 @@ UNJUDGED = [field(tag, byte) for tag, (_, byte) in CHOICES.items()]
 
 
 def is_unjudged(script):
-    """Whether a script chooses what the Rust isn't: `06 20` or `16 01` before all other fields of its chip. Ours takes the choice, and the Rust has no answer
-    to it (the harness calls it bad): such a script compares nothing. Too late, the same field is bad to both."""
+    """Whether a script chooses what the Rust isn't: `06 20` or `16 01` before all other fields of its chip.
+
+    Ours takes the choice, and the Rust has no answer to it (the harness calls it bad): such a script compares nothing. Too
+    late, the same field is bad to both.
+    """
     if len(script) > LONGEST or not any(choice in script for choice in UNJUDGED):
         return False
     return any(piece in UNJUDGED and not bad for piece, bad in performed(script))
