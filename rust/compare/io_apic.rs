@@ -78,11 +78,16 @@ impl Pair for IoApics {
             26..28 => calls.push(select(if dice.chance(70) { dice.below(0x48) } else { dice.word() })),
             28..30 => calls.push(READ_WINDOW),
             30..32 => {
-                let near = BASE.wrapping_add(dice.below(0x30) as usize).wrapping_sub(8);
-                let addr = if dice.chance(70) { near } else { dice.word() as usize };
+                // Every offset to 0x48: version 0x20's EOI register, 0x40, is one of the others here. The vectors written are
+                // those that lines have.
+                let near = BASE.wrapping_add(dice.below(0x51) as usize).wrapping_sub(8);
+                let anywhere = dice.word() as usize;
+                let far = dice.pick(&[BASE + 0x40, BASE + 0x410, BASE + 0x1010, anywhere]);
+                let addr = if dice.chance(70) { near } else { far };
                 let width = dice.width(4);
+                let value = if dice.chance(50) { vector(dice).into() } else { dice.word() as usize };
                 calls.push(Call::Read { addr, width });
-                calls.push(Call::Write { addr, width, value: dice.word() as usize });
+                calls.push(Call::Write { addr, width, value });
             }
             32..34 => calls.push(Call::Write { addr: BASE + 0x10, width: dice.width(8), value: dice.word() as usize }),
             34..36 => calls.push(Call::VectorForGsi(line)),

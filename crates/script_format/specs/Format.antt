@@ -1,7 +1,7 @@
 -- The format of a script's fields (document 01, "Scripts"), as one table: for each tag the sizes of the numbers in its body, and the call that they make.
 use Prim.Native.Nat.{ℕ, zero, suc, _+_, _*_, _/_, _%_}
-use mathlib.Core.Bool.{Bool, true, not, cond}
-use mathlib.Core.List.{List, [], _∷_}
+use mathlib.Core.Bool.{Bool, true, not, cond, _&&_, _||_}
+use mathlib.Core.List.{List, [], _∷_, _++_}
 use lib.Dec.{eqb}
 use lib.ListN.{length, getD}
 use Rattle.vioapic.specs.IoApic.{isVersion}
@@ -47,7 +47,7 @@ anything x = true
 
 -- the width of an access: 1, 2, 4 or 8
 abbrev pub isWidth : ℕ → Bool
-isWidth w = cond (eqb w 1) true (cond (eqb w 2) true (cond (eqb w 4) true (eqb w 8)))
+isWidth w = eqb w 1 || (eqb w 2 || (eqb w 4 || eqb w 8))
 
 -- ---- the table
 
@@ -60,15 +60,21 @@ pub record Format : Type 0 where
 abbrev pub format : ℕ → (ℕ → Bool) → List ℕ → ((ℕ → ℕ) → Call) → Format
 format tag start sizes call = record { tag = tag; start = start; sizes = sizes; call = call }
 
-abbrev pub formats : List Format
-formats =
+-- the I/O APIC's
+abbrev pub ioFormats : List Format
+ioFormats =
     format 0x01 isWidth (1 ∷ 8 ∷ []) (λ n. Io (io.HandleRead (n 1) (n 0)))  -- width, address
     ∷ format 0x02 isWidth (1 ∷ 8 ∷ 8 ∷ []) (λ n. Io (io.HandleWrite (n 1) (n 0) (n 2)))  -- width, address, value
     ∷ format 0x03 anything (1 ∷ 1 ∷ []) (λ n. Io (io.SetGsiLevel (record { 0 = n 0 }) (nonzero (n 1))))  -- GSI, up
     ∷ format 0x04 anything (1 ∷ []) (λ n. Io (io.AssertGsi (record { 0 = n 0 })))  -- GSI
     ∷ format 0x05 anything (1 ∷ []) (λ n. Io (io.EndOfInterrupt (record { 0 = n 0 })))  -- vector
     ∷ format 0x06 isVersion (1 ∷ []) (λ n. IoVersion (n 0))  -- version: 0x11 or 0x20
-    ∷ format 0x10 isWidth (1 ∷ 2 ∷ []) (λ n. Pic (pic.HandleRead (n 1) (n 0)))  -- width, port
+    ∷ []
+
+-- the pair's
+abbrev pub picFormats : List Format
+picFormats =
+    format 0x10 isWidth (1 ∷ 2 ∷ []) (λ n. Pic (pic.HandleRead (n 1) (n 0)))  -- width, port
     ∷ format 0x11 isWidth (1 ∷ 2 ∷ 8 ∷ []) (λ n. Pic (pic.HandleWrite (n 1) (n 0) (n 2)))  -- width, port, value
     ∷ format 0x12 anything (1 ∷ []) (λ n. Pic (pic.ClaimIrq (record { 0 = n 0 })))  -- line
     ∷ format 0x13 anything [] (λ n. Pic pic.ClaimPendingInterrupt)
@@ -80,18 +86,26 @@ formats =
       «slave_in_service» = bit1 (n 2);
     })))
     ∷ format 0x16 isRule (1 ∷ []) (λ n. PicRule (n 0))  -- rule: 0 or 1
-    ∷ format 0x20 anything (1 ∷ 1 ∷ []) (λ n. Apic (apic.AcceptInterrupt (record { 0 = n 0 }) (nonzero (n 1))))  -- vector, level
+    ∷ []
+
+-- the local APIC's
+abbrev pub apicFormats : List Format
+apicFormats =
+    format 0x20 anything (1 ∷ 1 ∷ []) (λ n. Apic (apic.AcceptInterrupt (record { 0 = n 0 }) (nonzero (n 1))))  -- vector, level
     ∷ format 0x21 isWidth (1 ∷ 2 ∷ 8 ∷ []) (λ n. Apic (apic.HandleWrite (n 1) (n 0) (n 2)))  -- width, offset, value
     ∷ format 0x22 anything [] (λ n. Apic apic.HandleEoi)
     ∷ format 0x23 anything (2 ∷ []) (λ n. Apic (apic.HandleRead (n 0)))  -- offset
     ∷ format 0x24 anything (1 ∷ 1 ∷ 1 ∷ 8 ∷ []) (λ n. Apic (apic.Setup (nonzero (n 0)) (record { 0 = n 1 }) (n 2) (n 3)))  -- x2APIC mode, id, count, active
     ∷ []
 
+abbrev pub formats : List Format
+formats = ioFormats ++ (picFormats ++ apicFormats)
+
 -- ---- a body
 
 -- the call, if the body has its size and its first number may stand there
 abbrev pub checked : List ℕ → ℕ → Bool → Call → Body
-checked body size mayStart call = cond (eqb (length body) size) (cond mayStart (Says call) Malformed) Malformed
+checked body size mayStart call = cond (eqb (length body) size && mayStart) (Says call) Malformed
 
 abbrev pub decodedBy : Format → List ℕ → Body
 decodedBy f body =

@@ -2,15 +2,16 @@
 
 ghost use mathlib.Core.Path.{_≡_};
 ghost use Prim.Native.Nat.{_+_, _<_, _^_};
-ghost use Rattle.script_format.specs.Format.{numberAt, isWidth, checked, decoded};
+ghost use Rattle.script_format.specs.Format.{numberAt, isWidth, checked, ioFormats, picFormats, apicFormats, decodedIn, decoded};
+ghost use Rattle.vpic.specs.Pair.{isRule};
+ghost use Rattle.script_format.specs.Chips.{chipOf, isChoice};
 ghost use Rattle.script_format.specs.Fields.{fieldOf, fieldAt};
 use types::Gsi;
 use types::PicLine;
 use types::VcpuId;
 use types::Vector;
 use vioapic::is_version;
-use vpic::pair::PicInterruptClaim;
-use vpic::pair::is_rule;
+use vpic::PicInterruptClaim;
 
 // Calls of the I/O APIC.
 pub enum IoCall {
@@ -55,6 +56,41 @@ pub enum Call {
     Pic(PicCall),
     PicRule(u8),
     Apic(ApicCall),
+}
+
+// The three chips.
+pub enum Chip {
+    IoApic,
+    Pic,
+    LocalApic,
+}
+
+impl Call {
+    // The chip that it is of.
+    pub fn chip(self) -> Chip
+        ensures { λ r. ⌜ r ≡ chipOf self ⌝ }
+    {
+        match self {
+            Call::Io(_) => Chip::IoApic,
+            Call::IoVersion(_) => Chip::IoApic,
+            Call::Pic(_) => Chip::Pic,
+            Call::PicRule(_) => Chip::Pic,
+            Call::Apic(_) => Chip::LocalApic,
+        }
+    }
+
+    // Whether it chooses what that chip is.
+    pub fn is_choice(self) -> bool
+        ensures { λ r. ⌜ r ≡ isChoice self ⌝ }
+    {
+        match self {
+            Call::Io(_) => false,
+            Call::IoVersion(_) => true,
+            Call::Pic(_) => false,
+            Call::PicRule(_) => true,
+            Call::Apic(_) => false,
+        }
+    }
 }
 
 // What a body says.
@@ -124,6 +160,15 @@ fn is_width(code: u8) -> bool
     code == 8
 }
 
+fn is_rule(rule: u8) -> bool
+    ensures { λ r. ⌜ r ≡ isRule rule ⌝ }
+{
+    if rule == 0 {
+        return true;
+    }
+    rule == 1
+}
+
 // The call, if the body has its size and its first number is one that may stand there.
 fn checked(body: &[u8], size: usize, may_start: bool, call: Call) -> Body
     ensures { λ r. ⌜ r ≡ checked (now (body .entry)) size «may_start» call ⌝ }
@@ -137,9 +182,9 @@ fn checked(body: &[u8], size: usize, may_start: bool, call: Call) -> Body
     Body::Malformed
 }
 
-// A body by its tag: its size, whether its first number may stand there, and its call.
-pub fn decode(tag: u8, body: &[u8]) -> Body
-    ensures { λ r. ⌜ r ≡ decoded tag (now (body .entry)) ⌝ }
+// A body of the I/O APIC's fields by its tag: its size, whether its first number may stand there, and its call.
+fn decode_io(tag: u8, body: &[u8]) -> Body
+    ensures { λ r. ⌜ r ≡ decodedIn ioFormats tag (now (body .entry)) ⌝ }
 {
     match tag {
         0x01 => {
@@ -173,8 +218,22 @@ pub fn decode(tag: u8, body: &[u8]) -> Body
         }
         0x06 => {
             let version = byte(body, 0);
-            checked(body, 1, is_version(version), Call::IoVersion(version))
+            checked(
+                body,
+                1,
+                is_version(version as u64),
+                Call::IoVersion(version),
+            )
         }
+        _ => Body::Malformed,
+    }
+}
+
+// Of the pair's.
+fn decode_pic(tag: u8, body: &[u8]) -> Body
+    ensures { λ r. ⌜ r ≡ decodedIn picFormats tag (now (body .entry)) ⌝ }
+{
+    match tag {
         0x10 => {
             let width = byte(body, 0);
             let call = PicCall::HandleRead {
@@ -214,6 +273,15 @@ pub fn decode(tag: u8, body: &[u8]) -> Body
             let rule = byte(body, 0);
             checked(body, 1, is_rule(rule), Call::PicRule(rule))
         }
+        _ => Body::Malformed,
+    }
+}
+
+// Of the local APIC's.
+fn decode_apic(tag: u8, body: &[u8]) -> Body
+    ensures { λ r. ⌜ r ≡ decodedIn apicFormats tag (now (body .entry)) ⌝ }
+{
+    match tag {
         0x20 => {
             let call = ApicCall::AcceptInterrupt(Vector(byte(body, 0)), byte(body, 1) != 0);
             checked(body, 2, true, Call::Apic(call))
@@ -246,6 +314,19 @@ pub fn decode(tag: u8, body: &[u8]) -> Body
         }
         _ => Body::Malformed,
     }
+}
+
+// A body by its tag.
+pub fn decode(tag: u8, body: &[u8]) -> Body
+    ensures { λ r. ⌜ r ≡ decoded tag (now (body .entry)) ⌝ }
+{
+    if tag < 0x10 {
+        return decode_io(tag, body);
+    }
+    if tag < 0x20 {
+        return decode_pic(tag, body);
+    }
+    decode_apic(tag, body)
 }
 
 // ---- a field

@@ -1,3 +1,5 @@
-pub mod Agree
+pub mod Chips
+pub mod Late
+pub mod Local
 pub mod Outcomes
 pub mod Runs

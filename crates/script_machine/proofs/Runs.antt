@@ -1,44 +1,22 @@
 -- Laws of a run: what one more field does. Assumes nothing.
 use mathlib.Core.Path.{_≡_, refl}
-use mathlib.Core.Bool.{Bool, true, false, cond}
 use mathlib.Core.List.{List}
 use Prim.Native.Nat.{ℕ, zero, suc, _+_}
 use native.Mathlib.Numerals.{add-one}
 use native.Mathlib.Omega.{arith}
-use lib.Dec.{eqb}
-use Rattle.types.specs.Reply.{Outcome, replyNumber}
-use Rattle.vlapic.specs.declared.VirtualApicRegs.{VirtualApicRegs}
-use Rattle.vlapic.specs.Calls as vlapic
-use Rattle.script_format.specs.declared.ApicCall.the-variants as apic
 use Rattle.script_format.specs.declared.Call.{Call}
-use Rattle.script_format.specs.declared.Call.the-variants.{Io, IoVersion, Pic, PicRule, Apic}
 use Rattle.script_format.specs.declared.Cursor.{Cursor}
 use Rattle.script_format.specs.declared.Field.the-variants.{Good, Bad, End}
-use Rattle.script_machine.specs.declared.Machine.{Machine}
 use Rattle.script_machine.specs.declared.Stop.{Stop}
 use Rattle.script_machine.specs.declared.Stop.the-variants as stop
-use Rattle.script_machine.specs.declared.Run.{Run}
 use Rattle.script_machine.specs.Late.{usedAfter, fieldFor}
-use Rattle.script_machine.specs.Machine.{onApic, withVcpus, setUp, performed}
-use Rattle.script_machine.specs.Run.{fieldCount, placeAfter, stopAfter, callsFrom, afterCalls, runOf}
+use Rattle.script_machine.specs.Machine.{Machine, performed}
+use Rattle.script_machine.specs.Run.{Run, fieldCount, placeAfter, stopAfter, callsFrom, afterCalls, runOf}
 
 -- the machine remembers which chips were used
-by-setup : (m : Machine) (o : Outcome VirtualApicRegs) (num active : ℕ) (b : Bool) → cond b (onApic (withVcpus m num active) o) (onApic m o) .state .used ≡ m .used
-by-setup m o num active true = refl
-by-setup m o num active false = refl
-
 pub remembers : (m : Machine) (c : Call) → performed m c .state .used ≡ usedAfter (m .used) c
-unfolding performed setUp
-remembers m (Io c) = refl
-remembers m (IoVersion version) = refl
-remembers m (Pic c) = refl
-remembers m (PicRule rule) = refl
-remembers m (Apic (apic.AcceptInterrupt v level)) = refl
-remembers m (Apic (apic.HandleWrite offset width value)) = refl
-remembers m (Apic apic.HandleEoi) = refl
-remembers m (Apic (apic.HandleRead offset)) = refl
-remembers m (Apic (apic.Setup x2 id num active)) =
-    by-setup m (vlapic.setup (m .apic) x2 id num) num active (eqb (replyNumber (vlapic.setup (m .apic) x2 id num .reply)) 0)
+unfolding performed
+remembers m c = refl
 
 -- a run after k fields that were performed before it
 abbrev pub further : ℕ → Run → Run

@@ -1,4 +1,3 @@
-pub mod Agreement
 pub mod Late
 pub mod Machine
 pub mod Run

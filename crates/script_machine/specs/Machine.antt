@@ -1,34 +1,78 @@
 -- The machine of the three controllers, and one call on it (document 01, "Scripts"): each call is one of a chip's public calls, and changes that chip alone.
 use Prim.Native.Nat.{ℕ}
-use mathlib.Core.Bool.{Bool, true, false, cond}
+use mathlib.Core.Bool.{Bool, true, false, cond, _||_}
+use mathlib.Core.List.{List}
 use lib.Dec.{eqb}
-use Rattle.types.specs.Reply.{Outcome, replyNumber}
+use Rattle.types.specs.Reply.{Outcome, outcomeOf, replyNumber}
 use Rattle.types.specs.declared.VcpuId.{VcpuId}
 use Rattle.types.specs.declared.Reply.{Reply}
-use Rattle.types.specs.declared.Reply.the-variants.{Nothing}
-use Rattle.vioapic.specs.declared.EmulatedIoApic.{EmulatedIoApic}
-use Rattle.vioapic.specs.IoApic.{chipOf, newDefault}
+use Rattle.vioapic.specs.State.{IoApicState}
+use Rattle.vioapic.specs.State as io-words
+use Rattle.vioapic.specs.IoApic.{newDefault, createdVersion}
 use Rattle.vioapic.specs.Calls as ioapic
-use Rattle.vpic.specs.declared.pair.EmulatedPic.{EmulatedPic}
+use Rattle.vpic.specs.Words.{PicState}
+use Rattle.vpic.specs.Words as pic-words
 use Rattle.vpic.specs.Pair as vpic
 use Rattle.vlapic.specs.declared.VirtualApicRegs.{VirtualApicRegs}
 use Rattle.vlapic.specs.Regs.{start}
 use Rattle.vlapic.specs.Priority.{acceptInterrupt, handleEoi}
 use Rattle.vlapic.specs.Registers as registers
 use Rattle.vlapic.specs.Calls as vlapic
+use Rattle.vlapic_words.specs.Words as apic-words
 use Rattle.script_format.specs.declared.IoCall.{IoCall}
 use Rattle.script_format.specs.declared.IoCall.the-variants as io
 use Rattle.script_format.specs.declared.PicCall.{PicCall}
-use Rattle.script_format.specs.declared.PicCall.the-variants as pic
+use Rattle.script_format.specs.declared.PicCall.the-variants as pair
 use Rattle.script_format.specs.declared.ApicCall.{ApicCall}
-use Rattle.script_format.specs.declared.ApicCall.the-variants as apic
+use Rattle.script_format.specs.declared.ApicCall.the-variants as local
 use Rattle.script_format.specs.declared.Call.{Call}
 use Rattle.script_format.specs.declared.Call.the-variants.{Io, IoVersion, Pic, PicRule, Apic}
 use Rattle.script_machine.specs.declared.Used.{Used}
-use Rattle.script_machine.specs.declared.Machine.{Machine}
-use Rattle.script_machine.specs.declared.Performed.{Performed}
-use Rattle.script_machine.specs.declared.IoStep.{IoStep}
-use Rattle.script_machine.specs.declared.PicStep.{PicStep}
+use Rattle.script_machine.specs.declared.Vm.{Vm}
+use Rattle.script_machine.specs.declared.Machine as declared
+use Rattle.script_machine.specs.Late.{usedAfter}
+
+-- the local APIC, and what the VM tells it: how many vCPUs there are, and which of them are active
+pub record Local : Type 0 where
+  pub apic : VirtualApicRegs
+  pub «vcpu_num» : ℕ
+  pub «active_vcpus» : ℕ
+
+pub record Machine : Type 0 where
+  pub ioapic : IoApicState
+  pub pic : PicState
+  pub local : Local
+  pub used : Used
+
+-- m with another part
+abbrev pub withIoapic : Machine → IoApicState → Machine
+withIoapic m x = record { ioapic = x; pic = m .pic; local = m .local; used = m .used }
+
+abbrev pub withPic : Machine → PicState → Machine
+withPic m x = record { ioapic = m .ioapic; pic = x; local = m .local; used = m .used }
+
+abbrev pub withLocal : Machine → Local → Machine
+withLocal m x = record { ioapic = m .ioapic; pic = m .pic; local = x; used = m .used }
+
+abbrev pub withUsed : Machine → Used → Machine
+withUsed m x = record { ioapic = m .ioapic; pic = m .pic; local = m .local; used = x }
+
+-- the local APIC of such words in a VM
+abbrev pub localIn : List ℕ → Vm → Local
+localIn l vm = record { apic = apic-words.view l; «vcpu_num» = vm .«vcpu_num»; «active_vcpus» = vm .«active_vcpus» }
+
+-- the machine that the words of its chips and the rest of it stand for
+unfoldable pub machineIn : List ℕ → List ℕ → List ℕ → Vm → Machine
+machineIn io pair l vm = record {
+  ioapic = io-words.view io;
+  pic = pic-words.view pair;
+  local = localIn l vm;
+  used = vm .used;
+}
+
+-- and by value
+abbrev pub machineOf : declared.Machine → Machine
+machineOf m = machineIn (m .ioapic) (m .pic) (m .apic) (m .vm)
 
 -- no chip was used
 abbrev pub unused : Used
@@ -36,36 +80,12 @@ unused = record { io = false; pic = false }
 
 -- the I/O APIC at 0xfec00000, size 0x1000; the local APIC in xAPIC mode with id 0; one vCPU, and it is active
 unfoldable pub newMachine : Machine
-newMachine = record { ioapic = newDefault; pic = vpic.newPic; apic = start false 0; «vcpu_num» = 1; «active_vcpus» = 1; used = unused }
-
--- ---- the machine after a call of one of its chips; of the I/O APIC or the pair, it remembers that there was one, refused or not
-
-abbrev pub usedIo : Used → Used
-usedIo u = record { io = true; pic = u .pic }
-
-abbrev pub usedPic : Used → Used
-usedPic u = record { io = u .io; pic = true }
-
-abbrev pub onIoApic : Machine → Outcome EmulatedIoApic → Outcome Machine
-onIoApic m o = record {
-  state = record { ioapic = o .state; pic = m .pic; apic = m .apic; «vcpu_num» = m .«vcpu_num»; «active_vcpus» = m .«active_vcpus»; used = usedIo (m .used) };
-  reply = o .reply;
+newMachine = record {
+  ioapic = newDefault;
+  pic = vpic.newState 0;
+  local = record { apic = start false 0; «vcpu_num» = 1; «active_vcpus» = 1 };
+  used = unused;
 }
-
-abbrev pub onPic : Machine → Outcome EmulatedPic → Outcome Machine
-onPic m o = record {
-  state = record { ioapic = m .ioapic; pic = o .state; apic = m .apic; «vcpu_num» = m .«vcpu_num»; «active_vcpus» = m .«active_vcpus»; used = usedPic (m .used) };
-  reply = o .reply;
-}
-
-abbrev pub onApic : Machine → Outcome VirtualApicRegs → Outcome Machine
-onApic m o = record {
-  state = record { ioapic = m .ioapic; pic = m .pic; apic = o .state; «vcpu_num» = m .«vcpu_num»; «active_vcpus» = m .«active_vcpus»; used = m .used };
-  reply = o .reply;
-}
-
-abbrev pub withVcpus : Machine → ℕ → ℕ → Machine
-withVcpus m num active = record { ioapic = m .ioapic; pic = m .pic; apic = m .apic; «vcpu_num» = num; «active_vcpus» = active; used = m .used }
 
 -- ---- the calls
 
@@ -77,55 +97,52 @@ ioCall (io.SetGsiLevel gsi up) = ioapic.SetGsiLevel gsi up
 ioCall (io.AssertGsi gsi) = ioapic.AssertGsi gsi
 ioCall (io.EndOfInterrupt vector) = ioapic.EndOfInterrupt vector
 
--- the choice of the I/O APIC's version: a new one of it, at the usual address
-abbrev pub chosen : ℕ → Outcome EmulatedIoApic
-chosen version = record { state = chipOf version 0xfec00000 0x1000; reply = Nothing }
+-- the choice of its version makes a new one of it, at the usual address
+abbrev pub chosen : IoApicState → ℕ → Outcome IoApicState
+chosen m version = createdVersion m 0xfec00000 0x1000 version
 
--- the choice of the pair's rule: a new pair of it
-abbrev pub ruled : ℕ → Outcome EmulatedPic
-ruled rule = record { state = vpic.pic (vpic.newState rule); reply = Nothing }
+unfoldable pub picOutcome : PicState → PicCall → Outcome PicState
+picOutcome p (pair.HandleRead port width) = vpic.handleRead p port width
+picOutcome p (pair.HandleWrite port width value) = vpic.handleWrite p port width value
+picOutcome p (pair.ClaimIrq irq) = vpic.withClaim (vpic.claimIrq p irq)
+picOutcome p pair.ClaimPendingInterrupt = vpic.withClaim (vpic.claimPending p)
+picOutcome p (pair.RestoreInterrupt claim) = vpic.restoreInterrupt p claim
 
-abbrev pub picOutcome : EmulatedPic → PicCall → Outcome EmulatedPic
-picOutcome p (pic.HandleRead port width) = vpic.handleRead p port width
-picOutcome p (pic.HandleWrite port width value) = vpic.handleWrite p port width value
-picOutcome p (pic.ClaimIrq irq) = vpic.withClaim (vpic.claimIrq (p .state) irq)
-picOutcome p pic.ClaimPendingInterrupt = vpic.withClaim (vpic.claimPending (p .state))
-picOutcome p (pic.RestoreInterrupt claim) = vpic.restoreInterrupt p claim
-
-abbrev pub outcomeOf : VirtualApicRegs → Reply → Outcome VirtualApicRegs
-outcomeOf s r = record { state = s; reply = r }
+-- the local APIC after a call that leaves the VM as it is
+abbrev pub inVm : Local → Outcome VirtualApicRegs → Outcome Local
+inVm l o = record { state = record { apic = o .state; «vcpu_num» = l .«vcpu_num»; «active_vcpus» = l .«active_vcpus» }; reply = o .reply }
 
 -- setup: the VM's count and active mask come with the new local APIC. Refused, they stay as they were, as the local APIC does
-abbrev pub setUpBy : Machine → Outcome VirtualApicRegs → ℕ → ℕ → Outcome Machine
-setUpBy m o num active = cond (eqb (replyNumber (o .reply)) 0) (onApic (withVcpus m num active) o) (onApic m o)
-
-unfoldable pub setUp : Machine → Bool → VcpuId → ℕ → ℕ → Outcome Machine
-setUp m x2apic id num active = setUpBy m (vlapic.setup (m .apic) x2apic id num) num active
+abbrev pub setUpBy : Local → Outcome VirtualApicRegs → ℕ → ℕ → Outcome Local
+setUpBy l o num active =
+    cond (eqb (replyNumber (o .reply)) 0)
+    (record { state = record { apic = o .state; «vcpu_num» = num; «active_vcpus» = active }; reply = o .reply })
+    (inVm l o)
 
 -- the local APIC goes by the VM's count and active mask
-abbrev pub apicOutcome : Machine → ApicCall → Outcome Machine
-apicOutcome m (apic.AcceptInterrupt vector level) = onApic m (acceptInterrupt (m .apic) vector level)
-apicOutcome m (apic.HandleWrite offset width value) =
-    onApic m (vlapic.handleWrite (m .apic) offset value width (m .«vcpu_num») (m .«active_vcpus»))
-apicOutcome m apic.HandleEoi = onApic m (handleEoi (m .apic))
-apicOutcome m (apic.HandleRead offset) = onApic m (outcomeOf (m .apic) (registers.handleRead (m .apic) offset))
-apicOutcome m (apic.Setup x2apic id num active) = setUp m x2apic id num active
+unfoldable pub localOutcome : Local → ApicCall → Outcome Local
+localOutcome l (local.AcceptInterrupt vector level) = inVm l (acceptInterrupt (l .apic) vector level)
+localOutcome l (local.HandleWrite offset width value) = inVm l (vlapic.handleWrite (l .apic) offset value width (l .«vcpu_num») (l .«active_vcpus»))
+localOutcome l local.HandleEoi = inVm l (handleEoi (l .apic))
+localOutcome l (local.HandleRead offset) = inVm l (outcomeOf (l .apic) (registers.handleRead (l .apic) offset))
+localOutcome l (local.Setup x2apic id num active) = setUpBy l (vlapic.setup (l .apic) x2apic id num) num active
 
--- one call: the whole machine after it, and its reply
+-- a chip's outcome as the machine's
+abbrev pub inMachine : {S : Type 0} → (S → Machine) → Outcome S → Outcome Machine
+inMachine put o = record { state = put (o .state); reply = o .reply }
+
+-- what a call does to its chip
+abbrev pub applied : Machine → Call → Outcome Machine
+applied m (Io c) = inMachine (withIoapic m) (ioapic.outcome (m .ioapic) (ioCall c))
+applied m (IoVersion version) = inMachine (withIoapic m) (chosen (m .ioapic) version)
+applied m (Pic c) = inMachine (withPic m) (picOutcome (m .pic) c)
+applied m (PicRule rule) = inMachine (withPic m) (vpic.newRule (m .pic) rule)
+applied m (Apic c) = inMachine (withLocal m) (localOutcome (m .local) c)
+
+-- what a machine has beside its chips, after a call
+abbrev pub remembering : Vm → Call → Vm
+remembering vm c = record { «vcpu_num» = vm .«vcpu_num»; «active_vcpus» = vm .«active_vcpus»; used = usedAfter (vm .used) c }
+
+-- one call: the whole machine after it, and its reply. The machine remembers it, refused or not
 unfoldable pub performed : Machine → Call → Outcome Machine
-performed m (Io c) = onIoApic m (ioapic.outcome (m .ioapic) (ioCall c))
-performed m (IoVersion version) = onIoApic m (chosen version)
-performed m (Pic c) = onPic m (picOutcome (m .pic) c)
-performed m (PicRule rule) = onPic m (ruled rule)
-performed m (Apic c) = apicOutcome m c
-
--- ---- what the code hands back
-
-abbrev pub ioStep : IoStep → Outcome EmulatedIoApic
-ioStep r = record { state = r .ioapic; reply = r .reply }
-
-abbrev pub picStep : PicStep → Outcome EmulatedPic
-picStep r = record { state = r .pic; reply = r .reply }
-
-abbrev pub performedOutcome : Performed → Outcome Machine
-performedOutcome r = record { state = r .machine; reply = r .reply }
+performed m c = inMachine (λ n. withUsed n (usedAfter (m .used) c)) (applied m c)

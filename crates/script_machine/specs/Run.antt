@@ -5,14 +5,15 @@ use mathlib.Core.List.{List, [], _∷_}
 use Rattle.script_format.specs.declared.Call.{Call}
 use Rattle.script_format.specs.declared.Field.{Field}
 use Rattle.script_format.specs.declared.Field.the-variants.{Good, Bad, End}
+use Rattle.script_format.specs.declared.Cursor.{Cursor}
 use Rattle.types.specs.declared.Reply.{Reply}
 use Rattle.script_machine.specs.declared.Used.{Used}
-use Rattle.script_machine.specs.declared.Machine.{Machine}
 use Rattle.script_machine.specs.declared.Stop.{Stop}
 use Rattle.script_machine.specs.declared.Stop.the-variants as stop
-use Rattle.script_machine.specs.declared.Run.{Run}
 use Rattle.script_machine.specs.Late.{usedAfter, fieldFor}
-use Rattle.script_machine.specs.Machine.{performed}
+use Rattle.script_machine.specs.declared.Ended.{Ended}
+use Rattle.script_machine.specs.declared.MachineRun.{MachineRun}
+use Rattle.script_machine.specs.Machine.{Machine, machineIn, machineOf, performed}
 
 -- what a good field gives, by its call and the place after it; what a bad field gives; what the end gives
 abbrev pub byField : {A : Type 0} → Field → (Call → ℕ → A) → A → A → A
@@ -49,7 +50,13 @@ unfoldable pub replies : Machine → List Call → List Reply
 replies m [] = []
 replies m (c ∷ cs) = performed m c .reply ∷ replies (performed m c .state) cs
 
--- a run
+-- a run: the machine after it, how many fields were performed, where the next one starts, and why it ended
+pub record Run : Type 0 where
+  pub machine : Machine
+  pub done : ℕ
+  pub next : Cursor
+  pub stop : Stop
+
 abbrev pub runOf : List ℕ → Machine → ℕ → ℕ → Run
 runOf s m at n = record {
   machine = afterCalls m (callsFrom s (m .used) at n);
@@ -57,3 +64,10 @@ runOf s m at n = record {
   next = record { at = placeAfter s (m .used) at n };
   stop = stopAfter s (m .used) at n;
 }
+
+-- the run that words after it and its end stand for
+abbrev pub runIn : List ℕ → List ℕ → List ℕ → Ended → Run
+runIn io pair apic e = record { machine = machineIn io pair apic (e .vm); done = e .done; next = e .next; stop = e .stop }
+
+abbrev pub machineRun : MachineRun → Run
+machineRun r = record { machine = machineOf (r .machine); done = r .done; next = r .next; stop = r .stop }

@@ -1,25 +1,28 @@
-// A machine of the three interrupt controllers, and runs of scripts on it (document 01, "Scripts"). Not in the Rust crate.
+// A machine of the three interrupt controllers, in place over the words of each, and runs of scripts on it (document 01, "Scripts"). Not in the Rust crate.
 
 ghost use mathlib.Core.Path.{_≡_};
+ghost use Rattle.types.specs.Reply.{outcomeOf};
+ghost use Rattle.vioapic.specs.State as io-words;
 ghost use Rattle.vioapic.specs.Calls.{outcome};
-ghost use Rattle.vioapic.specs.Table.{Agrees};
-ghost use Rattle.script_machine.specs.Agreement.{MachineAgrees};
-ghost use Rattle.script_machine.specs.Machine.{newMachine, ioCall, chosen, ruled, picOutcome, onIoApic, onPic, onApic, outcomeOf, setUp, apicOutcome, ioStep, picStep, performedOutcome, performed};
-ghost use Rattle.script_machine.specs.Late.{isLate, taken, fieldFor};
-ghost use Rattle.script_machine.specs.Run.{runOf};
+ghost use Rattle.vpic.specs.Words as pic-words;
+ghost use Rattle.script_format.specs.declared.ApicCall.the-variants as local;
+ghost use Rattle.script_machine.specs.Machine.{machineIn, machineOf, newMachine, ioCall, picOutcome, localIn, localOutcome, remembering, performed};
+ghost use Rattle.script_machine.specs.Late.{wasUsed, nowUsed, isLate, taken, fieldFor};
+ghost use Rattle.script_machine.specs.Run.{runOf, runIn, machineRun};
 use script_format::ApicCall;
 use script_format::Call;
+use script_format::Chip;
 use script_format::Cursor;
 use script_format::Field;
 use script_format::IoCall;
 use script_format::PicCall;
 use types::Reply;
 use types::VcpuId;
-use vioapic::EmulatedIoApic;
-use vioapic::IoApicState;
-use vlapic::VirtualApicRegs;
-use vpic::pair::EmulatedPic;
-use vpic::pair::PicState;
+
+// The I/O APIC's usual address and size.
+const IOAPIC_BASE: u64 = 0xfec0_0000;
+
+const IOAPIC_SIZE: u64 = 0x1000;
 
 // Whether a field of the I/O APIC, or of the pair, was performed.
 pub struct Used {
@@ -27,29 +30,44 @@ pub struct Used {
     pub pic: bool,
 }
 
-// The three chips, how many vCPUs the VM has, which of them are active, and which chips were used.
-pub struct Machine {
-    pub ioapic: EmulatedIoApic,
-    pub pic: EmulatedPic,
-    pub apic: VirtualApicRegs,
+impl Used {
+    fn has(self, chip: Chip) -> bool
+        ensures { λ r. ⌜ r ≡ wasUsed self chip ⌝ }
+    {
+        match chip {
+            Chip::IoApic => self.io,
+            Chip::Pic => self.pic,
+            Chip::LocalApic => false,
+        }
+    }
+
+    fn with(self, chip: Chip) -> Used
+        ensures { λ r. ⌜ r ≡ nowUsed self chip ⌝ }
+    {
+        match chip {
+            Chip::IoApic => Used {
+                io: true,
+                pic: self.pic,
+            },
+            Chip::Pic => Used {
+                io: self.io,
+                pic: true,
+            },
+            Chip::LocalApic => self,
+        }
+    }
+}
+
+// What a machine has beside its chips: how many vCPUs the VM has, which of them are active, and which chips were used.
+pub struct Vm {
     pub vcpu_num: usize,
     pub active_vcpus: u64,
     pub used: Used,
 }
 
-// A machine, or one of its chips, after a call, and what the call says back.
+// What a call leaves beside the chips' words, and what it says back.
 pub struct Performed {
-    pub machine: Machine,
-    pub reply: Reply,
-}
-
-pub struct IoStep {
-    pub ioapic: EmulatedIoApic,
-    pub reply: Reply,
-}
-
-pub struct PicStep {
-    pub pic: EmulatedPic,
+    pub vm: Vm,
     pub reply: Reply,
 }
 
@@ -60,9 +78,9 @@ pub enum Stop {
     End,
 }
 
-// The machine after a run, how many fields were performed, where the next one starts, and why the run ended.
-pub struct Run {
-    pub machine: Machine,
+// What a run leaves beside the chips' words: how many fields were performed, where the next one starts, and why the run ended.
+pub struct Ended {
+    pub vm: Vm,
     pub done: usize,
     pub next: Cursor,
     pub stop: Stop,
@@ -70,137 +88,190 @@ pub struct Run {
 
 // ---- one call on one chip
 
-fn call_ioapic(ioapic: EmulatedIoApic, call: IoCall) -> IoStep
-    ensures { λ r. ⌜ (Agrees (ioapic .state) → ioStep r ≡ outcome ioapic (ioCall call)) ⌝ }
+fn call_ioapic(ioapic: &mut [u64; 32], call: IoCall) -> Reply
+    ensures { λ r. ⌜ outcomeOf (io-words.view (now (ioapic .exit))) r ≡ outcome (io-words.view (now (ioapic .entry))) (ioCall call) ⌝ }
 {
     match call {
-        IoCall::HandleRead { addr, width } => {
-            let read = ioapic.handle_read(addr, width);
-            let reply = read.reply();
-            IoStep { ioapic, reply }
-        }
+        IoCall::HandleRead { addr, width } => vioapic::handle_read(
+            &*ioapic,
+            addr,
+            width as u64,
+        ).reply(),
         IoCall::HandleWrite { addr, width, value } => {
-            let written = ioapic.handle_write(addr, width, value);
-            let answer = written.answer;
-            let after = written.chip;
-            let reply = answer.reply();
-            IoStep {
-                ioapic: after,
-                reply,
-            }
+            vioapic::handle_write(&mut *ioapic, addr, width as u64, value).reply()
         }
-        IoCall::SetGsiLevel(gsi, up) => {
-            let routed = ioapic.set_gsi_level(gsi, up);
-            let answer = routed.answer;
-            let after = routed.chip;
-            let reply = answer.reply();
-            IoStep {
-                ioapic: after,
-                reply,
-            }
-        }
-        IoCall::AssertGsi(gsi) => {
-            let routed = ioapic.assert_gsi(gsi);
-            let answer = routed.answer;
-            let after = routed.chip;
-            let reply = answer.reply();
-            IoStep {
-                ioapic: after,
-                reply,
-            }
-        }
-        IoCall::EndOfInterrupt(vector) => {
-            let ended = ioapic.end_of_interrupt(vector);
-            let answer = ended.answer;
-            let after = ended.chip;
-            let reply = answer.reply();
-            IoStep {
-                ioapic: after,
-                reply,
-            }
-        }
+        IoCall::SetGsiLevel(gsi, up) => vioapic::set_gsi_level(&mut *ioapic, gsi, up).reply(),
+        IoCall::AssertGsi(gsi) => vioapic::assert_gsi(&mut *ioapic, gsi).reply(),
+        IoCall::EndOfInterrupt(vector) => vioapic::end_of_interrupt(&mut *ioapic, vector).reply(),
     }
 }
 
-// A new I/O APIC of that version, at its usual address.
-fn choose_version(version: u8) -> IoStep
-    ensures { λ r. ⌜ ioStep r ≡ chosen version ⌝ }
-{
-    let mut ioapic = EmulatedIoApic::new_default();
-    ioapic.state = IoApicState::new(version);
-    IoStep {
-        ioapic,
-        reply: Reply::Nothing,
-    }
-}
-
-fn call_pic(pic: EmulatedPic, call: PicCall) -> PicStep
-    ensures { λ r. ⌜ picStep r ≡ picOutcome pic call ⌝ }
+fn call_pic(pic: &mut [u64; 4], call: PicCall) -> Reply
+    ensures { λ r. ⌜ outcomeOf (pic-words.view (now (pic .exit))) r ≡ picOutcome (pic-words.view (now (pic .entry))) call ⌝ }
 {
     match call {
-        PicCall::HandleRead { port, width } => {
-            let read = pic.handle_read(port, width);
-            let value = read.value;
-            let after = read.pic;
-            let reply = value.reply();
-            PicStep { pic: after, reply }
-        }
+        PicCall::HandleRead { port, width } => vpic::handle_read(
+            &*pic,
+            port as u64,
+            width as u64,
+        ).reply(),
         PicCall::HandleWrite { port, width, value } => {
-            let written = pic.handle_write(port, width, value);
-            let done = written.done;
-            let after = written.pic;
-            let reply = done.reply();
-            PicStep { pic: after, reply }
+            vpic::handle_write(&mut *pic, port as u64, width as u64, value).reply()
         }
-        PicCall::ClaimIrq(irq) => {
-            let claimed = pic.claim_irq(irq);
-            let claim = claimed.claim;
-            let after = claimed.pic;
-            let reply = claim.reply();
-            PicStep { pic: after, reply }
-        }
-        PicCall::ClaimPendingInterrupt => {
-            let claimed = pic.claim_pending_interrupt();
-            let claim = claimed.claim;
-            let after = claimed.pic;
-            let reply = claim.reply();
-            PicStep { pic: after, reply }
-        }
-        PicCall::RestoreInterrupt(claim) => {
-            let restored = pic.restore_interrupt(claim);
-            let done = restored.done;
-            let after = restored.pic;
-            let reply = done.reply();
-            PicStep { pic: after, reply }
-        }
+        PicCall::ClaimIrq(irq) => vpic::claim_irq(&mut *pic, irq).reply(),
+        PicCall::ClaimPendingInterrupt => vpic::claim_pending_interrupt(&mut *pic).reply(),
+        PicCall::RestoreInterrupt(claim) => vpic::restore_interrupt(&mut *pic, claim).reply(),
     }
 }
 
-// A new pair of that rule.
-fn choose_rule(rule: u8) -> PicStep
-    ensures { λ r. ⌜ picStep r ≡ ruled rule ⌝ }
+// A new local APIC, with the count and the active mask that go with it; refused, all three stay.
+fn set_up(
+    apic: &mut [u64; 48],
+    vm: Vm,
+    x2apic: bool,
+    vcpu_id: VcpuId,
+    vcpu_num: usize,
+    active_vcpus: u64,
+) -> Performed
+    ensures { λ r. ⌜ outcomeOf (localIn (now (apic .exit)) (r .vm)) (r .reply) ≡ localOutcome (localIn (now (apic .entry)) vm) (local.Setup x2apic «vcpu_id» «vcpu_num» «active_vcpus») ⌝ }
+    ensures { λ r. ⌜ r .vm .used ≡ vm .used ⌝ }
 {
-    PicStep {
-        pic: EmulatedPic {
-            state: PicState::new(rule),
+    let reply = vlapic_words::setup(&mut *apic, x2apic, vcpu_id, vcpu_num).reply();
+    let used = vm.used;
+    if reply.number() == 0 {
+        return Performed {
+            vm: Vm {
+                vcpu_num,
+                active_vcpus,
+                used,
+            },
+            reply,
+        };
+    }
+    Performed { vm, reply }
+}
+
+fn call_apic(apic: &mut [u64; 48], vm: Vm, call: ApicCall) -> Performed
+    ensures { λ r. ⌜ outcomeOf (localIn (now (apic .exit)) (r .vm)) (r .reply) ≡ localOutcome (localIn (now (apic .entry)) vm) call ⌝ }
+    ensures { λ r. ⌜ r .vm .used ≡ vm .used ⌝ }
+{
+    match call {
+        ApicCall::AcceptInterrupt(vector, level_triggered) => {
+            vlapic_words::accept_interrupt(&mut *apic, vector, level_triggered);
+            Performed {
+                vm,
+                reply: Reply::Nothing,
+            }
+        }
+        ApicCall::HandleWrite {
+            offset,
+            width,
+            value,
+        } => {
+            let reply = vlapic_words::handle_write(
+                &mut *apic,
+                offset,
+                value,
+                width,
+                vm.vcpu_num,
+                vm.active_vcpus,
+            ).reply();
+            Performed { vm, reply }
+        }
+        ApicCall::HandleEoi => {
+            let reply = vlapic_words::handle_eoi(&mut *apic).reply();
+            Performed { vm, reply }
+        }
+        ApicCall::HandleRead(offset) => {
+            let reply = vlapic_words::handle_read(&*apic, offset).reply();
+            Performed { vm, reply }
+        }
+        ApicCall::Setup {
+            x2apic,
+            vcpu_id,
+            vcpu_num,
+            active_vcpus,
+        } => set_up(&mut *apic, vm, x2apic, vcpu_id, vcpu_num, active_vcpus),
+    }
+}
+
+// ---- one call on the machine
+
+// A new machine in these words: the I/O APIC at its usual address; the local APIC of vCPU 0, the only one, in xAPIC mode.
+pub fn new(ioapic: &mut [u64; 32], pic: &mut [u64; 4], apic: &mut [u64; 48]) -> Vm
+    ensures { λ r. ⌜ machineIn (now (ioapic .exit)) (now (pic .exit)) (now (apic .exit)) r ≡ newMachine ⌝ }
+{
+    vioapic::new_default(&mut *ioapic);
+    vpic::new(&mut *pic);
+    vlapic_words::new(&mut *apic);
+    Vm {
+        vcpu_num: 1,
+        active_vcpus: 1,
+        used: Used {
+            io: false,
+            pic: false,
         },
-        reply: Reply::Nothing,
+    }
+}
+
+// The machine remembers a call.
+fn remember(vm: Vm, call: Call) -> Vm
+    ensures { λ r. ⌜ r ≡ remembering vm call ⌝ }
+{
+    Vm {
+        vcpu_num: vm.vcpu_num,
+        active_vcpus: vm.active_vcpus,
+        used: vm.used.with(call.chip()),
+    }
+}
+
+// Performs one call. Whether a choice comes too late is said where its field is read.
+pub fn perform(
+    ioapic: &mut [u64; 32],
+    pic: &mut [u64; 4],
+    apic: &mut [u64; 48],
+    vm: Vm,
+    call: Call,
+) -> Performed
+    ensures { λ r. ⌜ outcomeOf (machineIn (now (ioapic .exit)) (now (pic .exit)) (now (apic .exit)) (r .vm)) (r .reply) ≡ performed (machineIn (now (ioapic .entry)) (now (pic .entry)) (now (apic .entry)) vm) call ⌝ }
+{
+    let vm = remember(vm, call);
+    match call {
+        Call::Io(c) => {
+            let reply = call_ioapic(&mut *ioapic, c);
+            Performed { vm, reply }
+        }
+        Call::IoVersion(version) => {
+            let reply = vioapic::new_version(
+                &mut *ioapic,
+                IOAPIC_BASE,
+                IOAPIC_SIZE,
+                version as u64,
+            ).reply();
+            Performed { vm, reply }
+        }
+        Call::Pic(c) => {
+            let reply = call_pic(&mut *pic, c);
+            Performed { vm, reply }
+        }
+        Call::PicRule(rule) => {
+            let reply = vpic::new_rule(&mut *pic, rule as u64).reply();
+            Performed { vm, reply }
+        }
+        Call::Apic(c) => call_apic(&mut *apic, vm, c),
     }
 }
 
 // ---- a field that comes too late
 
-// A chip's kind is chosen before any other field of it is performed.
+// What a chip is, is chosen before any other field of it is performed.
 fn is_late(call: Call, used: Used) -> bool
     ensures { λ r. ⌜ r ≡ isLate used call ⌝ }
 {
-    match call {
-        Call::Io(_) => false,
-        Call::IoVersion(_) => used.io,
-        Call::Pic(_) => false,
-        Call::PicRule(_) => used.pic,
-        Call::Apic(_) => false,
+    if call.is_choice() {
+        return used.has(call.chip());
     }
+    false
 }
 
 // A field as a machine takes it some of whose chips were used before.
@@ -226,187 +297,150 @@ pub fn next_field(script: &[u8], used: Used, at: Cursor) -> Field
     taken(at.read(script), used)
 }
 
-impl Machine {
-    // The I/O APIC at its usual address; the local APIC of vCPU 0, the only one, in xAPIC mode.
-    pub fn new() -> Machine
-        ensures { λ r. ⌜ r ≡ newMachine ⌝ }
-    {
-        Machine {
-            ioapic: EmulatedIoApic::new_default(),
-            pic: EmulatedPic::new(),
-            apic: VirtualApicRegs::new(),
-            vcpu_num: 1,
-            active_vcpus: 1,
-            used: Used {
-                io: false,
-                pic: false,
-            },
-        }
-    }
+// ---- a run
 
-    fn with_ioapic(mut self, step: IoStep) -> Performed
-        ensures { λ r. ⌜ performedOutcome r ≡ onIoApic self (ioStep step) ⌝ }
-    {
-        let ioapic = step.ioapic;
-        let reply = step.reply;
-        self.ioapic = ioapic;
-        self.used.io = true;
-        Performed {
-            machine: self,
-            reply,
-        }
-    }
-
-    fn with_pic(mut self, step: PicStep) -> Performed
-        ensures { λ r. ⌜ performedOutcome r ≡ onPic self (picStep step) ⌝ }
-    {
-        let pic = step.pic;
-        let reply = step.reply;
-        self.pic = pic;
-        self.used.pic = true;
-        Performed {
-            machine: self,
-            reply,
-        }
-    }
-
-    fn with_apic(mut self, apic: VirtualApicRegs, reply: Reply) -> Performed
-        ensures { λ r. ⌜ performedOutcome r ≡ onApic self (outcomeOf apic reply) ⌝ }
-    {
-        self.apic = apic;
-        Performed {
-            machine: self,
-            reply,
-        }
-    }
-
-    // A new local APIC, with the count and the active mask that go with it; refused, all three stay.
-    fn set_up(
-        mut self,
-        x2apic: bool,
-        vcpu_id: VcpuId,
-        vcpu_num: usize,
-        active_vcpus: u64,
-    ) -> Performed
-        ensures { λ r. ⌜ performedOutcome r ≡ setUp self x2apic «vcpu_id» «vcpu_num» «active_vcpus» ⌝ }
-    {
-        let apic = self.apic;
-        let written = apic.setup(x2apic, vcpu_id, vcpu_num);
-        let answer = written.answer;
-        let after = written.regs;
-        let reply = answer.reply();
-        if reply.number() == 0 {
-            self.vcpu_num = vcpu_num;
-            self.active_vcpus = active_vcpus;
-            return self.with_apic(after, reply);
-        }
-        self.with_apic(after, reply)
-    }
-
-    fn call_apic(self, call: ApicCall) -> Performed
-        ensures { λ r. ⌜ performedOutcome r ≡ apicOutcome self call ⌝ }
-    {
-        let apic = self.apic;
-        match call {
-            ApicCall::AcceptInterrupt(vector, level_triggered) => {
-                let after = apic.accept_interrupt(vector, level_triggered);
-                self.with_apic(after, Reply::Nothing)
-            }
-            ApicCall::HandleWrite {
-                offset,
-                width,
-                value,
+// Performs the fields of a script from a place on, as many as are allowed, up to the first bad one or the end.
+pub fn run(
+    ioapic: &mut [u64; 32],
+    pic: &mut [u64; 4],
+    apic: &mut [u64; 48],
+    vm: Vm,
+    script: &[u8],
+    from: Cursor,
+    allowance: usize,
+) -> Ended
+    ensures { λ r. ⌜ runIn (now (ioapic .exit)) (now (pic .exit)) (now (apic .exit)) r ≡ runOf (now (script .entry)) (machineIn (now (ioapic .entry)) (now (pic .entry)) (now (apic .entry)) vm) (from .at) allowance ⌝ }
+{
+    let mut after = vm;
+    let mut next = from;
+    let mut done: usize = 0;
+    while done < allowance {
+        let field = next_field(script, after.used, next);
+        match field {
+            Field::Good {
+                tag: _,
+                call,
+                next: behind,
             } => {
-                let written = apic.handle_write(
-                    offset,
-                    value,
-                    width,
-                    self.vcpu_num,
-                    self.active_vcpus,
-                );
-                let answer = written.answer;
-                let after = written.regs;
-                self.with_apic(after, answer.reply())
+                let performed = perform(&mut *ioapic, &mut *pic, &mut *apic, after, call);
+                let changed = performed.vm;
+                after = changed;
+                next = behind;
+                done += 1;
             }
-            ApicCall::HandleEoi => {
-                let ended = apic.handle_eoi();
-                let answer = ended.answer;
-                let after = ended.regs;
-                self.with_apic(after, answer.reply())
+            Field::Bad => {
+                let stop = Stop::BadField;
+                return Ended {
+                    vm: after,
+                    done,
+                    next,
+                    stop,
+                };
             }
-            ApicCall::HandleRead(offset) => {
-                let read = apic.handle_read(offset);
-                self.with_apic(apic, read.reply())
+            Field::End => {
+                let stop = Stop::End;
+                return Ended {
+                    vm: after,
+                    done,
+                    next,
+                    stop,
+                };
             }
-            ApicCall::Setup {
-                x2apic,
-                vcpu_id,
-                vcpu_num,
-                active_vcpus,
-            } => { self.set_up(x2apic, vcpu_id, vcpu_num, active_vcpus) }
+        }
+    }
+    let stop = Stop::Allowance;
+    Ended {
+        vm: after,
+        done,
+        next,
+        stop,
+    }
+}
+
+// ---- The same by value.
+
+// The words of the three chips, and the rest of the machine.
+pub struct Machine {
+    pub ioapic: [u64; 32],
+    pub pic: [u64; 4],
+    pub apic: [u64; 48],
+    pub vm: Vm,
+}
+
+pub struct MachinePerformed {
+    pub machine: Machine,
+    pub reply: Reply,
+}
+
+pub struct MachineRun {
+    pub machine: Machine,
+    pub done: usize,
+    pub next: Cursor,
+    pub stop: Stop,
+}
+
+impl Machine {
+    pub fn new() -> Machine
+        ensures { λ r. ⌜ machineOf r ≡ newMachine ⌝ }
+    {
+        let mut ioapic = [0; 32];
+        let mut pic = [0; 4];
+        let mut apic = [0; 48];
+        let vm = new(&mut ioapic, &mut pic, &mut apic);
+        Machine {
+            ioapic,
+            pic,
+            apic,
+            vm,
         }
     }
 
-    // Performs one call. Whether a choice comes too late is said where its field is read.
-    pub fn perform(self, call: Call) -> Performed
-        ensures { λ r. ⌜ (MachineAgrees self → performedOutcome r ≡ performed self call) ⌝ }
+    pub fn perform(self, call: Call) -> MachinePerformed
+        ensures { λ r. ⌜ outcomeOf (machineOf (r .machine)) (r .reply) ≡ performed (machineOf self) call ⌝ }
     {
-        let ioapic = self.ioapic;
-        let pic = self.pic;
-        match call {
-            Call::Io(c) => self.with_ioapic(call_ioapic(ioapic, c)),
-            Call::IoVersion(version) => self.with_ioapic(choose_version(version)),
-            Call::Pic(c) => self.with_pic(call_pic(pic, c)),
-            Call::PicRule(rule) => self.with_pic(choose_rule(rule)),
-            Call::Apic(c) => self.call_apic(c),
+        let mut ioapic = self.ioapic;
+        let mut pic = self.pic;
+        let mut apic = self.apic;
+        let performed = perform(&mut ioapic, &mut pic, &mut apic, self.vm, call);
+        let vm = performed.vm;
+        let reply = performed.reply;
+        MachinePerformed {
+            machine: Machine {
+                ioapic,
+                pic,
+                apic,
+                vm,
+            },
+            reply,
         }
     }
 
-    // Performs the fields of a script from a place on, as many as are allowed, up to the first bad one or the end.
-    pub fn run(self, script: &[u8], from: Cursor, allowance: usize) -> Run
-        ensures { λ r. ⌜ (MachineAgrees self → r ≡ runOf (now (script .entry)) self (from .at) allowance) ⌝ }
+    pub fn run(self, script: &[u8], from: Cursor, allowance: usize) -> MachineRun
+        ensures { λ r. ⌜ machineRun r ≡ runOf (now (script .entry)) (machineOf self) (from .at) allowance ⌝ }
     {
-        let mut machine = self;
-        let mut next = from;
-        let mut done: usize = 0;
-        while done < allowance {
-            let field = next_field(script, machine.used, next);
-            match field {
-                Field::Good {
-                    tag: _,
-                    call,
-                    next: after,
-                } => {
-                    let performed = machine.perform(call);
-                    let changed = performed.machine;
-                    machine = changed;
-                    next = after;
-                    done += 1;
-                }
-                Field::Bad => {
-                    let stop = Stop::BadField;
-                    return Run {
-                        machine,
-                        done,
-                        next,
-                        stop,
-                    };
-                }
-                Field::End => {
-                    let stop = Stop::End;
-                    return Run {
-                        machine,
-                        done,
-                        next,
-                        stop,
-                    };
-                }
-            }
-        }
-        let stop = Stop::Allowance;
-        Run {
-            machine,
-            done,
+        let mut ioapic = self.ioapic;
+        let mut pic = self.pic;
+        let mut apic = self.apic;
+        let ended = run(
+            &mut ioapic,
+            &mut pic,
+            &mut apic,
+            self.vm,
+            script,
+            from,
+            allowance,
+        );
+        let vm = ended.vm;
+        let next = ended.next;
+        let stop = ended.stop;
+        MachineRun {
+            machine: Machine {
+                ioapic,
+                pic,
+                apic,
+                vm,
+            },
+            done: ended.done,
             next,
             stop,
         }

@@ -2,37 +2,41 @@
 use mathlib.Core.Path.{_≡_, refl, ap, _∙_}
 use mathlib.Core.List.{List, [], _∷_}
 use Prim.Native.Nat.{ℕ, _+_}
+use native.Mathlib.Nat.{zero-add}
 use native.Mathlib.Omega.{arith}
 use Rattle.vioapic_theorems.specs.Sends.{sends}
 use Rattle.vioapic_theorems.specs.Heard20.{eoisAt}
 use Rattle.vioapic_theorems.proofs.Keeps.{new-keeps-rules, calls-keep-rules, calls-keep-version}
 use Rattle.vioapic_theorems.proofs.Demand.{heard-from-rules}
 use Rattle.vioapic_theorems.proofs.Heard20.{heard-20}
-use Rattle.vioapic.specs.declared.EmulatedIoApic.{EmulatedIoApic}
+use Rattle.utils.proofs.Bools.{both}
+use Rattle.types.specs.Reply.{Outcome}
+use Rattle.vioapic.specs.State.{IoApicState}
+use Rattle.vioapic.specs.IoApic.{isVersion, createdVersion}
+use Rattle.vioapic_theorems.specs.Rules.{ChipRules}
 use Rattle.vioapic.specs.Calls.{outcome, run}
 use Rattle.script_format.specs.declared.Call.{Call}
 use Rattle.script_format.specs.declared.Call.the-variants.{Io, IoVersion, Pic, PicRule, Apic}
 use Rattle.script_format.specs.declared.IoCall.the-variants.{SetGsiLevel}
 use mathlib.Core.Bool.{true, not, _&&_}
 use Rattle.script_machine.specs.declared.Used.{Used}
-use Rattle.script_machine.specs.declared.Machine.{Machine}
 use Rattle.script_machine.specs.Late.{usedAfter}
-use Rattle.script_machine.specs.Machine.{newMachine, ioCall, performed}
+use Rattle.script_machine.specs.Machine.{Machine, newMachine, ioCall, chosen, performed}
 use Rattle.script_machine.specs.Run.{afterCalls, callsFrom, runOf}
 use Rattle.script_theorems.specs.Runs.{inTime}
 use Rattle.script_theorems.specs.Heard.{ioCalls, startOf, ioReplies, answers, scriptSends, IoApicRuns, IoApicAnswers, IoApicSends, MachineRules, MachinesKeepRules, callsAfter, HeardInScripts, HeardInScripts20}
-use Rattle.script_theorems.proofs.Calls.{keeps-others, later}
+use Rattle.script_theorems.proofs.Calls.{later}
 use Rattle.script_theorems.proofs.Runs.{in-time}
 
 -- once the I/O APIC was used no version is chosen
-no-choice : (used : Used) (chip : EmulatedIoApic) (cs : List Call) → used .io ≡ true → inTime used cs ≡ true → startOf chip cs ≡ chip
+no-choice : (used : Used) (chip : IoApicState) (cs : List Call) → used .io ≡ true → inTime used cs ≡ true → startOf chip cs ≡ chip
 unfolding startOf inTime
 no-choice used chip [] u h = refl
 no-choice used chip (Io c ∷ cs) u h = refl
 no-choice used chip (IoVersion v ∷ cs) u h = let p : not true && inTime (usedAfter used (IoVersion v)) cs ≡ true = rw u at h in let z : _≡_ {A = ℕ} 0 1 = cc in absurd (omega arith)
-no-choice used chip (Pic c ∷ cs) u h = no-choice (usedAfter used (Pic c)) chip cs u h
+no-choice used chip (Pic c ∷ cs) u h = no-choice (usedAfter used (Pic c)) chip cs u (later used (Pic c) cs h)
 no-choice used chip (PicRule rule ∷ cs) u h = no-choice (usedAfter used (PicRule rule)) chip cs u (later used (PicRule rule) cs h)
-no-choice used chip (Apic c ∷ cs) u h = no-choice (usedAfter used (Apic c)) chip cs u h
+no-choice used chip (Apic c ∷ cs) u h = no-choice (usedAfter used (Apic c)) chip cs u (later used (Apic c) cs h)
 
 pub io-apic-runs : IoApicRuns
 unfolding afterCalls ioCalls startOf inTime run performed
@@ -42,7 +46,7 @@ io-apic-runs used m (IoVersion v ∷ cs) h =
     io-apic-runs (usedAfter used (IoVersion v)) (performed m (IoVersion v) .state) cs (later used (IoVersion v) cs h) ∙ rw (no-choice (usedAfter used (IoVersion v)) (performed m (IoVersion v) .state .ioapic) cs refl (later used (IoVersion v) cs h))
 io-apic-runs used m (Pic c ∷ cs) h = io-apic-runs (usedAfter used (Pic c)) (performed m (Pic c) .state) cs (later used (Pic c) cs h)
 io-apic-runs used m (PicRule rule ∷ cs) h = io-apic-runs (usedAfter used (PicRule rule)) (performed m (PicRule rule) .state) cs (later used (PicRule rule) cs h)
-io-apic-runs used m (Apic c ∷ cs) h = io-apic-runs (usedAfter used (Apic c)) (performed m (Apic c) .state) cs (later used (Apic c) cs h) ∙ rw (keeps-others m c .ioapic)
+io-apic-runs used m (Apic c ∷ cs) h = io-apic-runs (usedAfter used (Apic c)) (performed m (Apic c) .state) cs (later used (Apic c) cs h)
 
 pub io-apic-answers : IoApicAnswers
 unfolding ioReplies ioCalls startOf inTime answers performed
@@ -52,17 +56,17 @@ io-apic-answers used m (IoVersion v ∷ cs) h =
     io-apic-answers (usedAfter used (IoVersion v)) (performed m (IoVersion v) .state) cs (later used (IoVersion v) cs h) ∙ rw (no-choice (usedAfter used (IoVersion v)) (performed m (IoVersion v) .state .ioapic) cs refl (later used (IoVersion v) cs h))
 io-apic-answers used m (Pic c ∷ cs) h = io-apic-answers (usedAfter used (Pic c)) (performed m (Pic c) .state) cs (later used (Pic c) cs h)
 io-apic-answers used m (PicRule rule ∷ cs) h = io-apic-answers (usedAfter used (PicRule rule)) (performed m (PicRule rule) .state) cs (later used (PicRule rule) cs h)
-io-apic-answers used m (Apic c ∷ cs) h = io-apic-answers (usedAfter used (Apic c)) (performed m (Apic c) .state) cs (later used (Apic c) cs h) ∙ rw (keeps-others m c .ioapic)
+io-apic-answers used m (Apic c ∷ cs) h = io-apic-answers (usedAfter used (Apic c)) (performed m (Apic c) .state) cs (later used (Apic c) cs h)
 
 pub io-apic-sends : IoApicSends
 unfolding scriptSends ioCalls startOf inTime sends performed
 io-apic-sends used g m [] h = refl
 io-apic-sends used g m (Io c ∷ cs) h = rw (io-apic-sends (usedAfter used (Io c)) g (performed m (Io c) .state) cs (later used (Io c) cs h), no-choice (usedAfter used (Io c)) (performed m (Io c) .state .ioapic) cs refl (later used (Io c) cs h))
 io-apic-sends used g m (IoVersion v ∷ cs) h =
-    io-apic-sends (usedAfter used (IoVersion v)) g (performed m (IoVersion v) .state) cs (later used (IoVersion v) cs h) ∙ rw (no-choice (usedAfter used (IoVersion v)) (performed m (IoVersion v) .state .ioapic) cs refl (later used (IoVersion v) cs h))
-io-apic-sends used g m (Pic c ∷ cs) h = io-apic-sends (usedAfter used (Pic c)) g (performed m (Pic c) .state) cs (later used (Pic c) cs h)
-io-apic-sends used g m (PicRule rule ∷ cs) h = io-apic-sends (usedAfter used (PicRule rule)) g (performed m (PicRule rule) .state) cs (later used (PicRule rule) cs h)
-io-apic-sends used g m (Apic c ∷ cs) h = io-apic-sends (usedAfter used (Apic c)) g (performed m (Apic c) .state) cs (later used (Apic c) cs h) ∙ rw (keeps-others m c .ioapic)
+    zero-add _ ∙ io-apic-sends (usedAfter used (IoVersion v)) g (performed m (IoVersion v) .state) cs (later used (IoVersion v) cs h) ∙ rw (no-choice (usedAfter used (IoVersion v)) (performed m (IoVersion v) .state .ioapic) cs refl (later used (IoVersion v) cs h))
+io-apic-sends used g m (Pic c ∷ cs) h = zero-add _ ∙ io-apic-sends (usedAfter used (Pic c)) g (performed m (Pic c) .state) cs (later used (Pic c) cs h)
+io-apic-sends used g m (PicRule rule ∷ cs) h = zero-add _ ∙ io-apic-sends (usedAfter used (PicRule rule)) g (performed m (PicRule rule) .state) cs (later used (PicRule rule) cs h)
+io-apic-sends used g m (Apic c ∷ cs) h = zero-add _ ∙ io-apic-sends (usedAfter used (Apic c)) g (performed m (Apic c) .state) cs (later used (Apic c) cs h)
 
 -- ---- the rules
 
@@ -70,16 +74,20 @@ new-rules : MachineRules newMachine
 unfolding newMachine
 new-rules = record { rules = new-keeps-rules 0x11 0xfec00000 0x1000; place = refl }
 
+made-keeps : (m : IoApicState) (v : ℕ) → ChipRules m → m .base ≡ 0xfec00000 → ChipRules (chosen m v .state) × (chosen m v .state .base ≡ 0xfec00000)
+unfolding createdVersion
+made-keeps m v k p = both (λ (o : Outcome IoApicState). ChipRules (o .state) × (o .state .base ≡ 0xfec00000)) (isVersion v) _ _ (new-keeps-rules v 0xfec00000 0x1000, refl) (k, p)
+
 one-keeps : (m : Machine) (c : Call) → MachineRules m → MachineRules (performed m c .state)
 unfolding performed
 one-keeps m (Io c) k = record {
   rules = calls-keep-rules (m .ioapic) (ioCall c) (k .rules);
   place = calls-keep-version (m .ioapic) (ioCall c) .1 ∙ k .place;
 }
-one-keeps m (IoVersion v) k = record { rules = new-keeps-rules v 0xfec00000 0x1000; place = refl }
+one-keeps m (IoVersion v) k = let q = made-keeps (m .ioapic) v (k .rules) (k .place) in record { rules = q .0; place = q .1 }
 one-keeps m (Pic c) k = record { rules = k .rules; place = k .place }
 one-keeps m (PicRule rule) k = record { rules = k .rules; place = k .place }
-one-keeps m (Apic c) k = record { rules = rw (keeps-others m c .ioapic) (k .rules); place = rw (keeps-others m c .ioapic) (k .place) }
+one-keeps m (Apic c) k = record { rules = k .rules; place = k .place }
 
 all-keep : (m : Machine) (cs : List Call) → MachineRules m → MachineRules (afterCalls m cs)
 unfolding afterCalls
@@ -109,4 +117,4 @@ unfolding performed outcome ioCalls startOf
 heard-in-scripts-20 s a b g v m after e o f p q =
     let u = runOf s newMachine 0 a .machine .used in
     let k = reached s a m e in
-    rw f (io-apic-sends u (g .0) m (Io (SetGsiLevel g true) ∷ after) (in-time-after s a b (Io (SetGsiLevel g true)) after f) ∙ heard-20 (m .ioapic) g v (ioCalls after) o (k .rules .table) p q ∙ ap (λ (base : ℕ). 1 + eoisAt base v (ioCalls after)) (k .place))
+    rw f (io-apic-sends u (g .0) m (Io (SetGsiLevel g true) ∷ after) (in-time-after s a b (Io (SetGsiLevel g true)) after f) ∙ heard-20 (m .ioapic) g v (ioCalls after) o (k .rules .agrees) p q ∙ ap (λ (base : ℕ). 1 + eoisAt base v (ioCalls after)) (k .place))

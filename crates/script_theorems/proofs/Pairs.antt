@@ -1,40 +1,50 @@
 -- The pair in scripts, from the theorems about its calls. Assumes nothing.
 use Prim.Native.Nat.{ℕ}
-use mathlib.Core.Bool.{true, not, _&&_}
+use mathlib.Core.Bool.{Bool, true, false, cond, not, _&&_}
 use mathlib.Core.List.{List, [], _∷_}
 use mathlib.Core.Path.{_≡_, refl, ap, _∙_}
 use native.Mathlib.Omega.{arith}
+use Rattle.utils.proofs.Bools.{both}
 use Rattle.types.specs.Reply.{Outcome}
-use Rattle.vpic.specs.declared.pair.EmulatedPic.{EmulatedPic}
-use Rattle.vpic.specs.Pair.{newState, newPic}
-use Rattle.vpic_theorems.specs.Statements.{Keeps}
+use Rattle.types.specs.declared.Refusal.the-variants.{Unsupported}
+use Rattle.types.specs.declared.Reply.the-variants.{Nothing}
+use Rattle.vpic.specs.Words.{PicState}
+use Rattle.vpic.specs.Pair.{isRule, newState, refused, newRule}
+use Rattle.vpic.specs.Pair.{Keeps}
 use Rattle.vpic_theorems.proofs.Rule.{new-keeps, calls-keep, calls-keep-number, slave-heard}
 use Rattle.script_format.specs.declared.Call.{Call}
 use Rattle.script_format.specs.declared.Call.the-variants.{Io, IoVersion, Pic, PicRule, Apic}
 use Rattle.script_format.specs.declared.PicCall.{PicCall}
 use Rattle.script_machine.specs.declared.Used.{Used}
-use Rattle.script_machine.specs.declared.Machine.{Machine}
 use Rattle.script_machine.specs.Late.{usedAfter}
-use Rattle.script_machine.specs.Machine.{newMachine, picOutcome, performed}
+use Rattle.script_machine.specs.Machine.{Machine, newMachine, picOutcome, performed}
 use Rattle.script_machine.specs.Run.{callsFrom, afterCalls}
 use Rattle.script_theorems.specs.Runs.{inTime}
 use Rattle.script_theorems.specs.Pairs.{ruleChosen, PairRule, pairAfter, PairKeeps, SlaveHeardInScripts}
-use Rattle.script_theorems.proofs.Calls.{keeps-others, picCall, as-call, later}
+use Rattle.script_theorems.proofs.Calls.{picCall, as-call, later}
 
 -- ---- the rule chosen
 
-kept-number : (p : EmulatedPic) (c : PicCall) → picOutcome p c .state .state .rule ≡ p .state .rule
-kept-number p c = ap (λ (o : Outcome EmulatedPic). o .state .state .rule) (as-call p c) ∙ calls-keep-number p (picCall c)
+kept-number : (p : PicState) (c : PicCall) → picOutcome p c .state .rule ≡ p .rule
+kept-number p c = ap (λ (o : Outcome PicState). o .state .rule) (as-call p c) ∙ calls-keep-number p (picCall c)
+
+ruled-number : (p : PicState) (n : ℕ) → newRule p n .state .rule ≡ cond (isRule n) n (p .rule)
+unfolding newState
+ruled-number p n = go (isRule n)
+  where
+    go : (b : Bool) → cond b (record { state = newState n; reply = Nothing }) (refused p Unsupported) .state .rule ≡ cond b n (p .rule)
+    go true = refl
+    go false = refl
 
 -- once the pair was used no rule is chosen
 no-rule : (used : Used) (rule : ℕ) (cs : List Call) → used .pic ≡ true → inTime used cs ≡ true → ruleChosen rule cs ≡ rule
 unfolding ruleChosen inTime
 no-rule used rule [] u h = refl
-no-rule used rule (Io c ∷ cs) u h = no-rule (usedAfter used (Io c)) rule cs u h
+no-rule used rule (Io c ∷ cs) u h = no-rule (usedAfter used (Io c)) rule cs u (later used (Io c) cs h)
 no-rule used rule (IoVersion v ∷ cs) u h = no-rule (usedAfter used (IoVersion v)) rule cs u (later used (IoVersion v) cs h)
 no-rule used rule (Pic c ∷ cs) u h = refl
 no-rule used rule (PicRule n ∷ cs) u h = let p : not true && inTime (usedAfter used (PicRule n)) cs ≡ true = rw u at h in let z : _≡_ {A = ℕ} 0 1 = cc in absurd (omega arith)
-no-rule used rule (Apic c ∷ cs) u h = no-rule (usedAfter used (Apic c)) rule cs u h
+no-rule used rule (Apic c ∷ cs) u h = no-rule (usedAfter used (Apic c)) rule cs u (later used (Apic c) cs h)
 
 pub pair-rule : PairRule
 unfolding afterCalls ruleChosen performed newState
@@ -43,31 +53,35 @@ pair-rule used m (Io c ∷ cs) h = pair-rule (usedAfter used (Io c)) (performed 
 pair-rule used m (IoVersion v ∷ cs) h = pair-rule (usedAfter used (IoVersion v)) (performed m (IoVersion v) .state) cs (later used (IoVersion v) cs h)
 pair-rule used m (Pic c ∷ cs) h =
     pair-rule (usedAfter used (Pic c)) (performed m (Pic c) .state) cs (later used (Pic c) cs h)
-    ∙ no-rule (usedAfter used (Pic c)) (performed m (Pic c) .state .pic .state .rule) cs refl (later used (Pic c) cs h)
+    ∙ no-rule (usedAfter used (Pic c)) (performed m (Pic c) .state .pic .rule) cs refl (later used (Pic c) cs h)
     ∙ kept-number (m .pic) c
 pair-rule used m (PicRule n ∷ cs) h =
     pair-rule (usedAfter used (PicRule n)) (performed m (PicRule n) .state) cs (later used (PicRule n) cs h)
-    ∙ no-rule (usedAfter used (PicRule n)) n cs refl (later used (PicRule n) cs h)
+    ∙ no-rule (usedAfter used (PicRule n)) (performed m (PicRule n) .state .pic .rule) cs refl (later used (PicRule n) cs h)
+    ∙ ruled-number (m .pic) n
 pair-rule used m (Apic c ∷ cs) h =
-    pair-rule (usedAfter used (Apic c)) (performed m (Apic c) .state) cs (later used (Apic c) cs h) ∙ rw (keeps-others m c .pic)
+    pair-rule (usedAfter used (Apic c)) (performed m (Apic c) .state) cs (later used (Apic c) cs h)
 
 -- ---- the rule kept
 
-one-keeps : (m : Machine) (c : Call) → Keeps (m .pic .state) → Keeps (performed m c .state .pic .state)
+ruled-keeps : (p : PicState) (n : ℕ) → Keeps p → Keeps (newRule p n .state)
+ruled-keeps p n k = both (λ (o : Outcome PicState). Keeps (o .state)) (isRule n) _ _ (new-keeps n) k
+
+one-keeps : (m : Machine) (c : Call) → Keeps (m .pic) → Keeps (performed m c .state .pic)
 unfolding performed
 one-keeps m (Io c) k = k
 one-keeps m (IoVersion v) k = k
 one-keeps m (Pic c) k = rw (as-call (m .pic) c) (calls-keep (m .pic) (picCall c) k)
-one-keeps m (PicRule rule) k = new-keeps rule
-one-keeps m (Apic c) k = rw (keeps-others m c .pic) k
+one-keeps m (PicRule rule) k = ruled-keeps (m .pic) rule k
+one-keeps m (Apic c) k = k
 
-all-keep : (m : Machine) (cs : List Call) → Keeps (m .pic .state) → Keeps (afterCalls m cs .pic .state)
+all-keep : (m : Machine) (cs : List Call) → Keeps (m .pic) → Keeps (afterCalls m cs .pic)
 unfolding afterCalls
 all-keep m [] k = k
 all-keep m (c ∷ cs) k = all-keep (performed m c .state) cs (one-keeps m c k)
 
-new-machine-keeps : Keeps (newMachine .pic .state)
-unfolding newMachine newPic
+new-machine-keeps : Keeps (newMachine .pic)
+unfolding newMachine
 new-machine-keeps = new-keeps 0
 
 pub pair-keeps : PairKeeps

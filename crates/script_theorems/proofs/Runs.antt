@@ -9,9 +9,13 @@ use native.Mathlib.Omega.{arith}
 use lib.Dec.{leb, ltb}
 use lib.ListN.{length, getD}
 use borrow.Author.Tests.{le-leb, leb-true, ltb-false}
+use Rattle.utils.proofs.Bools.{or-false}
 use Rattle.types.specs.declared.Reply.{Reply}
 use Rattle.script_format.specs.declared.Call.{Call}
-use Rattle.script_format.specs.declared.Call.the-variants.{Io, IoVersion, Pic, PicRule, Apic}
+use Rattle.script_format.specs.declared.Call.the-variants as call
+use Rattle.script_format.specs.declared.Chip.{Chip}
+use Rattle.script_format.specs.declared.Chip.the-variants.{IoApic, Pic, LocalApic}
+use Rattle.script_format.specs.Chips.{chipOf, same}
 use Rattle.script_format.specs.declared.Body.{Body}
 use Rattle.script_format.specs.declared.Body.the-variants.{Says, Malformed}
 use Rattle.script_format.specs.declared.Cursor.{Cursor}
@@ -20,13 +24,11 @@ use Rattle.script_format.specs.declared.Field.the-variants.{Good, Bad, End}
 use Rattle.script_format.specs.Format.{decoded}
 use Rattle.script_format.specs.Fields.{endAt, bodyAt, fieldOf, fieldAt}
 use Rattle.script_machine.specs.declared.Used.{Used}
-use Rattle.script_machine.specs.declared.Machine.{Machine}
-use Rattle.script_machine.specs.declared.Run.{Run}
 use Rattle.script_machine.specs.declared.Stop.{Stop}
 use Rattle.script_machine.specs.declared.Stop.the-variants as stop
-use Rattle.script_machine.specs.Late.{isLate, usedAfter, taken, fieldFor}
-use Rattle.script_machine.specs.Machine.{unused, newMachine, performed}
-use Rattle.script_machine.specs.Run.{byField, fieldCount, placeAfter, stopAfter, callsFrom, afterCalls, replies, runOf}
+use Rattle.script_machine.specs.Late.{wasUsed, nowUsed, isLate, usedAfter, taken, fieldFor}
+use Rattle.script_machine.specs.Machine.{Machine, unused, newMachine, performed}
+use Rattle.script_machine.specs.Run.{Run, byField, fieldCount, placeAfter, stopAfter, callsFrom, afterCalls, replies, runOf}
 use Rattle.script_machine.proofs.Runs.{remembers}
 use Rattle.script_theorems.specs.Runs.{Counted, Together, InTwo, answersOf, AnsweredInTwo, bars, barred, Remembered, LateIsBad, inTime, InTime, Within, Beyond, Ended, Ends}
 
@@ -91,39 +93,45 @@ in-time s used at (suc n) = go (fieldFor s used at) refl (λ u next. in-time s u
 
 -- ---- what the machine remembers
 
-either : (a b c : Bool) → b || (a || c) ≡ (a || b) || c
-either true true c = refl
-either true false c = refl
-either false b c = refl
+swapped : (a b c : Bool) → b || (a || c) ≡ (a || b) || c
+swapped true true c = refl
+swapped true false c = refl
+swapped false b c = refl
+
+used-io : (used : Used) (chip : Chip) → wasUsed (nowUsed used chip) IoApic ≡ same chip IoApic || wasUsed used IoApic
+used-io used IoApic = refl
+used-io used Pic = refl
+used-io used LocalApic = refl
+
+used-pic : (used : Used) (chip : Chip) → wasUsed (nowUsed used chip) Pic ≡ same chip Pic || wasUsed used Pic
+used-pic used IoApic = refl
+used-pic used Pic = refl
+used-pic used LocalApic = refl
 
 late-after : (used : Used) (c d : Call) → isLate (usedAfter used c) d ≡ bars c d || isLate used d
-late-after used c (Io d) = refl
-late-after used c (IoVersion version) = refl
-late-after used c (Pic d) = refl
-late-after used c (PicRule rule) = refl
-late-after used c (Apic d) = refl
+late-after used c (call.Io d) = refl
+late-after used c (call.IoVersion version) = used-io used (chipOf c)
+late-after used c (call.Pic d) = refl
+late-after used c (call.PicRule rule) = used-pic used (chipOf c)
+late-after used c (call.Apic d) = refl
 
 pub remembered : Remembered
 unfolding afterCalls barred
 remembered m [] d = refl
 remembered m (c ∷ cs) d =
-    remembered (performed m c .state) cs d ∙ ap (λ (u : Used). barred cs d || isLate u d) (remembers m c) ∙ ap (λ (b : Bool). barred cs d || b) (late-after (m .used) c d) ∙ either (bars c d) (barred cs d) (isLate (m .used) d)
+    remembered (performed m c .state) cs d ∙ ap (λ (u : Used). barred cs d || isLate u d) (remembers m c) ∙ ap (λ (b : Bool). barred cs d || b) (late-after (m .used) c d) ∙ swapped (bars c d) (barred cs d) (isLate (m .used) d)
 
 -- and a new machine remembers nothing
-or-false : (b : Bool) → b || false ≡ b
-or-false true = refl
-or-false false = refl
-
 new-unused : newMachine .used ≡ unused
 unfolding newMachine
 new-unused = refl
 
 never-late : (d : Call) → isLate unused d ≡ false
-never-late (Io d) = refl
-never-late (IoVersion version) = refl
-never-late (Pic d) = refl
-never-late (PicRule rule) = refl
-never-late (Apic d) = refl
+never-late (call.Io d) = refl
+never-late (call.IoVersion version) = refl
+never-late (call.Pic d) = refl
+never-late (call.PicRule rule) = refl
+never-late (call.Apic d) = refl
 
 pub late-is-bad : LateIsBad
 unfolding fieldFor

@@ -8,13 +8,14 @@ use mathlib.Core.Path.{_≡_, refl}
 use Rattle.utils.specs.Set as set
 use Rattle.types.specs.Reply.{replyNumber, replyValues}
 use Rattle.types.specs.declared.Reply.{Reply}
-use Rattle.vioapic.specs.Redirection as redirection
+use Rattle.vioapic_entry.specs.Redirection as redirection
 use Rattle.vioapic.specs.Table as table
 use Rattle.vioapic.specs.Registers as window
 use Rattle.vioapic.specs.IoApic as vioapic
 use Rattle.vioapic.specs.Calls as ioapic
-use Rattle.vpic.specs.Chip as chip
+use Rattle.vpic_chip.specs.Chip as chip
 use Rattle.vpic.specs.Pair as pair
+use Rattle.vlapic_regs.specs.Register as register
 use Rattle.vlapic_regs.specs.Vectors as vectors
 use Rattle.vlapic_icr.specs.Icr as icr
 use Rattle.vlapic.specs.Priority as priority
@@ -25,8 +26,8 @@ use Rattle.script_format.specs.declared.PicCall.the-variants as pic
 use Rattle.script_format.specs.declared.ApicCall.the-variants as apic
 use Rattle.script_format.specs.declared.Call.{Call}
 use Rattle.script_format.specs.declared.Call.the-variants.{Io, IoVersion, Pic, PicRule, Apic}
-use Rattle.script_machine.specs.declared.Machine.{Machine}
-use Rattle.script_machine.specs.Machine.{newMachine, setUp, performed}
+use Rattle.script_machine.specs.Machine as machine
+use Rattle.script_machine.specs.Machine.{Machine, newMachine, performed}
 use Rattle.script_machine.specs.Run.{afterCalls, replies}
 
 pub record Example : Type 0 where
@@ -110,7 +111,7 @@ eighth =
     ∷ []
 
 abbrev masterLines : Machine → List ℕ
-masterLines m = m .pic .state .master .request ∷ m .pic .state .master .«in_service» ∷ []
+masterLines m = m .pic .master .request ∷ m .pic .master .«in_service» ∷ []
 
 -- ---- the list
 
@@ -177,7 +178,7 @@ examples =
       number = 9;
       calls = outb 0x20 0x11 ∷ outb 0x21 0x20 ∷ outb 0x21 4 ∷ outb 0x21 1 ∷ inb 0x21 ∷ [];
       says = (0 ∷ []) ∷ (0 ∷ []) ∷ (0 ∷ []) ∷ (0 ∷ []) ∷ (0 ∷ 255 ∷ []) ∷ [];
-      look = λ m. m .pic .state .master .«vector_base» ∷ m .pic .state .master .mask ∷ [];
+      look = λ m. m .pic .master .«vector_base» ∷ m .pic .master .mask ∷ [];
       seen = 0x20 ∷ 255 ∷ [];
     }
     ∷ record {
@@ -204,7 +205,7 @@ examples =
     ∷ []
 
 pub examples-hold : Holds examples
-unfolding set.with set.without set.outside set.lowest set.highest set.lastSet32 redirection.sendEntry redirection.raiseEntry redirection.lowerEntry redirection.endEntry redirection.writeLow redirection.writeHigh table.interruptForEntry table.setLevel table.firstAwaiting table.endOfEntry table.endOf table.vectorFor window.readFixed window.readWord window.readSelected window.writeWord window.writeSelected window.readAt window.writeAt vioapic.assertGsi vioapic.setGsiLevel vioapic.endOfInterrupt vioapic.vectorForGsi vioapic.addressRange vioapic.handleRead vioapic.handleWrite ioapic.outcome ioapic.run chip.opened chip.commanded chip.fed chip.commandRead chip.pulsed chip.counts chip.pendingLine chip.pendingIrq chip.asks chip.driven chip.acknowledged chip.acknowledge chip.unacknowledged pair.newState pair.settled pair.latched pair.masterClaim pair.slaveClaim pair.claimPending pair.claimIrq pair.restored pair.portRead pair.writtenAt pair.portWritten pair.newPic vectors.highestFrom icr.destFieldMatched icr.destNoShorthand icr.calculateDest icr.command icr.selfIpi priority.priority priority.updatePpr priority.acceptInterrupt priority.handleEoi registers.handleRead registers.stored registers.writeStored vlapic.setup vlapic.writeIcr vlapic.writeIcrLow vlapic.writeSelfIpi vlapic.handleWrite newMachine setUp performed afterCalls replies
+unfolding set.with set.without set.outside set.lowest set.highest set.lastSet32 redirection.sendEntry redirection.raiseEntry redirection.lowerEntry redirection.endEntry redirection.writeLow redirection.writeHigh table.interruptForEntry table.setLevel table.firstAwaiting table.endOfEntry table.endOf table.vectorFor window.readFixed window.readWord window.readSelected window.writeWord window.writeSelected window.readAt window.writeAt vioapic.assertGsi vioapic.setGsiLevel vioapic.endOfInterrupt vioapic.vectorForGsi vioapic.addressRange vioapic.handleRead vioapic.handleWrite ioapic.outcome ioapic.run chip.opened chip.commanded chip.fed chip.commandRead chip.pulsed chip.counts chip.pendingLine chip.pendingIrq chip.asks chip.driven chip.acknowledged chip.acknowledge chip.unacknowledged pair.newState pair.settled pair.latched pair.masterClaim pair.slaveClaim pair.claimPending pair.claimIrq pair.restored pair.portRead pair.writtenAt pair.portWritten vectors.highestFrom icr.destFieldMatched icr.destNoShorthand icr.calculateDest icr.command icr.selfIpi register.priority priority.updatePpr priority.acceptInterrupt priority.handleEoi registers.handleRead registers.stored registers.writeStored vlapic.setup vlapic.writeIcr vlapic.writeIcrLow vlapic.writeSelfIpi vlapic.handleWrite newMachine machine.picOutcome machine.localOutcome performed afterCalls replies
 examples-hold = ((refl, refl), ((refl, refl), ((refl, refl), ((refl, refl), ((refl, refl), ((refl, refl), ((refl, refl), ((refl, refl), ((refl, refl), ((refl, refl), ((refl, refl), ((refl, refl), tt))))))))))))
 
 -- ---- T-01: lines 3 and 5 are held with one vector. In version 0x11 an EOI reaches line 3 alone, and a write at offset 0x40 is none; in version 0x20 both reach both lines
@@ -238,7 +239,7 @@ springs =
     ∷ []
 
 pub springs-hold : Holds springs
-unfolding set.with set.without set.outside set.lowest set.highest set.lastSet32 redirection.sendEntry redirection.raiseEntry redirection.lowerEntry redirection.endEntry redirection.endEntry20 redirection.writeLow redirection.writeHigh table.interruptForEntry table.setLevel table.firstAwaiting table.endOfEntry table.endOfEvery table.endOf table.vectorFor window.readFixed window.readWord window.readSelected window.writeWord window.writeSelected window.readAt window.writeEoi window.writeAt vioapic.assertGsi vioapic.setGsiLevel vioapic.endOfInterrupt vioapic.vectorForGsi vioapic.addressRange vioapic.handleRead vioapic.handleWrite ioapic.outcome ioapic.run newMachine setUp performed afterCalls replies
+unfolding vioapic.createdVersion set.with set.without set.outside set.lowest set.highest set.lastSet32 redirection.sendEntry redirection.raiseEntry redirection.lowerEntry redirection.endEntry redirection.endEntry20 redirection.writeLow redirection.writeHigh table.interruptForEntry table.setLevel table.firstAwaiting table.endOfEntry table.endOfEvery table.endOf table.vectorFor window.readFixed window.readWord window.readSelected window.writeWord window.writeSelected window.readAt window.writeEoi window.writeAt vioapic.assertGsi vioapic.setGsiLevel vioapic.endOfInterrupt vioapic.vectorForGsi vioapic.addressRange vioapic.handleRead vioapic.handleWrite ioapic.outcome ioapic.run newMachine machine.picOutcome machine.localOutcome performed afterCalls replies
 springs-hold = ((refl, refl), ((refl, refl), tt))
 
 -- ---- T-02: examples 7 and 8 under the cascade rule. Line 14 is answered once line 13 is done, and its request is gone; line 2, raised or restored, is no request
@@ -264,5 +265,5 @@ cascades =
     ∷ []
 
 pub cascades-hold : Holds cascades
-unfolding set.with set.without set.outside set.lowest set.highest set.lastSet32 chip.opened chip.commanded chip.fed chip.commandRead chip.pulsed chip.counts chip.pendingLine chip.pendingIrq chip.asks chip.driven chip.acknowledged chip.acknowledge chip.unacknowledged pair.newState pair.settled pair.latched pair.masterClaim pair.slaveClaim pair.claimPending pair.claimIrq pair.restored pair.portRead pair.writtenAt pair.portWritten pair.newPic newMachine setUp performed afterCalls replies
+unfolding set.with set.without set.outside set.lowest set.highest set.lastSet32 chip.opened chip.commanded chip.fed chip.commandRead chip.pulsed chip.counts chip.pendingLine chip.pendingIrq chip.asks chip.driven chip.acknowledged chip.acknowledge chip.unacknowledged pair.newState pair.settled pair.latched pair.masterClaim pair.slaveClaim pair.claimPending pair.claimIrq pair.restored pair.portRead pair.writtenAt pair.portWritten newMachine machine.picOutcome machine.localOutcome performed afterCalls replies
 cascades-hold = ((refl, refl), ((refl, refl), tt))

@@ -8,8 +8,8 @@ use Rattle.types.specs.declared.Gsi.{Gsi}
 use Rattle.types.specs.declared.Vector.{Vector}
 use Rattle.types.specs.declared.Reply.{Reply}
 use Rattle.types.specs.declared.Reply.the-variants.{Two}
-use Rattle.vioapic.specs.declared.EmulatedIoApic.{EmulatedIoApic}
-use Rattle.vioapic.specs.Table.{isNew}
+use Rattle.vioapic.specs.State.{IoApicState}
+use Rattle.vioapic.specs.Table.{isVersion20}
 use Rattle.vioapic.specs.Calls as ioapic
 use Rattle.vioapic_theorems.specs.Rules.{ChipRules}
 use Rattle.vioapic_theorems.specs.Sends.{sent, sends, eois, lowerInFlight}
@@ -17,53 +17,40 @@ use Rattle.vioapic_theorems.specs.Premises.{throughout, demanded}
 use Rattle.vioapic_theorems.specs.Heard20.{eoisAt, heldUp}
 use Rattle.script_format.specs.declared.IoCall.the-variants.{SetGsiLevel}
 use Rattle.script_format.specs.declared.Call.{Call}
-use Rattle.script_format.specs.declared.Call.the-variants.{Io, IoVersion, Pic, PicRule, Apic}
+use Rattle.script_format.specs.declared.Call.the-variants.{Io}
 use Rattle.script_machine.specs.declared.Used.{Used}
-use Rattle.script_machine.specs.declared.Machine.{Machine}
-use Rattle.script_machine.specs.Machine.{newMachine, ioCall, chosen, performed}
+use Rattle.script_machine.specs.Machine.{Machine, newMachine, chosen, performed}
 use Rattle.script_machine.specs.Run.{callsFrom, afterCalls, runOf}
+use Rattle.script_theorems.specs.Parts.{ioPart, byPart}
 use Rattle.script_theorems.specs.Runs.{inTime}
 
 -- the I/O APIC's calls among a script's
 unfoldable pub ioCalls : List Call → List ioapic.Call
 ioCalls [] = []
-ioCalls (Io c ∷ cs) = ioCall c ∷ ioCalls cs
-ioCalls (IoVersion version ∷ cs) = ioCalls cs
-ioCalls (Pic c ∷ cs) = ioCalls cs
-ioCalls (PicRule rule ∷ cs) = ioCalls cs
-ioCalls (Apic c ∷ cs) = ioCalls cs
+ioCalls (c ∷ cs) = byPart (ioPart c) (λ d. d ∷ ioCalls cs) (λ version. ioCalls cs) (ioCalls cs)
 
 -- the chip that they are made on: a new one of the version chosen, where that is in time; else the machine's
-unfoldable pub startOf : EmulatedIoApic → List Call → EmulatedIoApic
+unfoldable pub startOf : IoApicState → List Call → IoApicState
 startOf chip [] = chip
-startOf chip (Io c ∷ cs) = chip
-startOf chip (IoVersion version ∷ cs) = chosen version .state
-startOf chip (Pic c ∷ cs) = startOf chip cs
-startOf chip (PicRule rule ∷ cs) = startOf chip cs
-startOf chip (Apic c ∷ cs) = startOf chip cs
+startOf chip (c ∷ cs) = byPart (ioPart c) (λ d. chip) (λ version. chosen chip version .state) (startOf chip cs)
 
 -- what the I/O APIC's fields among them answer, 06 apart
 unfoldable pub ioReplies : Machine → List Call → List Reply
 ioReplies m [] = []
-ioReplies m (Io c ∷ cs) = performed m (Io c) .reply ∷ ioReplies (performed m (Io c) .state) cs
-ioReplies m (IoVersion version ∷ cs) = ioReplies (performed m (IoVersion version) .state) cs
-ioReplies m (Pic c ∷ cs) = ioReplies (performed m (Pic c) .state) cs
-ioReplies m (PicRule rule ∷ cs) = ioReplies (performed m (PicRule rule) .state) cs
-ioReplies m (Apic c ∷ cs) = ioReplies (performed m (Apic c) .state) cs
+ioReplies m (c ∷ cs) =
+    byPart (ioPart c) (λ d. performed m c .reply ∷ ioReplies (performed m c .state) cs)
+    (λ version. ioReplies (performed m c .state) cs)
+    (ioReplies (performed m c .state) cs)
 
 -- what a list of public calls answers, one after the other
-unfoldable pub answers : EmulatedIoApic → List ioapic.Call → List Reply
+unfoldable pub answers : IoApicState → List ioapic.Call → List Reply
 answers chip [] = []
 answers chip (c ∷ cs) = ioapic.outcome chip c .reply ∷ answers (ioapic.next chip c) cs
 
 -- how often entry g is sent, read off the fields' answers
 unfoldable pub scriptSends : ℕ → Machine → List Call → ℕ
 scriptSends g m [] = 0
-scriptSends g m (Io c ∷ cs) = sent g (ioCall c) (performed m (Io c) .reply) + scriptSends g (performed m (Io c) .state) cs
-scriptSends g m (IoVersion version ∷ cs) = scriptSends g (performed m (IoVersion version) .state) cs
-scriptSends g m (Pic c ∷ cs) = scriptSends g (performed m (Pic c) .state) cs
-scriptSends g m (PicRule rule ∷ cs) = scriptSends g (performed m (PicRule rule) .state) cs
-scriptSends g m (Apic c ∷ cs) = scriptSends g (performed m (Apic c) .state) cs
+scriptSends g m (c ∷ cs) = byPart (ioPart c) (λ d. sent g d (performed m c .reply)) (λ version. 0) 0 + scriptSends g (performed m c .state) cs
 
 -- the machine's I/O APIC after calls of which none is late, as those of every run (`InTime`), and what it answered
 abbrev pub IoApicRuns : Type 0
@@ -86,7 +73,7 @@ IoApicSends =
 
 -- a machine whose I/O APIC keeps the chip's rules and stands at the usual address
 pub record MachineRules (m : Machine) : Type 0 where
-  pub rules : ChipRules (m .ioapic .state)
+  pub rules : ChipRules (m .ioapic)
   pub place : m .ioapic .base ≡ 0xfec00000
 
 -- a new machine does, and every call keeps that, a choice of version too
@@ -103,18 +90,18 @@ abbrev pub HeardInScripts : Type 0
 HeardInScripts =
     (s : List ℕ) (a b : ℕ) (g : Gsi) (v : Vector) (m : Machine) (after : List Call)
     → m ≡ runOf s newMachine 0 a .machine
-    → isNew (m .ioapic .state) ≡ false
+    → isVersion20 (m .ioapic) ≡ false
     → callsAfter s a b ≡ Io (SetGsiLevel g true) ∷ after
     → performed m (Io (SetGsiLevel g true)) .reply ≡ Two (v .0) 1
     → throughout (demanded v (g .0)) (performed m (Io (SetGsiLevel g true)) .state .ioapic) (ioCalls after) ≡ true
-    → scriptSends (g .0) m (callsAfter s a b) ≡ 1 + (eois v (ioCalls after) - lowerInFlight v (g .0) (m .ioapic .state))
+    → scriptSends (g .0) m (callsAfter s a b) ≡ 1 + (eois v (ioCalls after) - lowerInFlight v (g .0) (m .ioapic))
 
 -- and in version 0x20: the line stays up and the entry's low word the same, and nothing is asked of other entries; then each EOI of v, by either road, sends entry g once more
 abbrev pub HeardInScripts20 : Type 0
 HeardInScripts20 =
     (s : List ℕ) (a b : ℕ) (g : Gsi) (v : Vector) (m : Machine) (after : List Call)
     → m ≡ runOf s newMachine 0 a .machine
-    → isNew (m .ioapic .state) ≡ true
+    → isVersion20 (m .ioapic) ≡ true
     → callsAfter s a b ≡ Io (SetGsiLevel g true) ∷ after
     → performed m (Io (SetGsiLevel g true)) .reply ≡ Two (v .0) 1
     → throughout (heldUp (g .0)) (performed m (Io (SetGsiLevel g true)) .state .ioapic) (ioCalls after) ≡ true

@@ -1,5 +1,6 @@
 pub mod Examples
 pub mod Heard
 pub mod Pairs
+pub mod Parts
 pub mod Refusals
 pub mod Runs

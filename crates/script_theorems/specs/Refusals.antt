@@ -8,44 +8,37 @@ use Rattle.types.specs.Reply.{Outcome, replyNumber}
 use Rattle.vlapic.specs.Regs.{withCommand}
 use Rattle.script_format.specs.declared.Call.{Call}
 use Rattle.script_format.specs.declared.Call.the-variants.{Io, IoVersion, Pic, PicRule, Apic}
-use Rattle.script_format.specs.declared.ApicCall.the-variants as apic
-use Rattle.script_machine.specs.declared.Machine.{Machine}
+use Rattle.script_format.specs.declared.ApicCall.{ApicCall}
+use Rattle.script_format.specs.declared.ApicCall.the-variants as local
 use Rattle.script_machine.specs.Late.{usedAfter}
-use Rattle.script_machine.specs.Machine.{performed}
+use Rattle.script_machine.specs.Machine.{Machine, withLocal, withUsed, performed}
 
 -- the call writes the interrupt command register's low word, which is the command
+abbrev pub isIcrWrite : ApicCall → Bool
+isIcrWrite (local.AcceptInterrupt vector level) = false
+isIcrWrite (local.HandleWrite offset width value) = eqb offset 0x300
+isIcrWrite local.HandleEoi = false
+isIcrWrite (local.HandleRead offset) = false
+isIcrWrite (local.Setup x2apic id num active) = false
+
 abbrev pub isCommand : Call → Bool
 isCommand (Io c) = false
 isCommand (IoVersion version) = false
 isCommand (Pic c) = false
 isCommand (PicRule rule) = false
-isCommand (Apic (apic.AcceptInterrupt vector level)) = false
-isCommand (Apic (apic.HandleWrite offset width value)) = eqb offset 0x300
-isCommand (Apic apic.HandleEoi) = false
-isCommand (Apic (apic.HandleRead offset)) = false
-isCommand (Apic (apic.Setup x2apic id num active)) = false
+isCommand (Apic c) = isIcrWrite c
 
 -- the machine n with the command's words of m
 abbrev pub withWordsOf : Machine → Machine → Machine
-withWordsOf m n = record {
-  ioapic = n .ioapic;
-  pic = n .pic;
-  apic = withCommand (n .apic) (m .apic .«icr_lo») (m .apic .«icr_hi»);
-  «vcpu_num» = n .«vcpu_num»;
-  «active_vcpus» = n .«active_vcpus»;
-  used = n .used;
-}
+withWordsOf m n = withLocal n (record {
+  apic = withCommand (n .local .apic) (m .local .apic .«icr_lo») (m .local .apic .«icr_hi»);
+  «vcpu_num» = n .local .«vcpu_num»;
+  «active_vcpus» = n .local .«active_vcpus»;
+})
 
 -- the machine m, which remembers the call; a call of the local APIC leaves nothing to remember
 abbrev pub having : Machine → Call → Machine
-having m c = record {
-  ioapic = m .ioapic;
-  pic = m .pic;
-  apic = m .apic;
-  «vcpu_num» = m .«vcpu_num»;
-  «active_vcpus» = m .«active_vcpus»;
-  used = usedAfter (m .used) c;
-}
+having m c = withUsed m (usedAfter (m .used) c)
 
 pub record Kept (m : Machine) (c : Call) (after : Machine) : Type 0 where
   pub but-words : withWordsOf m after ≡ having m c

@@ -1,4 +1,4 @@
--- What holds of every run of every script, of any length (the limit of 65,536 bytes is the program's alone). A run is `runOf` of the crate `scripts`.
+-- What holds of every run of every script, of any length (the limit of 65,536 bytes is the program's alone). A run is `runOf` of the crate `script_machine`.
 use Prim.Native.Nat.{ℕ, _+_, _≤_, _<_}
 use mathlib.Core.Bool.{Bool, true, false, cond, not, _&&_, _||_}
 use mathlib.Core.List.{List, [], _∷_, _++_}
@@ -7,17 +7,15 @@ use mathlib.Core.Path.{_≡_}
 use lib.ListN.{length}
 use Rattle.types.specs.declared.Reply.{Reply}
 use Rattle.script_format.specs.declared.Call.{Call}
-use Rattle.script_format.specs.declared.Call.the-variants.{Io, IoVersion, Pic, PicRule, Apic}
 use Rattle.script_format.specs.declared.Cursor.{Cursor}
 use Rattle.script_format.specs.declared.Field.the-variants.{Good, Bad}
 use Rattle.script_format.specs.Fields.{fieldAt}
-use Rattle.script_machine.specs.Late.{isIo, isPic, isLate, usedAfter, fieldFor}
-use Rattle.script_machine.specs.Machine.{unused, newMachine}
+use Rattle.script_format.specs.Chips.{chipOf, isChoice, same}
+use Rattle.script_machine.specs.Late.{isLate, usedAfter, fieldFor}
+use Rattle.script_machine.specs.Machine.{Machine, unused, newMachine}
 use Rattle.script_machine.specs.declared.Used.{Used}
-use Rattle.script_machine.specs.declared.Machine.{Machine}
-use Rattle.script_machine.specs.declared.Run.{Run}
 use Rattle.script_machine.specs.declared.Stop.the-variants as stop
-use Rattle.script_machine.specs.Run.{fieldCount, placeAfter, callsFrom, afterCalls, replies, runOf}
+use Rattle.script_machine.specs.Run.{Run, fieldCount, placeAfter, callsFrom, afterCalls, replies, runOf}
 
 -- the number that a run answers is the number of fields read off the bytes, and that many calls were made
 abbrev pub Counted : Type 0
@@ -49,13 +47,9 @@ AnsweredInTwo =
 
 -- ---- fields that come too late
 
--- c, performed, makes a later d late: d is a choice of version and c of fields 01 to 06, or d is a choice of rule and c of fields 10 to 16
+-- c, performed, makes a later d late: d chooses what a chip is, and c is of that chip
 abbrev pub bars : Call → Call → Bool
-bars c (Io d) = false
-bars c (IoVersion version) = isIo c
-bars c (Pic d) = false
-bars c (PicRule rule) = isPic c
-bars c (Apic d) = false
+bars c d = isChoice d && same (chipOf c) (chipOf d)
 
 -- one of the calls does
 unfoldable pub barred : List Call → Call → Bool

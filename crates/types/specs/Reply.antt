@@ -40,3 +40,6 @@ flag false = 0
 pub record Outcome (S : Type 0) : Type 0 where
   pub state : S
   pub reply : Reply
+
+abbrev pub outcomeOf : {S : Type 0} → S → Reply → Outcome S
+outcomeOf s r = record { state = s; reply = r }

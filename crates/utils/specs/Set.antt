@@ -14,6 +14,10 @@ with n k = cond (bit n k) n (n + 2 ^ k)
 unfoldable pub without : ℕ → ℕ → ℕ
 without n k = cond (bit n k) (n - 2 ^ k) n
 
+-- n with k where it is up, and without it where it is down
+abbrev pub marked : ℕ → ℕ → Bool → ℕ
+marked n k up = cond up (with n k) (without n k)
+
 -- the set of those k below w at which p holds
 abbrev pub setOf : ℕ → (ℕ → Bool) → ℕ
 setOf zero p = 0

@@ -1,7 +1,7 @@
-pub mod ChipLaws
-pub mod Fields
-pub mod FlightLaws
-pub mod EveryLaws
+pub mod Words
+pub mod Entries
+pub mod Flight
+pub mod Every
+pub mod Ways
 pub mod Agree
-pub mod EntryLaws
 pub mod Same

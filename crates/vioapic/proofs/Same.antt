@@ -1,15 +1,18 @@
 -- Nothing is lost in an outcome: each answer can be read back from its reply, so equal outcomes come from equal results. Assumes nothing.
-use mathlib.Core.Path.{_≡_, refl, sym, ap, _∙_}
-use mathlib.Core.Bool.{Bool, true, false}
 use Prim.Native.Nat.{ℕ}
-use lib.Dec.{eqb}
-use Rattle.types.specs.Reply.{flag, Outcome}
+use mathlib.Core.Path.{_≡_, refl, ap}
+use Rattle.types.specs.Reply.{Outcome}
 use Rattle.types.specs.declared.Reply.{Reply}
 use Rattle.types.specs.declared.Reply.the-variants.{Refused, Nothing, One, Two, Three}
-use Rattle.vioapic.specs.Answers.{routedReply, eoiReply, gsiVectorReply, readReply, writtenReply, rangeReply, routingOutcome, endingOutcome, writingOutcome}
-use Rattle.vioapic.specs.declared.redirection.IoApicInterrupt.{IoApicInterrupt}
-use Rattle.vioapic.specs.declared.redirection.Routed.{Routed}
-use Rattle.vioapic.specs.declared.redirection.Routed.the-variants.{NotRouted, Interrupt}
+use Rattle.vioapic_entry.proofs.Same.{same, interruptOf, interrupt-back, routedOf, routed-back}
+use Rattle.vioapic_entry.specs.declared.IoApicInterrupt.{IoApicInterrupt}
+use Rattle.vioapic_entry.specs.declared.Routed.{Routed}
+use Rattle.vioapic_entry.specs.declared.Routed.the-variants.{NotRouted, Interrupt}
+use Rattle.vioapic.specs.Answers.{eoiReply, gsiVectorReply, readReply, writtenReply, rangeReply}
+use Rattle.vioapic.specs.State.{IoApicState}
+use Rattle.vioapic.specs.Table.{Routing, Ending, routing, ending}
+use Rattle.vioapic.specs.Registers.{Writing, writing}
+use Rattle.vioapic.specs.IoApic.{routingOutcome, endingOutcome, writingOutcome}
 use Rattle.vioapic.specs.declared.Eoi.{Eoi}
 use Rattle.vioapic.specs.declared.Eoi.the-variants.{NotEnded, Ended, EndedAll}
 use Rattle.vioapic.specs.declared.GsiVector.{GsiVector}
@@ -20,40 +23,8 @@ use Rattle.vioapic.specs.declared.Written.{Written}
 use Rattle.vioapic.specs.declared.Written.the-variants as written
 use Rattle.vioapic.specs.declared.AddressRange.{AddressRange}
 use Rattle.vioapic.specs.declared.AddressRange.the-variants.{Between, NoRange}
-use Rattle.vioapic.specs.declared.EmulatedIoApic.{EmulatedIoApic}
-use Rattle.vioapic.specs.declared.IoApicRouting.{IoApicRouting}
-use Rattle.vioapic.specs.declared.IoApicEnding.{IoApicEnding}
-use Rattle.vioapic.specs.declared.IoApicWriting.{IoApicWriting}
-
--- what has a way back is one to one
-same : {A B : Type 0} (f : A → B) (g : B → A) → ((a : A) → g (f a) ≡ a) → (a b : A) → f a ≡ f b → a ≡ b
-same f g back a b e = sym (back a) ∙ ap g e ∙ back b
-
-flag-back : (b : Bool) → eqb (flag b) 1 ≡ b
-flag-back true = refl
-flag-back false = refl
 
 -- ---- answers
-
-abbrev interruptOf : ℕ → ℕ → IoApicInterrupt
-interruptOf v l = record { vector = record { 0 = v }; «level_triggered» = eqb l 1 }
-
-interrupt-back : (i : IoApicInterrupt) → interruptOf (i .vector .0) (flag (i .«level_triggered»)) ≡ i
-interrupt-back i = ap (λ (b : Bool). record { vector = i .vector; «level_triggered» = b }) (flag-back (i .«level_triggered»))
-
-abbrev routedOf : Reply → Routed
-routedOf (Refused why) = NotRouted
-routedOf Nothing = NotRouted
-routedOf (One a) = NotRouted
-routedOf (Two v l) = Interrupt (interruptOf v l)
-routedOf (Three a v l) = Interrupt (interruptOf v l)
-
-routed-back : (r : Routed) → routedOf (routedReply r) ≡ r
-routed-back NotRouted = refl
-routed-back (Interrupt i) = ap Interrupt (interrupt-back i)
-
-pub routed-reply-same : (a b : Routed) → routedReply a ≡ routedReply b → a ≡ b
-routed-reply-same = same routedReply routedOf routed-back
 
 abbrev endedOf : ℕ → Routed → Eoi
 endedOf g r = Ended (record { gsi = record { 0 = g }; pending = r })
@@ -136,17 +107,17 @@ range-reply-same = same rangeReply rangeOf range-back
 
 -- ---- results
 
-pub routing-same : (a b : IoApicRouting) → routingOutcome a ≡ routingOutcome b → a ≡ b
+pub routing-same : (a b : Routing) → routingOutcome a ≡ routingOutcome b → a ≡ b
 routing-same =
-    same routingOutcome (λ (o : Outcome EmulatedIoApic). record { chip = o .state; answer = routedOf (o .reply) })
-    (λ a. ap (λ (x : Routed). record { chip = a .chip; answer = x }) (routed-back (a .answer)))
+    same routingOutcome (λ (o : Outcome IoApicState). routing (o .state) (routedOf (o .reply)))
+    (λ a. ap (routing (a .state)) (routed-back (a .answer)))
 
-pub ending-same : (a b : IoApicEnding) → endingOutcome a ≡ endingOutcome b → a ≡ b
+pub ending-same : (a b : Ending) → endingOutcome a ≡ endingOutcome b → a ≡ b
 ending-same =
-    same endingOutcome (λ (o : Outcome EmulatedIoApic). record { chip = o .state; answer = eoiOf (o .reply) })
-    (λ a. ap (λ (x : Eoi). record { chip = a .chip; answer = x }) (eoi-back (a .answer)))
+    same endingOutcome (λ (o : Outcome IoApicState). ending (o .state) (eoiOf (o .reply)))
+    (λ a. ap (ending (a .state)) (eoi-back (a .answer)))
 
-pub writing-same : (a b : IoApicWriting) → writingOutcome a ≡ writingOutcome b → a ≡ b
+pub writing-same : (a b : Writing) → writingOutcome a ≡ writingOutcome b → a ≡ b
 writing-same =
-    same writingOutcome (λ (o : Outcome EmulatedIoApic). record { chip = o .state; answer = writtenOf (o .reply) })
-    (λ a. ap (λ (x : Written). record { chip = a .chip; answer = x }) (written-back (a .answer)))
+    same writingOutcome (λ (o : Outcome IoApicState). writing (o .state) (writtenOf (o .reply)))
+    (λ a. ap (writing (a .state)) (written-back (a .answer)))

@@ -1,12 +1,10 @@
--- What each kind of answer says in document 01's numbers and values, and what a call that hands the chip back leaves.
+-- What each kind of answer says in document 01's numbers and values.
 use Prim.Native.Nat.{ℕ}
-use mathlib.Core.Bool.{Bool, true, false}
-use Rattle.types.specs.Reply.{flag, Outcome}
+use Rattle.types.specs.Reply.{flag}
 use Rattle.types.specs.declared.Reply.{Reply}
 use Rattle.types.specs.declared.Reply.the-variants.{Refused, Nothing, One, Two, Three}
-use Rattle.vioapic.specs.declared.redirection.IoApicInterrupt.{IoApicInterrupt}
-use Rattle.vioapic.specs.declared.redirection.Routed.{Routed}
-use Rattle.vioapic.specs.declared.redirection.Routed.the-variants.{NotRouted, Interrupt}
+use Rattle.vioapic_entry.specs.declared.Routed.{Routed}
+use Rattle.vioapic_entry.specs.declared.Routed.the-variants.{NotRouted, Interrupt}
 use Rattle.vioapic.specs.declared.IoApicEoi.{IoApicEoi}
 use Rattle.vioapic.specs.declared.Eoi.{Eoi}
 use Rattle.vioapic.specs.declared.IoApicEois.{IoApicEois}
@@ -19,24 +17,6 @@ use Rattle.vioapic.specs.declared.Written.{Written}
 use Rattle.vioapic.specs.declared.Written.the-variants as written
 use Rattle.vioapic.specs.declared.AddressRange.{AddressRange}
 use Rattle.vioapic.specs.declared.AddressRange.the-variants.{Between, NoRange}
-use Rattle.vioapic.specs.declared.EmulatedIoApic.{EmulatedIoApic}
-use Rattle.vioapic.specs.declared.IoApicRouting.{IoApicRouting}
-use Rattle.vioapic.specs.declared.IoApicEnding.{IoApicEnding}
-use Rattle.vioapic.specs.declared.IoApicWriting.{IoApicWriting}
-
--- the vector and the trigger mode
-abbrev pub interruptReply : IoApicInterrupt → Reply
-interruptReply i = Two (i .vector .0) (flag (i .«level_triggered»))
-
--- nothing, or the interrupt
-abbrev pub routedReply : Routed → Reply
-routedReply NotRouted = Nothing
-routedReply (Interrupt i) = interruptReply i
-
--- an interrupt is sent
-abbrev pub isRouted : Routed → Bool
-isRouted NotRouted = false
-isRouted (Interrupt i) = true
 
 -- the GSI alone, or with the interrupt that is sent again
 abbrev pub pendingReply : ℕ → Routed → Reply
@@ -71,14 +51,3 @@ writtenReply (written.NotWritten why) = Refused why
 abbrev pub rangeReply : AddressRange → Reply
 rangeReply (Between a b) = Two a b
 rangeReply (NoRange why) = Refused why
-
--- ---- what a call leaves
-
-abbrev pub routingOutcome : IoApicRouting → Outcome EmulatedIoApic
-routingOutcome r = record { state = r .chip; reply = routedReply (r .answer) }
-
-abbrev pub endingOutcome : IoApicEnding → Outcome EmulatedIoApic
-endingOutcome r = record { state = r .chip; reply = eoiReply (r .answer) }
-
-abbrev pub writingOutcome : IoApicWriting → Outcome EmulatedIoApic
-writingOutcome r = record { state = r .chip; reply = writtenReply (r .answer) }

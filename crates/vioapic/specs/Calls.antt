@@ -7,7 +7,7 @@ use Rattle.types.specs.declared.Gsi.{Gsi}
 use Rattle.types.specs.declared.Vector.{Vector}
 use Rattle.types.specs.declared.Reply.{Reply}
 use Rattle.vioapic.specs.IoApic.{assertGsi, setGsiLevel, endOfInterrupt, vectorForGsi, addressRange, handleRead, handleWrite}
-use Rattle.vioapic.specs.declared.EmulatedIoApic.{EmulatedIoApic}
+use Rattle.vioapic.specs.State.{IoApicState}
 
 pub data Call : Type 0 where
   SetGsiLevel : Gsi → Bool → Call
@@ -19,10 +19,10 @@ pub data Call : Type 0 where
   HandleWrite : ℕ → ℕ → ℕ → Call  -- address, width, value
 
 -- a call that answers without handing a chip back leaves the chip as it is
-abbrev pub kept : EmulatedIoApic → Reply → Outcome EmulatedIoApic
+abbrev pub kept : IoApicState → Reply → Outcome IoApicState
 kept m r = record { state = m; reply = r }
 
-unfoldable pub outcome : EmulatedIoApic → Call → Outcome EmulatedIoApic
+unfoldable pub outcome : IoApicState → Call → Outcome IoApicState
 outcome m (SetGsiLevel gsi up) = setGsiLevel m gsi up
 outcome m (AssertGsi gsi) = assertGsi m gsi
 outcome m (EndOfInterrupt v) = endOfInterrupt m v
@@ -32,9 +32,9 @@ outcome m (HandleRead addr width) = kept m (handleRead m addr width)
 outcome m (HandleWrite addr width x) = handleWrite m addr width x
 
 -- the chip after a call, and after a run of calls
-abbrev pub next : EmulatedIoApic → Call → EmulatedIoApic
+abbrev pub next : IoApicState → Call → IoApicState
 next m c = outcome m c .state
 
-unfoldable pub run : EmulatedIoApic → List Call → EmulatedIoApic
+unfoldable pub run : IoApicState → List Call → IoApicState
 run m [] = m
 run m (c ∷ cs) = run (next m c) cs

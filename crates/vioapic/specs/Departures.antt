@@ -4,10 +4,11 @@ use Prim.Native.Nat.{ℕ}
 use mathlib.Core.Bool.{true, false}
 use mathlib.Core.List.{List, [], _∷_}
 use mathlib.Core.Path.{refl}
+use Rattle.utils.specs.Set.{with, without}
 use Rattle.types.specs.Reply.{replyValues}
 use Rattle.types.specs.Departure.{Departure, Shown}
 use Rattle.types.specs.declared.Gsi.{Gsi}
-use Rattle.vioapic.specs.Redirection.{sendEntry, raiseEntry, lowerEntry, endEntry, writeLow, writeHigh}
+use Rattle.vioapic_entry.specs.Redirection.{sendEntry, raiseEntry, lowerEntry, endEntry, writeLow, writeHigh}
 use Rattle.vioapic.specs.Table.{interruptForEntry, setLevel, firstAwaiting, endOfEntry, endOf}
 use Rattle.vioapic.specs.Registers.{readFixed, readWord, readSelected, writeWord, writeSelected, readAt, writeAt}
 use Rattle.vioapic.specs.IoApic.{chipAt, assertGsi, setGsiLevel, endOfInterrupt, handleRead, handleWrite}
@@ -87,7 +88,7 @@ departures =
     ∷ record { number = 43; computed = answers (select 0x10 ∷ write 0xFF ∷ []) (raise 0); ours = 0xFF ∷ 0 ∷ []; text = [] }
     -- Remote IRR is set by the sending; in the text by a local APIC's acceptance, which hasn't come here
     ∷ record { number = 44; computed = answers (select 0x10 ∷ write 0x8030 ∷ raise 0 ∷ []) read; ours = 0xC030 ∷ []; text = 0x8030 ∷ [] }
-    -- a level entry that was put off is sent again with its line down; in the text the line's level alone decides
+    -- a level entry that was deferred is sent again with its line down; in the text the line's level alone decides
     ∷ record {
       number = 45;
       computed = answers (select 0x10 ∷ write 0x8030 ∷ assert 0 ∷ assert 0 ∷ []) (eoi 0x30);
@@ -101,5 +102,5 @@ departures =
     ∷ []
 
 pub departures-hold : Shown departures
-unfolding run outcome assertGsi setGsiLevel endOfInterrupt handleRead handleWrite interruptForEntry setLevel firstAwaiting endOfEntry endOf readFixed readWord readSelected writeWord writeSelected readAt writeAt sendEntry raiseEntry lowerEntry endEntry writeLow writeHigh
+unfolding run outcome with without assertGsi setGsiLevel endOfInterrupt handleRead handleWrite interruptForEntry setLevel firstAwaiting endOfEntry endOf readFixed readWord readSelected writeWord writeSelected readAt writeAt sendEntry raiseEntry lowerEntry endEntry writeLow writeHigh
 departures-hold = ((refl, refl), ((refl, refl), ((refl, refl), ((refl, refl), ((refl, refl), ((refl, refl), ((refl, refl), ((refl, refl), ((refl, refl), ((refl, refl), ((refl, refl), ((refl, refl), ((refl, refl), ((refl, refl), ((refl, refl), ((refl, refl), ((refl, refl), tt)))))))))))))))))

@@ -1,103 +1,133 @@
--- The public calls of the I/O APIC: for each the complete chip after it, and its reply in document 01's numbers.
+-- The public calls of the I/O APIC: for each the complete state after it, and its reply in document 01's numbers.
 -- 82093AA: the memory map (base address 0xFEC00000, 32-bit accesses; D-47: 8-byte accesses are served).
 use Prim.Native.Nat.{ℕ, _+_, _-_, _%_, _^_}
-use mathlib.Core.Bool.{Bool, true, cond}
+use mathlib.Core.Bool.{Bool, cond, _||_}
+use mathlib.Core.List.{List}
+use mathlib.Core.Path.{_≡_}
 use lib.Dec.{eqb, leb}
+use lib.ListN.{replicate}
 use Rattle.types.specs.Reply.{Outcome}
 use Rattle.types.specs.declared.Gsi.{Gsi}
 use Rattle.types.specs.declared.Vector.{Vector}
 use Rattle.types.specs.declared.Refusal.{Refusal}
 use Rattle.types.specs.declared.Refusal.the-variants.{Unsupported, InvalidAddress}
 use Rattle.types.specs.declared.Reply.{Reply}
-use Rattle.types.specs.declared.Reply.the-variants.{Refused, Nothing, One, Two}
-use Rattle.vioapic.specs.Answers.{routedReply, eoiReply, gsiVectorReply, writtenReply}
-use Rattle.vioapic.specs.Table.{newState, interruptForEntry, setLevel, endOf, vectorFor}
-use Rattle.vioapic.specs.Registers.{readAt, writeAt}
-use Rattle.vioapic.specs.declared.IoApicState.{IoApicState}
-use Rattle.vioapic.specs.declared.EmulatedIoApic.{EmulatedIoApic}
+use Rattle.types.specs.declared.Reply.the-variants.{Refused, Nothing, One, Two, Three}
+use Rattle.vioapic_entry.specs.Answers.{routedReply}
+use Rattle.vioapic.specs.Answers.{eoiReply, gsiVectorReply, writtenReply}
+use Rattle.vioapic.specs.State.{IoApicState, view, spare}
+use Rattle.vioapic.specs.Table.{Routing, Ending, newEntry, interruptForEntry, setLevel, endOf, vectorFor}
+use Rattle.vioapic.specs.Registers.{Writing, readAt, writeAt}
 
--- widths 4 and 8 are served
-abbrev pub goodWidth : ℕ → Bool
-goodWidth width = cond (eqb width 4) true (eqb width 8)
+-- ---- what a call leaves
+
+abbrev pub routingOutcome : Routing → Outcome IoApicState
+routingOutcome r = record { state = r .state; reply = routedReply (r .answer) }
+
+abbrev pub endingOutcome : Ending → Outcome IoApicState
+endingOutcome r = record { state = r .state; reply = eoiReply (r .answer) }
+
+abbrev pub writingOutcome : Writing → Outcome IoApicState
+writingOutcome r = record { state = r .state; reply = writtenReply (r .answer) }
+
+-- refused, the state as it was
+abbrev pub refuse : IoApicState → Refusal → Outcome IoApicState
+refuse m why = record { state = m; reply = Refused why }
+
+-- and every one of its words
+abbrev pub Untouched : Reply → List ℕ → List ℕ → Type 0
+Untouched (Refused why) before after = after ≡ before
+Untouched Nothing before after = Unit
+Untouched (One a) before after = Unit
+Untouched (Two a b) before after = Unit
+Untouched (Three a b c) before after = Unit
+
+-- a call over lent words, with its reply: its outcome; refused, the words untouched; and what isn't looked at stays as it is
+pub record Leaves (before after : List ℕ) (r : Reply) (o : Outcome IoApicState) : Type 0 where
+  pub outcome : record { state = view after; reply = r } ≡ o
+  pub untouched : Untouched r before after
+  pub kept : spare after ≡ spare before
+
+-- the words after a call that makes a new state: those, or if it is refused the words untouched
+abbrev pub newOr : Reply → List ℕ → List ℕ → List ℕ
+newOr (Refused why) new before = before
+newOr Nothing new before = new
+newOr (One a) new before = new
+newOr (Two a b) new before = new
+newOr (Three a b c) new before = new
+
+pub record Makes (before after : List ℕ) (r : Reply) (o : Outcome IoApicState) (new : List ℕ) : Type 0 where
+  pub outcome : record { state = view after; reply = r } ≡ o
+  pub words : after ≡ newOr r new before
+
+-- ---- a new state
 
 -- the range ends below 2^64
 abbrev pub fits : ℕ → ℕ → Bool
 fits base size = leb (base + size) (2 ^ 64 - 1)
 
--- a new chip there, in either version
-abbrev pub chipOf : ℕ → ℕ → ℕ → EmulatedIoApic
-chipOf version base size = record { base = base; size = size; state = newState version }
+-- a new state there, in either version
+abbrev pub chipOf : ℕ → ℕ → ℕ → IoApicState
+chipOf version base size =
+    record { base = base; size = size; version = version; selector = 0; «in_flight» = 0; entries = replicate 24 newEntry }
 
--- and in version 0x11, which a new chip has if nothing else is asked for
-abbrev pub chipAt : ℕ → ℕ → EmulatedIoApic
+-- and in version 0x11, which a new state has if nothing else is asked for
+abbrev pub chipAt : ℕ → ℕ → IoApicState
 chipAt base size = chipOf 0x11 base size
-
-abbrev pub withState : EmulatedIoApic → IoApicState → EmulatedIoApic
-withState m s = record { base = m .base; size = m .size; state = s }
-
--- a refused call leaves the chip as it was
-abbrev pub refuse : EmulatedIoApic → Refusal → Outcome EmulatedIoApic
-refuse m why = record { state = m; reply = Refused why }
 
 -- there are two versions
 abbrev pub isVersion : ℕ → Bool
-isVersion version = cond (eqb version 0x11) true (eqb version 0x20)
+isVersion version = eqb version 0x11 || eqb version 0x20
 
--- `new_version`, and `new` with version 0x11: where base and size don't fit nothing is created, and a chip that covers no address stands in its place
-unfoldable pub createdVersion : ℕ → ℕ → ℕ → Outcome EmulatedIoApic
-createdVersion base size version =
+-- `new_version`, and `new` with version 0x11, in the place of the state m
+unfoldable pub createdVersion : IoApicState → ℕ → ℕ → ℕ → Outcome IoApicState
+createdVersion m base size version =
     cond (isVersion version)
-    (cond (fits base size) (record { state = chipOf version base size; reply = Nothing }) (refuse (chipAt 0 0) InvalidAddress))
-    (refuse (chipAt 0 0) Unsupported)
+    (cond (fits base size) (record { state = chipOf version base size; reply = Nothing }) (refuse m InvalidAddress))
+    (refuse m Unsupported)
 
 -- `new_default`
-abbrev pub newDefault : EmulatedIoApic
+abbrev pub newDefault : IoApicState
 newDefault = chipAt 0xfec00000 0x1000
 
+-- ---- lines and EOIs
+
 -- `assert_gsi`
-unfoldable pub assertGsi : EmulatedIoApic → Gsi → Outcome EmulatedIoApic
-assertGsi m gsi =
-    record {
-      state = withState m (interruptForEntry (m .state) gsi .state);
-      reply = routedReply (interruptForEntry (m .state) gsi .answer);
-    }
+unfoldable pub assertGsi : IoApicState → Gsi → Outcome IoApicState
+assertGsi m gsi = routingOutcome (interruptForEntry m gsi)
 
 -- `set_gsi_level`
-unfoldable pub setGsiLevel : EmulatedIoApic → Gsi → Bool → Outcome EmulatedIoApic
-setGsiLevel m gsi up =
-    record {
-      state = withState m (setLevel (m .state) gsi up .state);
-      reply = routedReply (setLevel (m .state) gsi up .answer);
-    }
+unfoldable pub setGsiLevel : IoApicState → Gsi → Bool → Outcome IoApicState
+setGsiLevel m gsi up = routingOutcome (setLevel m gsi up)
 
 -- `end_of_interrupt`
-unfoldable pub endOfInterrupt : EmulatedIoApic → Vector → Outcome EmulatedIoApic
-endOfInterrupt m v =
-    record { state = withState m (endOf (m .state) v .state); reply = eoiReply (endOf (m .state) v .answer) }
+unfoldable pub endOfInterrupt : IoApicState → Vector → Outcome IoApicState
+endOfInterrupt m v = endingOutcome (endOf m v)
 
--- `vector_for_gsi`, which leaves the chip as it is
-unfoldable pub vectorForGsi : EmulatedIoApic → Gsi → Reply
-vectorForGsi m gsi = gsiVectorReply (vectorFor (m .state) gsi)
+-- `vector_for_gsi`, which leaves the state as it is
+unfoldable pub vectorForGsi : IoApicState → Gsi → Reply
+vectorForGsi m gsi = gsiVectorReply (vectorFor m gsi)
 
--- `address_range`, likewise
-unfoldable pub addressRange : EmulatedIoApic → Reply
+-- ---- the memory map
+
+-- widths 4 and 8 are served
+abbrev pub goodWidth : ℕ → Bool
+goodWidth width = eqb width 4 || eqb width 8
+
+-- `address_range`, which leaves the state as it is
+unfoldable pub addressRange : IoApicState → Reply
 addressRange m = cond (fits (m .base) (m .size)) (Two (m .base) (m .base + m .size)) (Refused InvalidAddress)
 
 -- `handle_read`, likewise: the width is tested first
-unfoldable pub handleRead : EmulatedIoApic → ℕ → ℕ → Reply
+unfoldable pub handleRead : IoApicState → ℕ → ℕ → Reply
 handleRead m addr width =
     cond (goodWidth width)
-    (cond (leb (m .base) addr) (One (readAt (m .state) (addr - m .base))) (Refused InvalidAddress))
+    (cond (leb (m .base) addr) (One (readAt m (addr - m .base))) (Refused InvalidAddress))
     (Refused Unsupported)
 
 -- `handle_write`: the value is taken modulo 2^32
-unfoldable pub handleWrite : EmulatedIoApic → ℕ → ℕ → ℕ → Outcome EmulatedIoApic
+unfoldable pub handleWrite : IoApicState → ℕ → ℕ → ℕ → Outcome IoApicState
 handleWrite m addr width x =
     cond (goodWidth width)
-    (cond (leb (m .base) addr)
-    (record {
-      state = withState m (writeAt (m .state) (addr - m .base) (x % 2 ^ 32) .state);
-      reply = writtenReply (writeAt (m .state) (addr - m .base) (x % 2 ^ 32) .answer);
-    })
-    (refuse m InvalidAddress))
+    (cond (leb (m .base) addr) (writingOutcome (writeAt m (addr - m .base) (x % 2 ^ 32))) (refuse m InvalidAddress))
     (refuse m Unsupported)

@@ -1,8 +1,9 @@
+pub mod State
 pub mod Answers
+pub mod Table
+pub mod Registers
+pub mod IoApic
 pub mod Calls
 pub mod Agreement
 pub mod Departures
-pub mod IoApic
-pub mod Redirection
-pub mod Registers
-pub mod Table
+pub mod Inside

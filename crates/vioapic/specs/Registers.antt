@@ -1,23 +1,34 @@
 -- The registers behind the selector and the window.
--- I/O Controller Hub: EOI register (offset 0x40, version 0x20).
--- 82093AA: IOREGSEL (offset 0x00), IOWIN (offset 0x10), IOAPICID (0x00), IOAPICVER (0x01), IOAPICARB (0x02), IOREDTBL (0x10 to 0x3F, the low word of each entry before its high word).
+-- 82093AA: IOREGSEL (offset 0x00), IOWIN (offset 0x10), IOAPICID (0x00), IOAPICVER (0x01), IOAPICARB (0x02), IOREDTBL (0x10 to
+-- 0x3F, the low word of each entry before its high word). I/O Controller Hub: EOI register (offset 0x40, version 0x20).
 use Prim.Native.Nat.{ℕ, _-_, _/_, _%_, _^_}
-use mathlib.Core.Bool.{Bool, false, cond}
+use mathlib.Core.Bool.{Bool, cond, _&&_}
 use lib.Dec.{eqb, leb}
-use Rattle.vioapic.specs.Redirection.{writeLow, writeHigh}
-use Rattle.vioapic.specs.Table.{isNew, entryAt, put, endOfEvery}
-use Rattle.vioapic.specs.declared.redirection.Entry.{Entry}
-use Rattle.vioapic.specs.declared.IoApicState.{IoApicState}
-use Rattle.vioapic.specs.declared.Writing.{Writing}
+use Rattle.vioapic_entry.specs.Redirection.{writeLow, writeHigh}
+use Rattle.vioapic_entry.specs.declared.Entry.{Entry}
+use Rattle.vioapic.specs.State.{IoApicState}
+use Rattle.vioapic.specs.Table.{Ending, isVersion20, entryAt, put, endOfEvery}
 use Rattle.vioapic.specs.declared.Written.{Written}
 use Rattle.vioapic.specs.declared.Written.the-variants.{Done, EndedAll}
-use Rattle.vioapic.specs.declared.Ending.{Ending}
 use Rattle.vioapic.specs.declared.Eoi.{Eoi}
 use Rattle.vioapic.specs.declared.Eoi.the-variants as eoi
 
+-- a state after a write, and the write's answer
+pub record Writing : Type 0 where
+  pub state : IoApicState
+  pub answer : Written
+
+abbrev pub writing : IoApicState → Written → Writing
+writing s r = record { state = s; answer = r }
+
+abbrev pub done : IoApicState → Writing
+done s = writing s Done
+
+-- ---- the selected register
+
 -- the selector names a word of the redirection table
 abbrev pub isEntryWord : ℕ → Bool
-isEntryWord sel = cond (leb 0x10 sel) (leb sel 0x3f) false
+isEntryWord sel = leb 0x10 sel && leb sel 0x3f
 
 -- of this entry
 abbrev pub entryOf : ℕ → ℕ
@@ -50,15 +61,6 @@ readSelected s =
 unfoldable pub writeWord : ℕ → Entry → ℕ → Entry
 writeWord sel e x = cond (isLow sel) (writeLow e x) (writeHigh e x)
 
--- what an EOI's answer is to a write
-abbrev pub writtenBy : Eoi → Written
-writtenBy eoi.NotEnded = Done
-writtenBy (eoi.Ended e) = Done
-writtenBy (eoi.EndedAll e) = EndedAll e
-
-abbrev pub done : IoApicState → Writing
-done s = record { state = s; answer = Done }
-
 -- IOWIN is written: only the redirection table can be (D-36)
 unfoldable pub writeSelected : IoApicState → ℕ → Writing
 writeSelected s x =
@@ -66,21 +68,41 @@ writeSelected s x =
     (done (put s (entryOf (s .selector)) (writeWord (s .selector) (entryAt s (entryOf (s .selector))) x)))
     (done s)
 
--- a register of the memory map is read; any other offset reads 0
-unfoldable pub readAt : IoApicState → ℕ → ℕ
-readAt s offset = cond (eqb offset 0) (s .selector) (cond (eqb offset 0x10) (readSelected s) 0)
+-- ---- the EOI register
+
+-- what an EOI of version 0x20 answers to a write
+abbrev pub writtenBy : Eoi → Written
+writtenBy eoi.NotEnded = Done
+writtenBy (eoi.Ended e) = Done
+writtenBy (eoi.EndedAll e) = EndedAll e
 
 abbrev pub eoiWritten : Ending → Writing
-eoiWritten r = record { state = r .state; answer = writtenBy (r .answer) }
+eoiWritten r = writing (r .state) (writtenBy (r .answer))
 
--- the EOI register, which version 0x20 alone has, is written: an EOI of the low byte's vector
+-- it is written, in version 0x20, which alone has it: an EOI of the low byte's vector
 unfoldable pub writeEoi : IoApicState → ℕ → Writing
-writeEoi s x = cond (isNew s) (eoiWritten (endOfEvery s (record { 0 = x % 2 ^ 8 }))) (done s)
+writeEoi s x = cond (isVersion20 s) (eoiWritten (endOfEvery s (record { 0 = x % 2 ^ 8 }))) (done s)
+
+-- ---- the memory map
+
+abbrev pub withSelector : IoApicState → ℕ → IoApicState
+withSelector s x = record {
+  base = s .base;
+  size = s .size;
+  version = s .version;
+  selector = x;
+  «in_flight» = s .«in_flight»;
+  entries = s .entries;
+}
+
+-- a register is read; any other offset reads 0
+unfoldable pub readAt : IoApicState → ℕ → ℕ
+readAt s offset = cond (eqb offset 0) (s .selector) (cond (eqb offset 0x10) (readSelected s) 0)
 
 -- and written: IOREGSEL takes the value whole (D-34), and a write at any other offset is ignored
 unfoldable pub writeAt : IoApicState → ℕ → ℕ → Writing
 writeAt s offset x =
-    cond (eqb offset 0) (done (record { version = s .version; selector = x; «in_flight» = s .«in_flight»; entries = s .entries }))
+    cond (eqb offset 0) (done (withSelector s x))
     (cond (eqb offset 0x10) (writeSelected s x)
     (cond (eqb offset 0x40) (writeEoi s x)
     (done s)))

@@ -1,27 +1,33 @@
 // Ported to Rattle from vioapic.rs of the Rust crate x86_vlapic 0.5.4 (Apache License, Version 2.0; the text stands in NOTICE).
 //
-// Changed: the state goes in by value and comes back by value, without a lock; a redirection entry with its two flags is a struct
-// (module `redirection`); GSIs and vectors are the types' counters; `Option` and `Result` became an enum for each kind of answer, with
-// document 01's number and values (`reply`); an access width is a number; an address below the base, and a base and size whose sum doesn't fit,
+// Changed: the state is 32 words that the caller lends (specs/State.antt), without a lock, or by value (`EmulatedIoApic`, which
+// lends its own); it has a version, 0x11 or 0x20, and a word of the lines in flight, so that an EOI looks at these alone; a
+// redirection entry with its two flags is a struct (crate `vioapic_entry`), which a call takes out of the words and puts back;
+// GSIs and vectors are the types' counters; `Option` and `Result` became an enum for each kind of answer, with document 01's
+// number and values (`reply`); an access width is a number; an address below the base, and a base and size whose sum doesn't fit,
 // are refused instead of overflowing. Each function has its contract, and logging is left out.
 
-use redirection::Entry;
-use redirection::EntryStep;
-use redirection::Routed;
 use types::Gsi;
 use types::Refusal;
 use types::Reply;
 use types::Vector;
+use utils::set32;
+use utils::set64;
+use vioapic_entry::Entry;
+use vioapic_entry::IoApicInterrupt;
+use vioapic_entry::Routed;
 ghost use mathlib.Core.Path.{_≡_};
-ghost use mathlib.Core.Bool.{true};
+ghost use mathlib.Core.Bool.{true, false, _&&_};
 ghost use Prim.Native.Nat.{_<_, _%_, _^_};
-ghost use Rattle.vioapic.specs.Answers.{eoiReply, everyReply, gsiVectorReply, readReply, writtenReply, rangeReply, endedReply, routingOutcome, endingOutcome, writingOutcome};
-ghost use Rattle.vioapic.specs.Redirection.{withWord};
-ghost use Rattle.vioapic.specs.Table.{newState, isNew, Agrees, noted, put, routeAt, interruptForEntry, setLevel, firstAwaiting, endOfEntry, endNext, everyAnswer, endOfEvery, endOf, vectorOfEntry, vectorFor};
-ghost use Rattle.vioapic.specs.Registers.{isEntryWord, isLow, entryOf, versionWord, readFixed, readWord, readSelected, writeWord, writeSelected, readAt, writtenBy, writeEoi, writeAt};
-ghost use Rattle.vioapic.specs.IoApic.{goodWidth, fits, isVersion, chipOf, chipAt, refuse, createdVersion, newDefault, withState, vectorForGsi, assertGsi, setGsiLevel, endOfInterrupt, addressRange, handleRead, handleWrite};
-
-pub mod redirection;
+ghost use Rattle.vioapic_entry.specs.Answers.{routedReply};
+ghost use Rattle.vioapic_entry.specs.Redirection.{vectorOf, remoteIrr, isLevel, withRemoteIrr, withoutRemoteIrr, withWord, withDeferred, withInput, awaits, sendEntry, raiseEntry, lowerEntry, endEntry, endEntry20, writeLow, writeHigh};
+ghost use Rattle.vioapic_entry.specs.declared.Routed.the-variants.{Interrupt};
+ghost use Rattle.vioapic.specs.Answers.{eoiReply, everyReply, gsiVectorReply, readReply, writtenReply, rangeReply, endedReply};
+ghost use Rattle.vioapic.specs.State.{view, newWords};
+ghost use Rattle.vioapic.specs.Table.{isVersion20, entryAt, put, routing, routeAt, ending, firstAwaiting, endOfEntry, everyAnswer, endOfEvery, vectorOfEntry};
+ghost use Rattle.vioapic.specs.Registers.{isEntryWord, isLow, entryOf, versionWord, readFixed, readWord, readSelected, writing, writeSelected, readAt, writtenBy, writeEoi, writeAt};
+ghost use Rattle.vioapic.specs.IoApic.{goodWidth, fits, isVersion, chipAt, newDefault, Leaves, Makes, createdVersion, vectorForGsi, addressRange, assertGsi, setGsiLevel, endOfInterrupt, handleRead, handleWrite};
+ghost use Rattle.vioapic.specs.Inside.{Keeps, putFlag, everyEnd, endNext, everyEnding, clearedIn, sentIn};
 
 pub const IOAPIC_BASE: u64 = 0xfec0_0000;
 
@@ -50,31 +56,26 @@ const IOAPIC_VERSION_VALUE: u64 = 0x0017_0011;
 
 const IOAPIC_VERSION_20_VALUE: u64 = 0x0017_0020;
 
-pub const VERSION_11: u8 = 0x11;
+pub const VERSION_11: u64 = 0x11;
 
 // That of Intel's I/O Controller Hubs.
-pub const VERSION_20: u8 = 0x20;
+pub const VERSION_20: u64 = 0x20;
 
-const REDIRECTION_ENTRY_COUNT: usize = 24;
+const ENTRIES: usize = 24;
 
-const REDIRECTION_ENTRY_MASKED: u64 = 0x1_0000;
+const PENDING: usize = 24;
 
-// The registers behind the selector, and the inputs.
-pub struct IoApicState {
-    // 0x20; any other number is 0x11.
-    pub version: u8,
-    pub selector: u32,
-    // One bit a GSI, the lines in flight: bit 14 of each entry again, so that an EOI needn't look at the others.
-    pub in_flight: u32,
-    pub entries: [Entry; 24],
-}
+const INPUT: usize = 25;
 
-// A minimal emulated x86 IO APIC.
-pub struct EmulatedIoApic {
-    pub base: u64,
-    pub size: u64,
-    pub state: IoApicState,
-}
+const SELECTOR: usize = 26;
+
+const BASE: usize = 27;
+
+const SIZE: usize = 28;
+
+const VERSION: usize = 29;
+
+const IN_FLIGHT: usize = 30;
 
 // Result of a virtual IO APIC EOI broadcast: the GSI whose remote-IRR state was cleared, and the interrupt that should be injected now.
 pub struct IoApicEoi {
@@ -116,37 +117,6 @@ pub enum Written {
 pub enum AddressRange {
     Between(u64, u64),
     NoRange(Refusal),
-}
-
-// A state, or a chip, after a call, and the call's answer.
-pub struct Routing {
-    pub state: IoApicState,
-    pub answer: Routed,
-}
-
-pub struct Ending {
-    pub state: IoApicState,
-    pub answer: Eoi,
-}
-
-pub struct Writing {
-    pub state: IoApicState,
-    pub answer: Written,
-}
-
-pub struct IoApicRouting {
-    pub chip: EmulatedIoApic,
-    pub answer: Routed,
-}
-
-pub struct IoApicEnding {
-    pub chip: EmulatedIoApic,
-    pub answer: Eoi,
-}
-
-pub struct IoApicWriting {
-    pub chip: EmulatedIoApic,
-    pub answer: Written,
 }
 
 impl IoApicEoi {
@@ -241,317 +211,627 @@ impl AddressRange {
     }
 }
 
-// How far an EOI of version 0x20 has come.
-struct EveryEnd {
-    state: IoApicState,
-    cleared: u32,
-    sent: u32,
+// ---- The words
+
+pub fn base(words: &[u64; 32]) -> u64
+    ensures { λ r. ⌜ r ≡ view (now (words .entry)) .base ⌝ }
+{
+    words[BASE]
 }
 
-impl EveryEnd {
-    // Entry `index` ends, if it awaits the EOI.
-    fn end_at(self, index: usize, vector: Vector) -> EveryEnd
-        requires { ⌜ index < 24 ⌝ }
-        ensures { λ r. ⌜ r ≡ endNext vector self index ⌝ }
-    {
-        let before = self.state;
-        let entry = before.entries[index];
-        if !entry.awaits(vector) {
-            return self;
-        }
-        let step = entry.end20();
-        let after = step.entry;
-        let answer = step.answer;
-        let state = before.with_entry(index, after);
-        let cleared = utils::set32::with(self.cleared, index as u32);
-        if answer.is_routed() {
-            return EveryEnd {
-                state,
-                cleared,
-                sent: utils::set32::with(self.sent, index as u32),
-            };
-        }
-        EveryEnd {
-            state,
-            cleared,
-            sent: self.sent,
-        }
+pub fn size(words: &[u64; 32]) -> u64
+    ensures { λ r. ⌜ r ≡ view (now (words .entry)) .size ⌝ }
+{
+    words[SIZE]
+}
+
+pub fn version(words: &[u64; 32]) -> u64
+    ensures { λ r. ⌜ r ≡ view (now (words .entry)) .version ⌝ }
+{
+    if words[VERSION] == VERSION_20 {
+        return VERSION_20;
+    }
+    VERSION_11
+}
+
+pub fn selector(words: &[u64; 32]) -> u32
+    ensures { λ r. ⌜ r ≡ view (now (words .entry)) .selector ⌝ }
+{
+    (words[SELECTOR] % 0x1_0000_0000) as u32
+}
+
+// The lines in flight of the 24: whatever else the word holds isn't looked at.
+pub fn in_flight(words: &[u64; 32]) -> u32
+    ensures { λ r. ⌜ (r ≡ view (now (words .entry)) .«in_flight») × (r < 2 ^ 24) ⌝ }
+{
+    (words[IN_FLIGHT] % 0x100_0000) as u32
+}
+
+// Entry g of the redirection table with its two flags, and a blank one from 24 up.
+pub fn entry(words: &[u64; 32], gsi: Gsi) -> Entry
+    ensures { λ r. ⌜ r ≡ entryAt (view (now (words .entry))) (gsi .0) ⌝ }
+{
+    let g = gsi.0;
+    if g < ENTRIES {
+        return entry_in(words, g);
+    }
+    Entry {
+        word: 0,
+        pending_level: false,
+        input_level: false,
     }
 }
 
-pub fn every_answer(cleared: u32, sent: u32) -> Eoi
-    ensures { λ r. ⌜ r ≡ everyAnswer cleared sent ⌝ }
+// Nothing: lent as a slice, the words are known to be 32.
+fn seen(words: &[u64]) {}
+
+fn entry_in(words: &[u64; 32], g: usize) -> Entry
+    requires { ⌜ g < 24 ⌝ }
+    ensures { λ r. ⌜ r ≡ entryAt (view (now (words .entry))) g ⌝ }
 {
-    if cleared == 0 {
-        return Eoi::NotEnded;
+    Entry {
+        word: words[g],
+        pending_level: set64::has(words[PENDING], g as u64),
+        input_level: set64::has(words[INPUT], g as u64),
     }
-    Eoi::EndedAll(IoApicEois { cleared, sent })
 }
 
-// The lines of the table: whatever else a word of lines in flight holds isn't looked at.
-fn table_lines(lines: u32) -> u32
-    ensures { λ r. ⌜ (r ≡ lines % 2 ^ 24) × (r < 2 ^ 24) ⌝ }
+fn word_at(words: &[u64; 32], g: usize) -> u64
+    requires { ⌜ g < 24 ⌝ }
+    ensures { λ r. ⌜ r ≡ entryAt (view (now (words .entry))) g .word ⌝ }
 {
-    lines % 0x100_0000
+    words[g]
 }
 
-// The word of lines in flight where entry k is this one.
-fn note(lines: u32, k: u32, entry: Entry) -> u32
-    requires { ⌜ k < 32 ⌝ }
-    ensures { λ r. ⌜ r ≡ noted lines k entry ⌝ }
+fn set_flag(words: &mut [u64; 32], at: usize, g: usize, up: bool)
+    requires { ⌜ (at < 32) × (g < 24) ⌝ }
+    ensures { λ _. ⌜ now (words .exit) ≡ putFlag (now (words .entry)) at g up ⌝ }
 {
-    if redirection::remote_irr(entry.word) {
-        return utils::set32::with(lines, k);
+    if up {
+        words[at] = set64::with(words[at], g as u64);
+        return;
     }
-    utils::set32::without(lines, k)
+    words[at] = set64::without(words[at], g as u64);
 }
 
-// The entry with a register that is masked and otherwise 0. A function of its own, which leaves the flags where they are: the compiler then copies
-// a new table's entries by two words of eight bytes each, and not the flags, and the six bytes behind them, one by one (docs/SPEED.md).
-fn masked(mut entry: Entry) -> Entry
-    ensures { λ r. ⌜ r ≡ withWord entry 0x10000 ⌝ }
+// What is done to entry g, part by part. `word` is its register.
+
+fn set_deferred(words: &mut [u64; 32], g: usize, deferred: bool)
+    requires { ⌜ g < 24 ⌝ }
+    ensures { λ _. ⌜ Keeps (now (words .entry)) (now (words .exit)) (view (now (words .exit)) ≡ put (view (now (words .entry))) g (withDeferred (entryAt (view (now (words .entry))) g) deferred)) ⌝ }
 {
-    entry.word = REDIRECTION_ENTRY_MASKED;
-    entry
+    seen(&*words);
+    set_flag(&mut *words, PENDING, g, deferred);
 }
 
-impl IoApicState {
-    pub fn new(version: u8) -> IoApicState
-        ensures { λ r. ⌜ r ≡ newState version ⌝ }
-    {
-        let entry = masked(Entry {
-            word: 0,
-            pending_level: false,
-            input_level: false,
+fn set_input(words: &mut [u64; 32], g: usize, up: bool)
+    requires { ⌜ g < 24 ⌝ }
+    ensures { λ _. ⌜ Keeps (now (words .entry)) (now (words .exit)) (view (now (words .exit)) ≡ put (view (now (words .entry))) g (withInput (entryAt (view (now (words .entry))) g) up)) ⌝ }
+{
+    seen(&*words);
+    set_flag(&mut *words, INPUT, g, up);
+}
+
+// Remote IRR is set, and the line is in flight.
+fn fly(words: &mut [u64; 32], g: usize, word: u64)
+    requires { ⌜ (g < 24) × (word ≡ entryAt (view (now words)) g .word) × (remoteIrr word ≡ false) ⌝ }
+    ensures { λ _. ⌜ Keeps (now (words .entry)) (now (words .exit)) (view (now (words .exit)) ≡ put (view (now (words .entry))) g (withWord (entryAt (view (now (words .entry))) g) (withRemoteIrr word))) ⌝ }
+{
+    seen(&*words);
+    words[g] = vioapic_entry::with_remote_irr(word);
+    set_flag(&mut *words, IN_FLIGHT, g, true);
+}
+
+// It is clear, and the line isn't.
+fn rest(words: &mut [u64; 32], g: usize, word: u64)
+    requires { ⌜ (g < 24) × (word ≡ entryAt (view (now words)) g .word) × (remoteIrr word ≡ true) ⌝ }
+    ensures { λ _. ⌜ Keeps (now (words .entry)) (now (words .exit)) (view (now (words .exit)) ≡ put (view (now (words .entry))) g (withWord (entryAt (view (now (words .entry))) g) (withoutRemoteIrr word))) ⌝ }
+{
+    seen(&*words);
+    words[g] = vioapic_entry::without_remote_irr(word);
+    set_flag(&mut *words, IN_FLIGHT, g, false);
+}
+
+fn is_deferred(words: &[u64; 32], g: usize) -> bool
+    requires { ⌜ g < 24 ⌝ }
+    ensures { λ r. ⌜ r ≡ entryAt (view (now (words .entry))) g .«pending_level» ⌝ }
+{
+    set64::has(words[PENDING], g as u64)
+}
+
+fn is_up(words: &[u64; 32], g: usize) -> bool
+    requires { ⌜ g < 24 ⌝ }
+    ensures { λ r. ⌜ r ≡ entryAt (view (now (words .entry))) g .«input_level» ⌝ }
+{
+    set64::has(words[INPUT], g as u64)
+}
+
+fn interrupt(word: u64, level: bool) -> Routed
+    ensures { λ r. ⌜ r ≡ Interrupt (record { vector = vectorOf word; «level_triggered» = level }) ⌝ }
+{
+    Routed::Interrupt(IoApicInterrupt {
+        vector: vioapic_entry::vector_of(word),
+        level_triggered: level,
+    })
+}
+
+// ---- Lines
+
+// Entry g is sent, if it can be, its line left as it is.
+fn interrupt_for_entry(words: &mut [u64; 32], g: usize, word: u64) -> Routed
+    requires { ⌜ (g < 24) × (word ≡ entryAt (view (now words)) g .word) ⌝ }
+    ensures { λ r. ⌜ Keeps (now (words .entry)) (now (words .exit)) (routing (view (now (words .exit))) r ≡ routeAt (view (now (words .entry))) g (sendEntry (entryAt (view (now (words .entry))) g))) ⌝ }
+{
+    if !vioapic_entry::is_fit(word) {
+        return Routed::NotRouted;
+    }
+    if !vioapic_entry::is_level(word) {
+        return interrupt(word, false);
+    }
+    if vioapic_entry::remote_irr(word) {
+        set_deferred(&mut *words, g, true);
+        return Routed::NotRouted;
+    }
+    fly(&mut *words, g, word);
+    interrupt(word, true)
+}
+
+// It is in flight, and its line is up already.
+fn is_held(words: &[u64; 32], g: usize, word: u64) -> bool
+    requires { ⌜ (g < 24) × (word ≡ entryAt (view (now words)) g .word) ⌝ }
+    ensures { λ r. ⌜ r ≡ (remoteIrr word && entryAt (view (now (words .entry))) g .«input_level») ⌝ }
+{
+    if vioapic_entry::remote_irr(word) {
+        return is_up(words, g);
+    }
+    false
+}
+
+// Its line goes up.
+fn raise(words: &mut [u64; 32], g: usize) -> Routed
+    requires { ⌜ g < 24 ⌝ }
+    ensures { λ r. ⌜ Keeps (now (words .entry)) (now (words .exit)) (routing (view (now (words .exit))) r ≡ routeAt (view (now (words .entry))) g (raiseEntry (entryAt (view (now (words .entry))) g))) ⌝ }
+{
+    let word = word_at(&*words, g);
+    if is_held(&*words, g, word) {
+        set_deferred(&mut *words, g, true);
+        return Routed::NotRouted;
+    }
+    set_input(&mut *words, g, true);
+    interrupt_for_entry(&mut *words, g, word)
+}
+
+// Its line goes down.
+fn lower(words: &mut [u64; 32], g: usize) -> Routed
+    requires { ⌜ g < 24 ⌝ }
+    ensures { λ r. ⌜ Keeps (now (words .entry)) (now (words .exit)) (routing (view (now (words .exit))) r ≡ routeAt (view (now (words .entry))) g (lowerEntry (entryAt (view (now (words .entry))) g))) ⌝ }
+{
+    set_deferred(&mut *words, g, false);
+    set_input(&mut *words, g, false);
+    Routed::NotRouted
+}
+
+// Assert an IO APIC input line and return the interrupt to inject.
+pub fn assert_gsi(words: &mut [u64; 32], gsi: Gsi) -> Routed
+    ensures { λ r. ⌜ Leaves (now (words .entry)) (now (words .exit)) (routedReply r) (assertGsi (view (now (words .entry))) gsi) ⌝ }
+{
+    let g = gsi.0;
+    if g < ENTRIES {
+        let word = word_at(&*words, g);
+        return interrupt_for_entry(&mut *words, g, word);
+    }
+    Routed::NotRouted
+}
+
+// Updates one IO APIC input line and returns a newly routable interrupt.
+//
+// Level-triggered inputs remain asserted across guest EOI. Deasserting a line before EOI cancels any deferred redelivery.
+pub fn set_gsi_level(words: &mut [u64; 32], gsi: Gsi, asserted: bool) -> Routed
+    ensures { λ r. ⌜ Leaves (now (words .entry)) (now (words .exit)) (routedReply r) (setGsiLevel (view (now (words .entry))) gsi asserted) ⌝ }
+{
+    let g = gsi.0;
+    if g < ENTRIES {
+        if asserted {
+            return raise(&mut *words, g);
+        }
+        return lower(&mut *words, g);
+    }
+    Routed::NotRouted
+}
+
+// Return the guest interrupt vector programmed for a GSI.
+pub fn vector_for_gsi(words: &[u64; 32], gsi: Gsi) -> GsiVector
+    ensures { λ r. ⌜ gsiVectorReply r ≡ vectorForGsi (view (now (words .entry))) gsi ⌝ }
+{
+    let g = gsi.0;
+    if g < ENTRIES {
+        return vector_of_entry(words[g]);
+    }
+    GsiVector::NoVector
+}
+
+// ---- EOIs
+
+fn is_version_20(words: &[u64; 32]) -> bool
+    ensures { λ r. ⌜ r ≡ isVersion20 (view (now (words .entry))) ⌝ }
+{
+    words[VERSION] == VERSION_20
+}
+
+// Whether entry g awaits the EOI: its flags aren't looked at.
+fn awaits_at(words: &[u64; 32], g: usize, vector: Vector) -> bool
+    requires { ⌜ g < 24 ⌝ }
+    ensures { λ r. ⌜ r ≡ awaits vector (entryAt (view (now (words .entry))) g) ⌝ }
+{
+    let entry = Entry {
+        word: words[g],
+        pending_level: false,
+        input_level: false,
+    };
+    entry.awaits(vector)
+}
+
+// The lowest entry that an EOI of the vector ends, or 24. Only those in flight are looked at.
+fn first_awaiting(words: &[u64; 32], vector: Vector) -> usize
+    ensures { λ r. ⌜ r ≡ firstAwaiting (view (now (words .entry))) vector ⌝ }
+{
+    let mut left = in_flight(words);
+    while left != 0 {
+        let g = set32::lowest(left);
+        if awaits_at(words, g as usize, vector) {
+            return g as usize;
+        }
+        left = set32::without(left, g);
+    }
+    ENTRIES
+}
+
+// Entry g, which awaits the EOI, is sent again if it can be: in flight as before, so that nothing moves. Else it is at rest.
+fn resend(words: &mut [u64; 32], g: usize, word: u64) -> Routed
+    requires { ⌜ (g < 24) × (word ≡ entryAt (view (now words)) g .word) × (remoteIrr word ≡ true) × (isLevel word ≡ true) ⌝ }
+    ensures { λ r. ⌜ Keeps (now (words .entry)) (now (words .exit)) (routing (view (now (words .exit))) r ≡ routeAt (view (now (words .entry))) g (sendEntry (withWord (entryAt (view (now (words .entry))) g) (withoutRemoteIrr word)))) ⌝ }
+{
+    if vioapic_entry::is_fit(word) {
+        return interrupt(word, true);
+    }
+    rest(&mut *words, g, word);
+    Routed::NotRouted
+}
+
+// Version 0x11: it ends.
+fn end(words: &mut [u64; 32], g: usize) -> Routed
+    requires { ⌜ (g < 24) × (remoteIrr (entryAt (view (now words)) g .word) ≡ true) × (isLevel (entryAt (view (now words)) g .word) ≡ true) ⌝ }
+    ensures { λ r. ⌜ Keeps (now (words .entry)) (now (words .exit)) (routing (view (now (words .exit))) r ≡ routeAt (view (now (words .entry))) g (endEntry (entryAt (view (now (words .entry))) g))) ⌝ }
+{
+    let word = word_at(&*words, g);
+    if is_up(&*words, g) {
+        return resend(&mut *words, g, word);
+    }
+    if !is_deferred(&*words, g) {
+        rest(&mut *words, g, word);
+        return Routed::NotRouted;
+    }
+    set_deferred(&mut *words, g, false);
+    resend(&mut *words, g, word)
+}
+
+// The lowest of the entries that await the EOI does.
+fn end_first(words: &mut [u64; 32], vector: Vector) -> Eoi
+    ensures { λ r. ⌜ Keeps (now (words .entry)) (now (words .exit)) (ending (view (now (words .exit))) r ≡ endOfEntry (view (now (words .entry))) vector) ⌝ }
+{
+    let g = first_awaiting(&*words, vector);
+    if g < ENTRIES {
+        let pending = end(&mut *words, g);
+        return Eoi::Ended(IoApicEoi {
+            gsi: Gsi(g),
+            pending,
         });
-        IoApicState {
-            version,
-            selector: 0,
-            in_flight: 0,
-            entries: [entry; 24],
-        }
     }
+    Eoi::NotEnded
+}
 
-    fn with_entry(self, index: usize, entry: Entry) -> IoApicState
-        requires { ⌜ index < 24 ⌝ }
-        ensures { λ r. ⌜ r ≡ put self index entry ⌝ }
-    {
-        let lines = note(self.in_flight, index as u32, entry);
-        let mut state = self;
-        state.entries[index] = entry;
-        state.in_flight = lines;
-        state
-    }
+// What an EOI of version 0x20 has ended so far, in one number: bit g is up where entry g was, and bit 24 + g where it is sent again.
+struct Ends(u64);
 
-    fn routed(self, index: usize, step: EntryStep) -> Routing
-        requires { ⌜ index < 24 ⌝ }
-        ensures { λ r. ⌜ r ≡ routeAt self index step ⌝ }
+impl Ends {
+    fn answer(self) -> Eoi
+        ensures { λ r. ⌜ r ≡ everyAnswer (clearedIn self) (sentIn self) ⌝ }
     {
-        let entry = step.entry;
-        let answer = step.answer;
-        let state = self.with_entry(index, entry);
-        Routing { state, answer }
-    }
-
-    pub fn interrupt_for_entry(self, gsi: Gsi) -> Routing
-        ensures { λ r. ⌜ r ≡ interruptForEntry self gsi ⌝ }
-    {
-        let index = gsi.entry_index();
-        if index < REDIRECTION_ENTRY_COUNT {
-            return self.routed(index, self.entries[index].send());
+        let cleared = (self.0 % 0x100_0000) as u32;
+        if cleared == 0 {
+            return Eoi::NotEnded;
         }
-        Routing {
-            state: self,
-            answer: Routed::NotRouted,
-        }
-    }
-
-    pub fn set_gsi_level(self, gsi: Gsi, asserted: bool) -> Routing
-        ensures { λ r. ⌜ r ≡ setLevel self gsi asserted ⌝ }
-    {
-        let index = gsi.entry_index();
-        if index < REDIRECTION_ENTRY_COUNT {
-            return self.routed(index, self.entries[index].move_line(asserted));
-        }
-        Routing {
-            state: self,
-            answer: Routed::NotRouted,
-        }
-    }
-
-    // The lowest entry that an EOI of the vector ends, or 24. Only those in flight are looked at.
-    fn first_awaiting(self, vector: Vector) -> usize
-        ensures { λ r. ⌜ (Agrees self → r ≡ firstAwaiting self vector) ⌝ }
-    {
-        let mut left = table_lines(self.in_flight);
-        while left != 0 {
-            let index = utils::set32::lowest(left);
-            if self.entries[index as usize].awaits(vector) {
-                return index as usize;
-            }
-            left = utils::set32::without(left, index);
-        }
-        REDIRECTION_ENTRY_COUNT
-    }
-
-    // Version 0x11: the lowest of them ends.
-    fn end_first(self, vector: Vector) -> Ending
-        ensures { λ r. ⌜ (Agrees self → r ≡ endOfEntry self vector) ⌝ }
-    {
-        let index = self.first_awaiting(vector);
-        if index < REDIRECTION_ENTRY_COUNT {
-            let routing = self.routed(index, self.entries[index].end());
-            let state = routing.state;
-            let pending = routing.answer;
-            return Ending {
-                state,
-                answer: Eoi::Ended(IoApicEoi {
-                    gsi: Gsi(index),
-                    pending,
-                }),
-            };
-        }
-        Ending {
-            state: self,
-            answer: Eoi::NotEnded,
-        }
-    }
-
-    fn is_new(self) -> bool
-        ensures { λ r. ⌜ r ≡ isNew self ⌝ }
-    {
-        self.version == VERSION_20
-    }
-
-    // Version 0x20: all of them end.
-    fn end_every(self, vector: Vector) -> Ending
-        ensures { λ r. ⌜ (Agrees self → r ≡ endOfEvery self vector) ⌝ }
-    {
-        let mut left = table_lines(self.in_flight);
-        let mut ends = EveryEnd {
-            state: self,
-            cleared: 0,
-            sent: 0,
-        };
-        while left != 0 {
-            let index = utils::set32::lowest(left);
-            ends = ends.end_at(index as usize, vector);
-            left = utils::set32::without(left, index);
-        }
-        let state = ends.state;
-        Ending {
-            state,
-            answer: every_answer(ends.cleared, ends.sent),
-        }
-    }
-
-    pub fn end_of_interrupt(self, vector: Vector) -> Ending
-        ensures { λ r. ⌜ (Agrees self → r ≡ endOf self vector) ⌝ }
-    {
-        if self.is_new() {
-            return self.end_every(vector);
-        }
-        self.end_first(vector)
-    }
-
-    pub fn vector_for_gsi(self, gsi: Gsi) -> GsiVector
-        ensures { λ r. ⌜ r ≡ vectorFor self gsi ⌝ }
-    {
-        let index = gsi.entry_index();
-        if index < REDIRECTION_ENTRY_COUNT {
-            let entry = self.entries[index];
-            return vector_of_entry(entry.word);
-        }
-        GsiVector::NoVector
-    }
-
-    pub fn read_selected_register(self) -> u64
-        ensures { λ r. ⌜ r ≡ readSelected self ⌝ }
-    {
-        let selector = self.selector;
-        if is_entry_word(selector) {
-            let index = entry_of(selector);
-            return read_word(selector, self.entries[index]);
-        }
-        read_fixed(self.version, selector)
-    }
-
-    pub fn write_selected_register(self, value: u32) -> Writing
-        ensures { λ r. ⌜ r ≡ writeSelected self value ⌝ }
-    {
-        let selector = self.selector;
-        if is_entry_word(selector) {
-            let index = entry_of(selector);
-            let entry = write_word(selector, self.entries[index], value);
-            let state = self.with_entry(index, entry);
-            return Writing {
-                state,
-                answer: Written::Done,
-            };
-        }
-        Writing {
-            state: self,
-            answer: Written::Done,
-        }
-    }
-
-    fn read_at(self, offset: u64) -> u64
-        ensures { λ r. ⌜ r ≡ readAt self offset ⌝ }
-    {
-        if offset == IOREGSEL {
-            return self.selector as u64;
-        }
-        if offset == IOWIN {
-            return self.read_selected_register();
-        }
-        0
-    }
-
-    fn write_at(self, offset: u64, value: u32) -> Writing
-        ensures { λ r. ⌜ (Agrees self → r ≡ writeAt self offset value) ⌝ }
-    {
-        if offset == IOREGSEL {
-            let mut state = self;
-            state.selector = value;
-            return Writing {
-                state,
-                answer: Written::Done,
-            };
-        }
-        if offset == IOWIN {
-            return self.write_selected_register(value);
-        }
-        if offset == IOEOI {
-            return self.write_eoi(value);
-        }
-        Writing {
-            state: self,
-            answer: Written::Done,
-        }
-    }
-
-    // The EOI register, which version 0x20 alone has.
-    fn write_eoi(self, value: u32) -> Writing
-        ensures { λ r. ⌜ (Agrees self → r ≡ writeEoi self value) ⌝ }
-    {
-        if !self.is_new() {
-            return Writing {
-                state: self,
-                answer: Written::Done,
-            };
-        }
-        let ending = self.end_every(Vector((value % 0x100) as u8));
-        let state = ending.state;
-        let answer = ending.answer;
-        Writing {
-            state,
-            answer: answer.written(),
-        }
+        let sent = (self.0 / 0x100_0000 % 0x100_0000) as u32;
+        Eoi::EndedAll(IoApicEois { cleared, sent })
     }
 }
+
+// Version 0x20: entry g ends, and what was deferred goes.
+fn end20(words: &mut [u64; 32], g: usize) -> Routed
+    requires { ⌜ (g < 24) × (remoteIrr (entryAt (view (now words)) g .word) ≡ true) × (isLevel (entryAt (view (now words)) g .word) ≡ true) ⌝ }
+    ensures { λ r. ⌜ Keeps (now (words .entry)) (now (words .exit)) (routing (view (now (words .exit))) r ≡ routeAt (view (now (words .entry))) g (endEntry20 (entryAt (view (now (words .entry))) g))) ⌝ }
+{
+    let word = word_at(&*words, g);
+    if is_deferred(&*words, g) {
+        set_deferred(&mut *words, g, false);
+        return resend(&mut *words, g, word);
+    }
+    if is_up(&*words, g) {
+        return resend(&mut *words, g, word);
+    }
+    rest(&mut *words, g, word);
+    Routed::NotRouted
+}
+
+// The turn of entry g, which ends if it awaits the EOI.
+fn end_at(words: &mut [u64; 32], g: usize, vector: Vector, ends: Ends) -> Ends
+    requires { ⌜ g < 24 ⌝ }
+    ensures { λ r. ⌜ Keeps (now (words .entry)) (now (words .exit)) (everyEnd (view (now (words .exit))) (clearedIn r) (sentIn r) ≡ endNext vector (everyEnd (view (now (words .entry))) (clearedIn ends) (sentIn ends)) g) ⌝ }
+{
+    if !awaits_at(&*words, g, vector) {
+        return ends;
+    }
+    let answer = end20(&mut *words, g);
+    let cleared = set64::with(ends.0, g as u64);
+    if answer.is_routed() {
+        return Ends(set64::with(cleared, g as u64 + 24));
+    }
+    Ends(cleared)
+}
+
+// All of them end.
+fn end_every(words: &mut [u64; 32], vector: Vector) -> Ends
+    ensures { λ r. ⌜ Keeps (now (words .entry)) (now (words .exit)) (everyEnding (everyEnd (view (now (words .exit))) (clearedIn r) (sentIn r)) ≡ endOfEvery (view (now (words .entry))) vector) ⌝ }
+{
+    let mut ends = Ends(0);
+    let mut left = in_flight(&*words);
+    while left != 0 {
+        let g = set32::lowest(left);
+        ends = end_at(&mut *words, g as usize, vector, ends);
+        left = set32::without(left, g);
+    }
+    ends
+}
+
+// Process an EOI broadcast from the local APIC.
+pub fn end_of_interrupt(words: &mut [u64; 32], vector: Vector) -> Eoi
+    ensures { λ r. ⌜ Leaves (now (words .entry)) (now (words .exit)) (eoiReply r) (endOfInterrupt (view (now (words .entry))) vector) ⌝ }
+{
+    if is_version_20(&*words) {
+        return end_every(&mut *words, vector).answer();
+    }
+    end_first(&mut *words, vector)
+}
+
+// ---- The memory map
+
+// Returns the IO APIC MMIO range.
+pub fn address_range(words: &[u64; 32]) -> AddressRange
+    ensures { λ r. ⌜ rangeReply r ≡ addressRange (view (now (words .entry))) ⌝ }
+{
+    let start = base(words);
+    let length = size(words);
+    if fits(start, length) {
+        return AddressRange::Between(start, start + length);
+    }
+    AddressRange::NoRange(Refusal::InvalidAddress)
+}
+
+fn read_selected_register(words: &[u64; 32]) -> u64
+    ensures { λ r. ⌜ r ≡ readSelected (view (now (words .entry))) ⌝ }
+{
+    let selected = selector(words);
+    if is_entry_word(selected) {
+        return read_word(selected, entry_in(words, entry_of(selected)));
+    }
+    read_fixed(version(words), selected)
+}
+
+fn read_at(words: &[u64; 32], offset: u64) -> u64
+    ensures { λ r. ⌜ r ≡ readAt (view (now (words .entry))) offset ⌝ }
+{
+    if offset == IOREGSEL {
+        return selector(words) as u64;
+    }
+    if offset == IOWIN {
+        return read_selected_register(words);
+    }
+    0
+}
+
+// Handles an IO APIC MMIO read.
+pub fn handle_read(words: &[u64; 32], addr: u64, width: u64) -> Read
+    ensures { λ r. ⌜ readReply r ≡ handleRead (view (now (words .entry))) addr width ⌝ }
+{
+    if !good_width(width) {
+        return Read::NotRead(Refusal::Unsupported);
+    }
+    let start = base(words);
+    if addr < start {
+        return Read::NotRead(Refusal::InvalidAddress);
+    }
+    Read::Value(read_at(words, addr - start))
+}
+
+// The register is `after`, which isn't in flight.
+fn ground(words: &mut [u64; 32], g: usize, word: u64, after: u64)
+    requires { ⌜ (g < 24) × (word ≡ entryAt (view (now words)) g .word) × (remoteIrr after ≡ false) ⌝ }
+    ensures { λ _. ⌜ Keeps (now (words .entry)) (now (words .exit)) (view (now (words .exit)) ≡ put (view (now (words .entry))) g (withWord (entryAt (view (now (words .entry))) g) after)) ⌝ }
+{
+    seen(&*words);
+    words[g] = after;
+    if vioapic_entry::remote_irr(word) {
+        set_flag(&mut *words, IN_FLIGHT, g, false);
+    }
+}
+
+fn write_low(words: &mut [u64; 32], g: usize, value: u32)
+    requires { ⌜ g < 24 ⌝ }
+    ensures { λ _. ⌜ Keeps (now (words .entry)) (now (words .exit)) (view (now (words .exit)) ≡ put (view (now (words .entry))) g (writeLow (entryAt (view (now (words .entry))) g) value)) ⌝ }
+{
+    let word = word_at(&*words, g);
+    if !vioapic_entry::same_low(word, value as u64) {
+        set_deferred(&mut *words, g, false);
+        ground(
+            &mut *words,
+            g,
+            word,
+            vioapic_entry::replace_low(word, value),
+        );
+        return;
+    }
+    if vioapic_entry::is_masked(word) {
+        set_deferred(&mut *words, g, false);
+    }
+}
+
+fn write_high(words: &mut [u64; 32], g: usize, value: u32)
+    requires { ⌜ g < 24 ⌝ }
+    ensures { λ _. ⌜ Keeps (now (words .entry)) (now (words .exit)) (view (now (words .exit)) ≡ put (view (now (words .entry))) g (writeHigh (entryAt (view (now (words .entry))) g) value)) ⌝ }
+{
+    seen(&*words);
+    words[g] = vioapic_entry::replace_high(words[g], value);
+}
+
+fn write_selected_register(words: &mut [u64; 32], value: u32) -> Written
+    ensures { λ r. ⌜ Keeps (now (words .entry)) (now (words .exit)) (writing (view (now (words .exit))) r ≡ writeSelected (view (now (words .entry))) value) ⌝ }
+{
+    let selected = selector(&*words);
+    if is_entry_word(selected) {
+        let g = entry_of(selected);
+        if is_low(selected) {
+            write_low(&mut *words, g, value);
+            return Written::Done;
+        }
+        write_high(&mut *words, g, value);
+        return Written::Done;
+    }
+    Written::Done
+}
+
+// The EOI register, which version 0x20 alone has.
+fn write_eoi(words: &mut [u64; 32], value: u32) -> Written
+    ensures { λ r. ⌜ Keeps (now (words .entry)) (now (words .exit)) (writing (view (now (words .exit))) r ≡ writeEoi (view (now (words .entry))) value) ⌝ }
+{
+    if !is_version_20(&*words) {
+        return Written::Done;
+    }
+    end_every(&mut *words, Vector((value % 0x100) as u8))
+        .answer()
+        .written()
+}
+
+fn write_at(words: &mut [u64; 32], offset: u64, value: u32) -> Written
+    ensures { λ r. ⌜ Keeps (now (words .entry)) (now (words .exit)) (writing (view (now (words .exit))) r ≡ writeAt (view (now (words .entry))) offset value) ⌝ }
+{
+    if offset == IOREGSEL {
+        seen(&*words);
+        words[SELECTOR] = value as u64;
+        return Written::Done;
+    }
+    if offset == IOWIN {
+        return write_selected_register(&mut *words, value);
+    }
+    if offset == IOEOI {
+        return write_eoi(&mut *words, value);
+    }
+    Written::Done
+}
+
+// Handles an IO APIC MMIO write.
+pub fn handle_write(words: &mut [u64; 32], addr: u64, width: u64, value: u64) -> Written
+    ensures { λ r. ⌜ Leaves (now (words .entry)) (now (words .exit)) (writtenReply r) (handleWrite (view (now (words .entry))) addr width value) ⌝ }
+{
+    if !good_width(width) {
+        return Written::NotWritten(Refusal::Unsupported);
+    }
+    let start = base(&*words);
+    if addr < start {
+        return Written::NotWritten(Refusal::InvalidAddress);
+    }
+    write_at(&mut *words, addr - start, (value % 0x1_0000_0000) as u32)
+}
+
+pub fn is_version(version: u64) -> bool
+    ensures { λ r. ⌜ r ≡ isVersion version ⌝ }
+{
+    if version == VERSION_11 {
+        return true;
+    }
+    version == VERSION_20
+}
+
+fn put_new(words: &mut [u64; 32], version: u64, base: u64, size: u64)
+    ensures { λ _. ⌜ now (words .exit) ≡ newWords version base size ⌝ }
+{
+    *words = [
+        0x1_0000,
+        0x1_0000,
+        0x1_0000,
+        0x1_0000,
+        0x1_0000,
+        0x1_0000,
+        0x1_0000,
+        0x1_0000,
+        0x1_0000,
+        0x1_0000,
+        0x1_0000,
+        0x1_0000,
+        0x1_0000,
+        0x1_0000,
+        0x1_0000,
+        0x1_0000,
+        0x1_0000,
+        0x1_0000,
+        0x1_0000,
+        0x1_0000,
+        0x1_0000,
+        0x1_0000,
+        0x1_0000,
+        0x1_0000,
+        0,
+        0,
+        0,
+        base,
+        size,
+        version,
+        0,
+        0,
+    ];
+}
+
+// Create a new IO APIC, of version 0x11 or 0x20.
+pub fn new_version(words: &mut [u64; 32], base: u64, size: u64, version: u64) -> Written
+    ensures { λ r. ⌜ Makes (now (words .entry)) (now (words .exit)) (writtenReply r) (createdVersion (view (now (words .entry))) base size version) (newWords version base size) ⌝ }
+{
+    if !is_version(version) {
+        return Written::NotWritten(Refusal::Unsupported);
+    }
+    if !fits(base, size) {
+        return Written::NotWritten(Refusal::InvalidAddress);
+    }
+    put_new(&mut *words, version, base, size);
+    Written::Done
+}
+
+// Of version 0x11.
+pub fn new(words: &mut [u64; 32], base: u64, size: u64) -> Written
+    ensures { λ r. ⌜ Makes (now (words .entry)) (now (words .exit)) (writtenReply r) (createdVersion (view (now (words .entry))) base size 0x11) (newWords 0x11 base size) ⌝ }
+{
+    new_version(&mut *words, base, size, VERSION_11)
+}
+
+// Create an IO APIC at the default PC-compatible GPA.
+pub fn new_default(words: &mut [u64; 32]) -> Written
+    ensures { λ r. ⌜ Makes (now (words .entry)) (now (words .exit)) (writtenReply r) (createdVersion (view (now (words .entry))) 0xfec00000 0x1000 0x11) (newWords 0x11 0xfec00000 0x1000) ⌝ }
+{
+    new(&mut *words, IOAPIC_BASE, IOAPIC_SIZE)
+}
+
+// ---- What the registers say
 
 // IOAPICVER.
-fn version_word(version: u8) -> u64
+fn version_word(version: u64) -> u64
     ensures { λ r. ⌜ r ≡ versionWord version ⌝ }
 {
     if version == VERSION_20 {
@@ -561,7 +841,7 @@ fn version_word(version: u8) -> u64
 }
 
 // The registers that can't be written.
-pub fn read_fixed(version: u8, selector: u32) -> u64
+fn read_fixed(version: u64, selector: u32) -> u64
     ensures { λ r. ⌜ r ≡ readFixed version selector ⌝ }
 {
     if selector == IOAPIC_ID {
@@ -577,16 +857,16 @@ pub fn read_fixed(version: u8, selector: u32) -> u64
 }
 
 // The vector that an entry's register gives its line.
-pub fn vector_of_entry(word: u64) -> GsiVector
+fn vector_of_entry(word: u64) -> GsiVector
     ensures { λ r. ⌜ r ≡ vectorOfEntry word ⌝ }
 {
-    if redirection::is_fit(word) {
-        return GsiVector::Programmed(redirection::vector_of(word));
+    if vioapic_entry::is_fit(word) {
+        return GsiVector::Programmed(vioapic_entry::vector_of(word));
     }
     GsiVector::NoVector
 }
 
-pub fn is_entry_word(selector: u32) -> bool
+fn is_entry_word(selector: u32) -> bool
     ensures { λ r. ⌜ r ≡ isEntryWord selector ⌝ }
 {
     if IOREDTBL_BASE <= selector {
@@ -596,7 +876,7 @@ pub fn is_entry_word(selector: u32) -> bool
 }
 
 // Which entry the selector names: always one of the table's, so that the Rust's `InvalidInput` can't occur.
-pub fn entry_of(selector: u32) -> usize
+fn entry_of(selector: u32) -> usize
     requires { ⌜ isEntryWord selector ≡ true ⌝ }
     ensures { λ r. ⌜ (r ≡ entryOf selector) × (r < 24) ⌝ }
 {
@@ -609,7 +889,7 @@ fn is_low(selector: u32) -> bool
     selector % 2 == 0
 }
 
-pub fn read_word(selector: u32, entry: Entry) -> u64
+fn read_word(selector: u32, entry: Entry) -> u64
     ensures { λ r. ⌜ r ≡ readWord selector entry ⌝ }
 {
     if is_low(selector) {
@@ -618,16 +898,7 @@ pub fn read_word(selector: u32, entry: Entry) -> u64
     entry.word / 0x1_0000_0000
 }
 
-pub fn write_word(selector: u32, entry: Entry, value: u32) -> Entry
-    ensures { λ r. ⌜ r ≡ writeWord selector entry value ⌝ }
-{
-    if is_low(selector) {
-        return entry.write_low(value);
-    }
-    entry.write_high(value)
-}
-
-pub fn good_width(width: u64) -> bool
+fn good_width(width: u64) -> bool
     ensures { λ r. ⌜ r ≡ goodWidth width ⌝ }
 {
     if width == 4 {
@@ -637,173 +908,116 @@ pub fn good_width(width: u64) -> bool
 }
 
 // base + size is at most 2^64 - 1.
-pub fn fits(base: u64, size: u64) -> bool
+fn fits(base: u64, size: u64) -> bool
     ensures { λ r. ⌜ r ≡ fits base size ⌝ }
 {
     size <= 0xffff_ffff_ffff_ffff - base
 }
 
-pub fn is_version(version: u8) -> bool
-    ensures { λ r. ⌜ r ≡ isVersion version ⌝ }
-{
-    if version == VERSION_11 {
-        return true;
-    }
-    version == VERSION_20
+// ---- The same by value
+
+// A minimal emulated x86 IO APIC.
+pub struct EmulatedIoApic {
+    pub words: [u64; 32],
 }
 
-fn not_created(why: Refusal) -> IoApicWriting
-    ensures { λ r. ⌜ writingOutcome r ≡ refuse (chipAt 0 0) why ⌝ }
-{
-    let chip = EmulatedIoApic::at(VERSION_11, 0, 0);
-    IoApicWriting {
-        chip,
-        answer: Written::NotWritten(why),
-    }
+// An IO APIC after a call, and the call's answer.
+pub struct IoApicRouting {
+    pub chip: EmulatedIoApic,
+    pub answer: Routed,
+}
+
+pub struct IoApicEnding {
+    pub chip: EmulatedIoApic,
+    pub answer: Eoi,
+}
+
+pub struct IoApicWriting {
+    pub chip: EmulatedIoApic,
+    pub answer: Written,
 }
 
 impl EmulatedIoApic {
-    fn at(version: u8, base: u64, size: u64) -> EmulatedIoApic
-        ensures { λ r. ⌜ r ≡ chipOf version base size ⌝ }
-    {
-        let state = IoApicState::new(version);
-        EmulatedIoApic { base, size, state }
-    }
-
-    // Create a new `EmulatedIoApic`, of version 0x11. Where base and size don't fit, nothing is created: beside the refusal stands a chip that covers no address.
+    // Create a new `EmulatedIoApic`, of version 0x11. Where base and size don't fit, nothing is created: beside the refusal stands
+    // a chip that covers no address.
     pub fn new(base: u64, size: u64) -> IoApicWriting
-        ensures { λ r. ⌜ writingOutcome r ≡ createdVersion base size 0x11 ⌝ }
+        ensures { λ r. ⌜ Makes (newWords 0x11 0 0) (r .chip .words) (writtenReply (r .answer)) (createdVersion (chipAt 0 0) base size 0x11) (newWords 0x11 base size) ⌝ }
     {
         EmulatedIoApic::new_version(base, size, VERSION_11)
     }
 
     // The same of version 0x11 or 0x20; another number is refused likewise.
-    pub fn new_version(base: u64, size: u64, version: u8) -> IoApicWriting
-        ensures { λ r. ⌜ writingOutcome r ≡ createdVersion base size version ⌝ }
+    pub fn new_version(base: u64, size: u64, version: u64) -> IoApicWriting
+        ensures { λ r. ⌜ Makes (newWords 0x11 0 0) (r .chip .words) (writtenReply (r .answer)) (createdVersion (chipAt 0 0) base size version) (newWords version base size) ⌝ }
     {
-        if !is_version(version) {
-            return not_created(Refusal::Unsupported);
-        }
-        if !fits(base, size) {
-            return not_created(Refusal::InvalidAddress);
-        }
-        let chip = EmulatedIoApic::at(version, base, size);
+        let mut words = [0; 32];
+        put_new(&mut words, VERSION_11, 0, 0);
+        let answer = new_version(&mut words, base, size, version);
         IoApicWriting {
-            chip,
-            answer: Written::Done,
+            chip: EmulatedIoApic { words },
+            answer,
         }
     }
 
     // Create an IO APIC at the default PC-compatible GPA.
     pub fn new_default() -> EmulatedIoApic
-        ensures { λ r. ⌜ r ≡ newDefault ⌝ }
+        ensures { λ r. ⌜ view (r .words) ≡ newDefault ⌝ }
     {
-        EmulatedIoApic::at(VERSION_11, IOAPIC_BASE, IOAPIC_SIZE)
-    }
-
-    fn with_state(self, state: IoApicState) -> EmulatedIoApic
-        ensures { λ r. ⌜ r ≡ withState self state ⌝ }
-    {
-        EmulatedIoApic {
-            base: self.base,
-            size: self.size,
-            state,
-        }
+        let mut words = [0; 32];
+        put_new(&mut words, VERSION_11, IOAPIC_BASE, IOAPIC_SIZE);
+        EmulatedIoApic { words }
     }
 
     // Return the guest interrupt vector programmed for a GSI.
     pub fn vector_for_gsi(self, gsi: Gsi) -> GsiVector
-        ensures { λ r. ⌜ gsiVectorReply r ≡ vectorForGsi self gsi ⌝ }
+        ensures { λ r. ⌜ gsiVectorReply r ≡ vectorForGsi (view (self .words)) gsi ⌝ }
     {
-        let state = self.state;
-        state.vector_for_gsi(gsi)
+        vector_for_gsi(&self.words, gsi)
     }
 
     // Assert an IO APIC input line and return the interrupt to inject.
-    pub fn assert_gsi(self, gsi: Gsi) -> IoApicRouting
-        ensures { λ r. ⌜ routingOutcome r ≡ assertGsi self gsi ⌝ }
+    pub fn assert_gsi(mut self, gsi: Gsi) -> IoApicRouting
+        ensures { λ r. ⌜ Leaves (self .words) (r .chip .words) (routedReply (r .answer)) (assertGsi (view (self .words)) gsi) ⌝ }
     {
-        let before = self.state;
-        let routing = before.interrupt_for_entry(gsi);
-        let state = routing.state;
-        let answer = routing.answer;
-        let chip = self.with_state(state);
-        IoApicRouting { chip, answer }
+        let answer = assert_gsi(&mut self.words, gsi);
+        IoApicRouting { chip: self, answer }
     }
 
     // Updates one IO APIC input line and returns a newly routable interrupt.
-    //
-    // Level-triggered inputs remain asserted across guest EOI. Deasserting a line before EOI cancels any deferred redelivery.
-    pub fn set_gsi_level(self, gsi: Gsi, asserted: bool) -> IoApicRouting
-        ensures { λ r. ⌜ routingOutcome r ≡ setGsiLevel self gsi asserted ⌝ }
+    pub fn set_gsi_level(mut self, gsi: Gsi, asserted: bool) -> IoApicRouting
+        ensures { λ r. ⌜ Leaves (self .words) (r .chip .words) (routedReply (r .answer)) (setGsiLevel (view (self .words)) gsi asserted) ⌝ }
     {
-        let before = self.state;
-        let routing = before.set_gsi_level(gsi, asserted);
-        let state = routing.state;
-        let answer = routing.answer;
-        let chip = self.with_state(state);
-        IoApicRouting { chip, answer }
+        let answer = set_gsi_level(&mut self.words, gsi, asserted);
+        IoApicRouting { chip: self, answer }
     }
 
     // Process an EOI broadcast from the local APIC.
-    pub fn end_of_interrupt(self, vector: Vector) -> IoApicEnding
-        ensures { λ r. ⌜ (Agrees (self .state) → endingOutcome r ≡ endOfInterrupt self vector) ⌝ }
+    pub fn end_of_interrupt(mut self, vector: Vector) -> IoApicEnding
+        ensures { λ r. ⌜ Leaves (self .words) (r .chip .words) (eoiReply (r .answer)) (endOfInterrupt (view (self .words)) vector) ⌝ }
     {
-        let before = self.state;
-        let ending = before.end_of_interrupt(vector);
-        let state = ending.state;
-        let answer = ending.answer;
-        let chip = self.with_state(state);
-        IoApicEnding { chip, answer }
+        let answer = end_of_interrupt(&mut self.words, vector);
+        IoApicEnding { chip: self, answer }
     }
 
     // Returns the IO APIC MMIO range.
     pub fn address_range(self) -> AddressRange
-        ensures { λ r. ⌜ rangeReply r ≡ addressRange self ⌝ }
+        ensures { λ r. ⌜ rangeReply r ≡ addressRange (view (self .words)) ⌝ }
     {
-        let base = self.base;
-        let size = self.size;
-        if size <= 0xffff_ffff_ffff_ffff - base {
-            return AddressRange::Between(base, base + size);
-        }
-        AddressRange::NoRange(Refusal::InvalidAddress)
+        address_range(&self.words)
     }
 
     // Handles an IO APIC MMIO read.
-    pub fn handle_read(self, addr: u64, width: u8) -> Read
-        ensures { λ r. ⌜ readReply r ≡ handleRead self addr width ⌝ }
+    pub fn handle_read(self, addr: u64, width: u64) -> Read
+        ensures { λ r. ⌜ readReply r ≡ handleRead (view (self .words)) addr width ⌝ }
     {
-        if !good_width(width as u64) {
-            return Read::NotRead(Refusal::Unsupported);
-        }
-        if addr < self.base {
-            return Read::NotRead(Refusal::InvalidAddress);
-        }
-        let state = self.state;
-        Read::Value(state.read_at(addr - self.base))
+        handle_read(&self.words, addr, width)
     }
 
     // Handles an IO APIC MMIO write.
-    pub fn handle_write(self, addr: u64, width: u8, val: u64) -> IoApicWriting
-        ensures { λ r. ⌜ (Agrees (self .state) → writingOutcome r ≡ handleWrite self addr width val) ⌝ }
+    pub fn handle_write(mut self, addr: u64, width: u64, val: u64) -> IoApicWriting
+        ensures { λ r. ⌜ Leaves (self .words) (r .chip .words) (writtenReply (r .answer)) (handleWrite (view (self .words)) addr width val) ⌝ }
     {
-        if !good_width(width as u64) {
-            return IoApicWriting {
-                chip: self,
-                answer: Written::NotWritten(Refusal::Unsupported),
-            };
-        }
-        if addr < self.base {
-            return IoApicWriting {
-                chip: self,
-                answer: Written::NotWritten(Refusal::InvalidAddress),
-            };
-        }
-        let before = self.state;
-        let writing = before.write_at(addr - self.base, (val % 0x1_0000_0000) as u32);
-        let state = writing.state;
-        let answer = writing.answer;
-        let chip = self.with_state(state);
-        IoApicWriting { chip, answer }
+        let answer = handle_write(&mut self.words, addr, width, val);
+        IoApicWriting { chip: self, answer }
     }
 }

@@ -2,45 +2,33 @@
 use Prim.Native.Nat.{ℕ}
 use mathlib.Core.Bool.{Bool, true, false}
 use mathlib.Core.List.{List}
-use mathlib.Core.Path.{_≡_, refl, sym, subst}
-use borrow.Author.Tests.{ltb-true}
+use mathlib.Core.Path.{_≡_, refl, subst⁻¹}
 use lib.Dec.{ltb}
-use lib.ListN.{length}
-use Rattle.reply_code.specs.Lent.{Lent, Shows, isUp}
+use Rattle.types.specs.Reply.{Outcome}
 use Rattle.vioapic.proofs.Agree.{new-agrees, calls-agree}
-use Rattle.vioapic.specs.Calls.{Call, AssertGsi, SetGsiLevel, EndOfInterrupt, HandleWrite, outcome}
+use Rattle.vioapic.proofs.Ways.{new-shows}
+use Rattle.vioapic.specs.Agreement.{Agrees}
+use Rattle.vioapic.specs.Calls.{Call, EndOfInterrupt, outcome}
 use Rattle.vioapic.specs.IoApic.{isVersion}
-use Rattle.vioapic.specs.Table.{Agrees}
-use Rattle.vioapic.specs.declared.EmulatedIoApic.{EmulatedIoApic}
-use Rattle.vioapic_c.proofs.Shown.{new-shows, assert-shows, level-shows, end-shows, write-shows}
-use Rattle.vioapic_c.specs.Words.{view, AgreesIn, newWords}
-use Rattle.vioapic_c.specs.Calls.{assertWords, setLevelWords, endWords, writeWords}
+use Rattle.vioapic.specs.State.{IoApicState, view, newWords}
+use Rattle.vioapic_c.specs.Calls.{Coded, endNumber}
+
+abbrev pub AgreesIn : List ℕ → Type 0
+AgreesIn l = Agrees (view l)
 
 pub new-words-agree : (version base size : ℕ) → isVersion version ≡ true → AgreesIn (newWords version base size)
-new-words-agree version base size h =
-    subst (λ (m : EmulatedIoApic). Agrees (m .state)) (sym (new-shows version base size h)) (new-agrees version base size)
+new-words-agree version base size h = subst⁻¹ (λ (m : IoApicState). Agrees m) (new-shows version base size h) (new-agrees version base size)
 
-module _ (l : List ℕ) (long : length l ≡ 32) (agrees : AgreesIn l) where
-  -- what shows a call of the chip agrees as the chip does
-  shown : (w : Lent) (c : Call) → Shows view w (outcome (view l) c) → AgreesIn (w .words)
-  shown w c s = subst (λ (m : EmulatedIoApic). Agrees (m .state)) (sym (s .0)) (calls-agree (view l) c agrees)
+module _ (l w : List ℕ) (n : ℕ) (agrees : AgreesIn l) where
+  -- assert_gsi, set_gsi_level and handle_write
+  pub call-agrees : (c : Call) → Coded l w n (outcome (view l) c) → AgreesIn w
+  call-agrees c k = subst⁻¹ (λ (m : IoApicState). Agrees m) (k .shows .0) (calls-agree (view l) c agrees)
 
-  pub assert-agrees : (g : ℕ) → AgreesIn (assertWords l g .words)
-  unfolding outcome
-  assert-agrees g = shown (assertWords l g) (AssertGsi (record { 0 = g })) (assert-shows l long agrees g)
-
-  pub level-agrees : (g x : ℕ) → AgreesIn (setLevelWords l g x .words)
-  unfolding outcome
-  level-agrees g x = shown (setLevelWords l g x) (SetGsiLevel (record { 0 = g }) (isUp x)) (level-shows l long agrees g x)
-
-  pub end-agrees : (v : ℕ) → AgreesIn (endWords l v .words)
-  unfolding outcome endWords
-  end-agrees v = go (ltb v 256) refl
+  -- end_of_interrupt, which refuses a vector of more than eight bits
+  pub end-agrees : (v : ℕ) → Coded l w n (endNumber (view l) v) → AgreesIn w
+  unfolding endNumber outcome
+  end-agrees v k = subst⁻¹ (λ (m : IoApicState). Agrees m) (k .shows .0) (go (ltb v 256) refl)
     where
-      go : (b : Bool) → ltb v 256 ≡ b → AgreesIn (endWords l v .words)
-      go true q = shown (endWords l v) (EndOfInterrupt (record { 0 = v })) (end-shows l long agrees v (ltb-true v 256 q))
+      go : (b : Bool) → ltb v 256 ≡ b → Agrees (endNumber (view l) v .state)
+      go true q = rw q (calls-agree (view l) (EndOfInterrupt (record { 0 = v })) agrees)
       go false q = rw q agrees
-
-  pub write-agrees : (addr width x : ℕ) → AgreesIn (writeWords l addr width x .words)
-  unfolding outcome
-  write-agrees addr width x = shown (writeWords l addr width x) (HandleWrite addr width x) (write-shows l long agrees addr width x)

@@ -1,4 +1,4 @@
--- Every reply of the I/O APIC that a code stands for fits it, so that equal codes and words come from equal outcomes (`shown-same` of `boundary`).
+-- Every reply of the I/O APIC that a code stands for fits it, so that equal codes and words come from equal outcomes (`shown-same` of `reply_code`).
 -- Assumes nothing but that words are below 2^64.
 use Prim.Native.Nat.{ℕ, _-_, _/_, _%_, _^_, _<_}
 use native.Mathlib.Omega.{arith}
@@ -8,6 +8,7 @@ use mathlib.Core.Path.{_≡_, refl}
 use borrow.Author.Tests.{ltb-true}
 use lib.Dec.{eqb, ltb, leb}
 use lib.ListN.{getD}
+use Rattle.utils.proofs.Bools.{both}
 use Rattle.utils.proofs.Laws.{setOf-lt}
 use Rattle.types.specs.Reply.{flag}
 use Rattle.types.specs.Counters.{entryIndex}
@@ -15,20 +16,19 @@ use Rattle.types.specs.declared.Gsi.{Gsi}
 use Rattle.types.specs.declared.Vector.{Vector}
 use Rattle.types.specs.declared.Reply.{Reply}
 use Rattle.reply_code.specs.Lent.{Fits}
-use Rattle.vioapic.proofs.ChipLaws.{entry-word-range}
-use Rattle.vioapic.specs.Answers.{routedReply, pendingReply, eoiReply, writtenReply}
+use Rattle.vioapic.proofs.Ways.{entry-word-range}
+use Rattle.vioapic_entry.specs.Answers.{routedReply}
+use Rattle.vioapic.specs.Answers.{pendingReply, eoiReply, writtenReply}
 use Rattle.vioapic.specs.IoApic.{goodWidth, assertGsi, setGsiLevel, endOfInterrupt, vectorForGsi, handleRead, handleWrite}
-use Rattle.vioapic.specs.Redirection.{isFit, isLevel, remoteIrr, sendEntry, raiseEntry, lowerEntry, moveLine, endEntry, withWord, withPending, withInput, withRemoteIrr, withoutRemoteIrr}
+use Rattle.vioapic_entry.specs.Redirection.{EntryStep, isFit, isLevel, remoteIrr, sendEntry, raiseEntry, lowerEntry, moveLine, endEntry, withWord, withDeferred, withInput, withRemoteIrr, withoutRemoteIrr}
 use Rattle.vioapic.specs.Registers.{isEntryWord, entryOf, isLow, readFixed, readWord, readSelected, readAt, writeSelected, writtenBy, writeEoi, writeAt}
-use Rattle.vioapic.specs.Table.{isNew, entryAt, interruptForEntry, setLevel, firstAwaiting, endOfEntry, clearedBy, sentBy, everyAnswer, endOfEvery, endOf, vectorFor}
-use Rattle.vioapic.specs.declared.redirection.Entry.{Entry}
-use Rattle.vioapic.specs.declared.redirection.EntryStep.{EntryStep}
-use Rattle.vioapic.specs.declared.redirection.Routed.{Routed}
-use Rattle.vioapic.specs.declared.redirection.Routed.the-variants.{NotRouted, Interrupt}
-use Rattle.vioapic.specs.declared.EmulatedIoApic.{EmulatedIoApic}
+use Rattle.vioapic.specs.Table.{isVersion20, entryAt, interruptForEntry, setLevel, firstAwaiting, endOfEntry, ends, sentBy, everyAnswer, endOfEvery, endOf, vectorFor}
+use Rattle.vioapic_entry.specs.declared.Entry.{Entry}
+use Rattle.vioapic_entry.specs.declared.Routed.{Routed}
+use Rattle.vioapic_entry.specs.declared.Routed.the-variants.{NotRouted, Interrupt}
+use Rattle.vioapic.specs.State.{IoApicState, view}
 use Rattle.vioapic.specs.declared.Eoi.the-variants.{NotEnded, EndedAll}
-use Rattle.vioapic_c.proofs.View.{view-at}
-use Rattle.vioapic_c.specs.Words.{selectorIn, view}
+use Rattle.vioapic.proofs.Words.{view-at}
 
 -- an interrupt whose vector is a byte
 abbrev Small : Routed → Type 0
@@ -64,8 +64,7 @@ every-write-fits c s h k = go (eqb c 0)
 
 -- of two steps whichever is taken
 either : (b : Bool) (x y : EntryStep) → Small (x .answer) → Small (y .answer) → Small (cond b x y .answer)
-either true x y p q = p
-either false x y p q = q
+either b x y p q = both (λ (z : EntryStep). Small (z .answer)) b x y p q
 
 send-small : (e : Entry) → Small (sendEntry e .answer)
 unfolding sendEntry
@@ -83,15 +82,15 @@ end-small : (e : Entry) → Small (endEntry e .answer)
 unfolding endEntry
 end-small e =
     either (e .«input_level») _ _ (send-small (withWord e (withoutRemoteIrr (e .word))))
-    (either (e .«pending_level») _ _ (send-small (withPending (withWord e (withoutRemoteIrr (e .word))) false)) tt)
+    (either (e .«pending_level») _ _ (send-small (withDeferred (withWord e (withoutRemoteIrr (e .word))) false)) tt)
 
-module _ (m : EmulatedIoApic) where
+module _ (m : IoApicState) where
   pub assert-fits : (gsi : Gsi) → Fits (assertGsi m gsi .reply)
   unfolding assertGsi interruptForEntry
   assert-fits gsi = go (ltb (entryIndex gsi) 24) refl
     where
       go : (a : Bool) → ltb (entryIndex gsi) 24 ≡ a → Fits (assertGsi m gsi .reply)
-      go true p = rw p (routed-fits (sendEntry (entryAt (m .state) (entryIndex gsi)) .answer) (send-small (entryAt (m .state) (entryIndex gsi))))
+      go true p = rw p (routed-fits (sendEntry (entryAt m (entryIndex gsi)) .answer) (send-small (entryAt m (entryIndex gsi))))
       go false p = rw p tt
 
   pub level-fits : (gsi : Gsi) (up : Bool) → Fits (setGsiLevel m gsi up .reply)
@@ -99,51 +98,51 @@ module _ (m : EmulatedIoApic) where
   level-fits gsi up = go (ltb (entryIndex gsi) 24) refl
     where
       go : (a : Bool) → ltb (entryIndex gsi) 24 ≡ a → Fits (setGsiLevel m gsi up .reply)
-      go true p = rw p (routed-fits (moveLine (entryAt (m .state) (entryIndex gsi)) up .answer) (move-small (entryAt (m .state) (entryIndex gsi)) up))
+      go true p = rw p (routed-fits (moveLine (entryAt m (entryIndex gsi)) up .answer) (move-small (entryAt m (entryIndex gsi)) up))
       go false p = rw p tt
 
-  first-end-fits : (v : Vector) → Fits (eoiReply (endOfEntry (m .state) v .answer))
+  first-end-fits : (v : Vector) → Fits (eoiReply (endOfEntry m v .answer))
   unfolding endOfEntry
-  first-end-fits v = go (ltb (firstAwaiting (m .state) v) 24) refl
+  first-end-fits v = go (ltb (firstAwaiting m v) 24) refl
     where
-      go : (a : Bool) → ltb (firstAwaiting (m .state) v) 24 ≡ a → Fits (eoiReply (endOfEntry (m .state) v .answer))
-      go true p = rw p (pending-fits (firstAwaiting (m .state) v) (endEntry (entryAt (m .state) (firstAwaiting (m .state) v)) .answer) (ltb-true _ 24 p) (end-small (entryAt (m .state) (firstAwaiting (m .state) v))))
+      go : (a : Bool) → ltb (firstAwaiting m v) 24 ≡ a → Fits (eoiReply (endOfEntry m v .answer))
+      go true p = rw p (pending-fits (firstAwaiting m v) (endEntry (entryAt m (firstAwaiting m v)) .answer) (ltb-true _ 24 p) (end-small (entryAt m (firstAwaiting m v))))
       go false p = rw p tt
 
-  every-end-fits : (v : Vector) → Fits (eoiReply (endOfEvery (m .state) v .answer))
+  every-end-fits : (v : Vector) → Fits (eoiReply (endOfEvery m v .answer))
   unfolding endOfEvery
-  every-end-fits v = every-fits _ _ (setOf-lt 24 (clearedBy v (m .state))) (setOf-lt 24 (sentBy v (m .state)))
+  every-end-fits v = every-fits _ _ (setOf-lt 24 (ends v m)) (setOf-lt 24 (sentBy v m))
 
   pub end-fits : (v : Vector) → Fits (endOfInterrupt m v .reply)
   unfolding endOfInterrupt endOf
-  end-fits v = go (isNew (m .state)) refl
+  end-fits v = go (isVersion20 m) refl
     where
-      go : (a : Bool) → isNew (m .state) ≡ a → Fits (endOfInterrupt m v .reply)
+      go : (a : Bool) → isVersion20 m ≡ a → Fits (endOfInterrupt m v .reply)
       go true p = rw p (every-end-fits v)
       go false p = rw p (first-end-fits v)
 
   pub vector-fits : (gsi : Gsi) → Fits (vectorForGsi m gsi)
   unfolding vectorForGsi vectorFor
-  vector-fits gsi = go (ltb (entryIndex gsi) 24) (isFit (entryAt (m .state) (entryIndex gsi) .word)) refl refl
+  vector-fits gsi = go (ltb (entryIndex gsi) 24) (isFit (entryAt m (entryIndex gsi) .word)) refl refl
     where
-      go : (a b : Bool) → ltb (entryIndex gsi) 24 ≡ a → isFit (entryAt (m .state) (entryIndex gsi) .word) ≡ b → Fits (vectorForGsi m gsi)
+      go : (a b : Bool) → ltb (entryIndex gsi) 24 ≡ a → isFit (entryAt m (entryIndex gsi) .word) ≡ b → Fits (vectorForGsi m gsi)
       go true true p q = rw (p, q) (omega arith)
       go true false p q = rw (p, q) tt
       go false b p q = rw p tt
 
-  written-fits : (offset x : ℕ) → Fits (writtenReply (writeAt (m .state) offset x .answer))
+  written-fits : (offset x : ℕ) → Fits (writtenReply (writeAt m offset x .answer))
   unfolding writeAt writeSelected writeEoi endOfEvery
-  written-fits offset x = go (eqb offset 0) (eqb offset 0x10) (eqb offset 0x40) (isEntryWord (m .state .selector)) (isNew (m .state)) refl refl refl refl refl
+  written-fits offset x = go (eqb offset 0) (eqb offset 0x10) (eqb offset 0x40) (isEntryWord (m .selector)) (isVersion20 m) refl refl refl refl refl
     where
       v : Vector
       v = record { 0 = x % 2 ^ 8 }
 
-      go : (a b c d n : Bool) → eqb offset 0 ≡ a → eqb offset 0x10 ≡ b → eqb offset 0x40 ≡ c → isEntryWord (m .state .selector) ≡ d → isNew (m .state) ≡ n
-          → Fits (writtenReply (writeAt (m .state) offset x .answer))
+      go : (a b c d n : Bool) → eqb offset 0 ≡ a → eqb offset 0x10 ≡ b → eqb offset 0x40 ≡ c → isEntryWord (m .selector) ≡ d → isVersion20 m ≡ n
+          → Fits (writtenReply (writeAt m offset x .answer))
       go true b c d n p q r t u = rw p tt
       go false true c true n p q r t u = rw (p, q, t) tt
       go false true c false n p q r t u = rw (p, q, t) tt
-      go false false true d true p q r t u = rw (p, q, r, u) (every-write-fits _ _ (setOf-lt 24 (clearedBy v (m .state))) (setOf-lt 24 (sentBy v (m .state))))
+      go false false true d true p q r t u = rw (p, q, r, u) (every-write-fits _ _ (setOf-lt 24 (ends v m)) (setOf-lt 24 (sentBy v m)))
       go false false true d false p q r t u = rw (p, q, r, u) tt
       go false false false d n p q r t u = rw (p, q, r) tt
 
@@ -158,11 +157,11 @@ module _ (m : EmulatedIoApic) where
 
 -- a read's value has 32 bits
 module _ (l : List ℕ) (words : (i : ℕ) → getD l i 0 < 2 ^ 64) where
-  halves : (sel g : ℕ) → g < 24 → readWord sel (entryAt (view l .state) g) < 2 ^ 32
+  halves : (sel g : ℕ) → g < 24 → readWord sel (entryAt (view l) g) < 2 ^ 32
   unfolding readWord
   halves sel g h = go (isLow sel) refl
     where
-      go : (a : Bool) → isLow sel ≡ a → readWord sel (entryAt (view l .state) g) < 2 ^ 32
+      go : (a : Bool) → isLow sel ≡ a → readWord sel (entryAt (view l) g) < 2 ^ 32
       go true p = rw (p, view-at l g h) (omega arith)
       go false p = rw (p, view-at l g h) (omega (arith, words g))
 
@@ -177,21 +176,21 @@ module _ (l : List ℕ) (words : (i : ℕ) → getD l i 0 < 2 ^ 64) where
       go false false true d p q r t = rw (p, q, r) (omega arith)
       go false false false d p q r t = rw (p, q, r) (omega arith)
 
-  selected : readSelected (view l .state) < 2 ^ 32
+  selected : readSelected (view l) < 2 ^ 32
   unfolding readSelected
-  selected = go (isEntryWord (view l .state .selector)) refl
+  selected = go (isEntryWord (view l .selector)) refl
     where
-      go : (a : Bool) → isEntryWord (view l .state .selector) ≡ a → readSelected (view l .state) < 2 ^ 32
+      go : (a : Bool) → isEntryWord (view l .selector) ≡ a → readSelected (view l) < 2 ^ 32
       go true p =
-          let k = entry-word-range (view l .state .selector) p in
-          rw p (halves (view l .state .selector) (entryOf (view l .state .selector)) (omega (arith, k .0, k .1)))
-      go false p = rw p (fixed (view l .state .version) (view l .state .selector))
+          let k = entry-word-range (view l .selector) p in
+          rw p (halves (view l .selector) (entryOf (view l .selector)) (omega (arith, k .0, k .1)))
+      go false p = rw p (fixed (view l .version) (view l .selector))
 
-  register : (offset : ℕ) → readAt (view l .state) offset < 2 ^ 32
+  register : (offset : ℕ) → readAt (view l) offset < 2 ^ 32
   unfolding readAt view
   register offset = go (eqb offset 0) (eqb offset 0x10) refl refl
     where
-      go : (a b : Bool) → eqb offset 0 ≡ a → eqb offset 0x10 ≡ b → readAt (view l .state) offset < 2 ^ 32
+      go : (a b : Bool) → eqb offset 0 ≡ a → eqb offset 0x10 ≡ b → readAt (view l) offset < 2 ^ 32
       go true b p q = rw p (omega arith)
       go false true p q = rw (p, q) selected
       go false false p q = rw (p, q) (omega arith)

@@ -1,7 +1,3 @@
-pub mod View
-pub mod Noted
-pub mod WordLaws
-pub mod Turns
-pub mod Shown
-pub mod Agree
+pub mod Ways
 pub mod Fit
+pub mod Agree

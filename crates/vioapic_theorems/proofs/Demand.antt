@@ -8,29 +8,27 @@ use mathlib.Core.Path.{_≡_, refl, _∙_, ap}
 use borrow.Author.Tests.{eqb-true, ne-eqb, ltb-true}
 use lib.Dec.{eqb, ltb}
 use lib.ListN.{replicate}
+use Rattle.utils.proofs.Bools.{never, and-true, not-is}
 use Rattle.types.specs.declared.Gsi.{Gsi}
 use Rattle.types.specs.declared.Vector.{Vector}
 use Rattle.types.specs.declared.Reply.{Reply}
 use Rattle.types.specs.declared.Reply.the-variants.{Refused, Nothing, One, Two, Three}
-use Rattle.vioapic.specs.Answers.{routedReply, eoiReply}
-use Rattle.vioapic.specs.Redirection.{isLevel, hasVector, awaits, sendEntry, raiseEntry, moveLine, endEntry}
-use Rattle.vioapic.specs.Table.{isNew, entryAt, put, firstAwaiting, endOf, interruptForEntry, setLevel}
+use Rattle.vioapic_entry.specs.Answers.{routedReply}
+use Rattle.vioapic.specs.Answers.{eoiReply}
+use Rattle.vioapic_entry.specs.Redirection.{EntryStep, isLevel, hasVector, awaits, sendEntry, raiseEntry, moveLine, endEntry}
+use Rattle.vioapic.specs.Table.{Routing, Ending, isVersion20, entryAt, put, firstAwaiting, endOf, interruptForEntry, setLevel}
 use Rattle.vioapic.specs.IoApic.{chipAt, setGsiLevel, assertGsi, endOfInterrupt}
 use Rattle.vioapic.specs.Calls.{Call, SetGsiLevel, AssertGsi, EndOfInterrupt, VectorForGsi, AddressRange, HandleRead, HandleWrite, outcome, next, run}
-use Rattle.vioapic.specs.declared.redirection.Entry.{Entry}
-use Rattle.vioapic.specs.declared.redirection.EntryStep.{EntryStep}
-use Rattle.vioapic.specs.declared.IoApicState.{IoApicState}
-use Rattle.vioapic.specs.declared.EmulatedIoApic.{EmulatedIoApic}
-use Rattle.vioapic.specs.declared.Routing.{Routing}
-use Rattle.vioapic.specs.declared.Ending.{Ending}
+use Rattle.vioapic_entry.specs.declared.Entry.{Entry}
+use Rattle.vioapic.specs.State.{IoApicState}
 use Rattle.vioapic_theorems.specs.Rules.{implies, ChipRules}
 use Rattle.vioapic_theorems.specs.Sends.{routes, resends, sent, sends, isEoi}
 use Rattle.vioapic_theorems.specs.Premises.{allTrue, always, lineUp, keepsLow, lowerDown, lowerUndeferred, lowerKept, lowerUnasserted, demanded, asks, ownAsks, lowerRests, levelSent, lowerUnsent, held, throughout}
 use Rattle.vioapic_theorems.specs.Heard.{HeardFromRules, Demand3, NeverHeard}
 use Rattle.vioapic_theorems.proofs.Views.{sent-view, raised-view, over-view, Routes, assert-view, level-view, Ends, ends-old}
-use Rattle.vioapic_theorems.proofs.Steps.{never, and-true, implied, imply, not-is, awaiting, Flying, sent-level, raised-level, raise-input, end-again, end-input}
+use Rattle.vioapic_theorems.proofs.Steps.{implied, imply, awaiting, Flying, sent-level, raised-level, raise-input, end-again, end-input}
 use Rattle.vioapic_theorems.proofs.Tables.{put-same, put-other, all-at, first-awaits, first-lowest}
-use Rattle.vioapic_theorems.proofs.Keeps.{rules-of, calls-keep-rules, runs-keep-rules, new-keeps-rules, call-isNew, run-isNew}
+use Rattle.vioapic_theorems.proofs.Keeps.{rules-of, calls-keep-rules, runs-keep-rules, new-keeps-rules, call-isVersion20, run-isVersion20}
 use Rattle.vioapic_theorems.proofs.OnTime.{resends-one, heard}
 
 -- a test that can't be true
@@ -80,7 +78,7 @@ module _ (v : Vector) (g : ℕ) (within : g < 24) where
           let p = and-true (ltb (gsi .0) g) (levelSent v (routedReply (r .answer))) h in
           let i : gsi .0 < g = ltb-true (gsi .0) g (p .0) in
           let f = raised-level v e r (raised-view e) (level-reply v (routedReply (r .answer)) (p .1)) .2 in
-          let at : entryAt (put s (gsi .0) (r .entry)) (gsi .0) ≡ r .entry = put-same s (gsi .0) (r .entry) (k .table) l in
+          let at : entryAt (put s (gsi .0) (r .entry)) (gsi .0) ≡ r .entry = put-same s (gsi .0) (r .entry) (k .agrees .table) l in
           let a : awaits v (entryAt (put s (gsi .0) (r .entry)) (gsi .0)) ≡ true = ap (awaits v) at ∙ f .fly in
           let b = implied (awaits v (entryAt (put s (gsi .0) (r .entry)) (gsi .0))) (not (entryAt (put s (gsi .0) (r .entry)) (gsi .0) .«input_level»))
           (all-at g (λ j. implies (awaits v (entryAt (put s (gsi .0) (r .entry)) j)) (not (entryAt (put s (gsi .0) (r .entry)) j .«input_level»))) d (gsi .0) i) a in
@@ -88,7 +86,7 @@ module _ (v : Vector) (g : ℕ) (within : g < 24) where
 
   -- lowering one sends nothing
   lowered : (s : IoApicState) (gsi : Gsi) (x : Routing) → Routes s gsi (λ e. moveLine e false) x → not (ltb (gsi .0) g && levelSent v (routedReply (x .answer))) ≡ true
-  unfolding Rattle.vioapic.specs.Redirection.lowerEntry
+  unfolding Rattle.vioapic_entry.specs.Redirection.lowerEntry
   lowered s gsi x (Routes.miss l) = refute (ltb (gsi .0) g && false) (λ h. never (and-true (ltb (gsi .0) g) false h .1) refl)
   lowered s gsi x (Routes.hit l) = refute (ltb (gsi .0) g && false) (λ h. never (and-true (ltb (gsi .0) g) false h .1) refl)
 
@@ -108,36 +106,36 @@ module _ (v : Vector) (g : ℕ) (within : g < 24) where
           let q = sent-level v e (sendEntry e) (sent-view e) (level-reply v (routedReply (sendEntry e .answer)) (p .1)) in
           never (rw (p .0, q .1, q .0)) (not-is (ltb (gsi .0) g && (isLevel (e .word) && hasVector (e .word) v)) d)
 
-  unsent : (m : EmulatedIoApic) (c : Call) → ChipRules (m .state) → lowerDown v g (next m c .state) ≡ true → lowerUnasserted v g (m .state) c ≡ true → lowerUnsent v g c (outcome m c .reply) ≡ true
+  unsent : (m : IoApicState) (c : Call) → ChipRules m → lowerDown v g (next m c) ≡ true → lowerUnasserted v g m c ≡ true → lowerUnsent v g c (outcome m c .reply) ≡ true
   unfolding outcome setGsiLevel assertGsi
-  unsent m (SetGsiLevel gsi true) k d a = unraised (m .state) gsi (setLevel (m .state) gsi true) k (level-view (m .state) gsi true) d
-  unsent m (SetGsiLevel gsi false) k d a = lowered (m .state) gsi (setLevel (m .state) gsi false) (level-view (m .state) gsi false)
-  unsent m (AssertGsi gsi) k d a = unasserted (m .state) gsi (interruptForEntry (m .state) gsi) (assert-view (m .state) gsi) a
+  unsent m (SetGsiLevel gsi true) k d a = unraised m gsi (setLevel m gsi true) k (level-view m gsi true) d
+  unsent m (SetGsiLevel gsi false) k d a = lowered m gsi (setLevel m gsi false) (level-view m gsi false)
+  unsent m (AssertGsi gsi) k d a = unasserted m gsi (interruptForEntry m gsi) (assert-view m gsi) a
   unsent m (EndOfInterrupt u) k d a = refl
   unsent m (VectorForGsi gsi) k d a = refl
   unsent m AddressRange k d a = refl
   unsent m (HandleRead addr width) k d a = refl
   unsent m (HandleWrite addr width x) k d a = refl
 
-  demanded-held : (m : EmulatedIoApic) (c : Call) → ChipRules (m .state) → allTrue (demanded v g m c) ≡ true → allTrue (held v g m c) ≡ true
+  demanded-held : (m : IoApicState) (c : Call) → ChipRules m → allTrue (demanded v g m c) ≡ true → allTrue (held v g m c) ≡ true
   demanded-held m c k h =
-      let a = and-true (always (lineUp g) m c) (keepsLow m c g && (always (lowerDown v g) m c && (always (lowerUndeferred v g) m c && (lowerKept v g m c && (lowerUnasserted v g (m .state) c && true))))) h in
-      let b = and-true (keepsLow m c g) (always (lowerDown v g) m c && (always (lowerUndeferred v g) m c && (lowerKept v g m c && (lowerUnasserted v g (m .state) c && true)))) (a .1) in
-      let d = and-true (always (lowerDown v g) m c) (always (lowerUndeferred v g) m c && (lowerKept v g m c && (lowerUnasserted v g (m .state) c && true))) (b .1) in
-      let u = and-true (always (lowerUndeferred v g) m c) (lowerKept v g m c && (lowerUnasserted v g (m .state) c && true)) (d .1) in
-      let l = and-true (lowerKept v g m c) (lowerUnasserted v g (m .state) c && true) (u .1) in
-      let n = and-true (lowerUnasserted v g (m .state) c) true (l .1) in
-      let line : lineUp g (m .state) ≡ true = and-true (lineUp g (m .state)) (lineUp g (next m c .state)) (a .0) .0 in
-      let down = and-true (lowerDown v g (m .state)) (lowerDown v g (next m c .state)) (d .0) in
-      let undeferred : lowerUndeferred v g (m .state) ≡ true = and-true (lowerUndeferred v g (m .state)) (lowerUndeferred v g (next m c .state)) (u .0) .0 in
-      let own : ownAsks v g (m .state) c ≡ true = imply (isEoi v c && eqb (firstAwaiting (m .state) v) g) (asks (entryAt (m .state) g)) (λ i. rw line) in
-      five (ownAsks v g (m .state) c) (keepsLow m c g) (lowerRests v g (m .state) c) (lowerKept v g m c) (lowerUnsent v g c (outcome m c .reply))
-      own (b .0) (rests (m .state) c (down .0) undeferred) (l .0) (unsent m c k (down .1) (n .0))
+      let a = and-true (always (lineUp g) m c) (keepsLow m c g && (always (lowerDown v g) m c && (always (lowerUndeferred v g) m c && (lowerKept v g m c && (lowerUnasserted v g m c && true))))) h in
+      let b = and-true (keepsLow m c g) (always (lowerDown v g) m c && (always (lowerUndeferred v g) m c && (lowerKept v g m c && (lowerUnasserted v g m c && true)))) (a .1) in
+      let d = and-true (always (lowerDown v g) m c) (always (lowerUndeferred v g) m c && (lowerKept v g m c && (lowerUnasserted v g m c && true))) (b .1) in
+      let u = and-true (always (lowerUndeferred v g) m c) (lowerKept v g m c && (lowerUnasserted v g m c && true)) (d .1) in
+      let l = and-true (lowerKept v g m c) (lowerUnasserted v g m c && true) (u .1) in
+      let n = and-true (lowerUnasserted v g m c) true (l .1) in
+      let line : lineUp g m ≡ true = and-true (lineUp g m) (lineUp g (next m c)) (a .0) .0 in
+      let down = and-true (lowerDown v g m) (lowerDown v g (next m c)) (d .0) in
+      let undeferred : lowerUndeferred v g m ≡ true = and-true (lowerUndeferred v g m) (lowerUndeferred v g (next m c)) (u .0) .0 in
+      let own : ownAsks v g m c ≡ true = imply (isEoi v c && eqb (firstAwaiting m v) g) (asks (entryAt m g)) (λ i. rw line) in
+      five (ownAsks v g m c) (keepsLow m c g) (lowerRests v g m c) (lowerKept v g m c) (lowerUnsent v g c (outcome m c .reply))
+      own (b .0) (rests m c (down .0) undeferred) (l .0) (unsent m c k (down .1) (n .0))
     where
       five : (a b c d e : Bool) → a ≡ true → b ≡ true → c ≡ true → d ≡ true → e ≡ true → allTrue (a ∷ b ∷ c ∷ d ∷ e ∷ []) ≡ true
       five a b c d e p q r s t = rw (p, q, r, s, t)
 
-  all-held : (m : EmulatedIoApic) (cs : List Call) → ChipRules (m .state) → throughout (demanded v g) m cs ≡ true → throughout (held v g) m cs ≡ true
+  all-held : (m : IoApicState) (cs : List Call) → ChipRules m → throughout (demanded v g) m cs ≡ true → throughout (held v g) m cs ≡ true
   unfolding throughout
   all-held m [] k h = refl
   all-held m (c ∷ cs) k h =
@@ -152,56 +150,56 @@ line-within s gsi x v (Routes.miss l) q = absurd (let z : 0 ≡ 1 = ap routes q 
 pub heard-from-rules : HeardFromRules
 unfolding setGsiLevel
 heard-from-rules m g v after o k q h =
-    let l = line-within (m .state) g (setLevel (m .state) g true) v (level-view (m .state) g true) q in
-    heard m g v after o (k .table) q (all-held v (g .0) l (next m (SetGsiLevel g true)) after (calls-keep-rules m (SetGsiLevel g true) k) h)
+    let l = line-within m g (setLevel m g true) v (level-view m g true) q in
+    heard m g v after o (k .agrees) q (all-held v (g .0) l (next m (SetGsiLevel g true)) after (calls-keep-rules m (SetGsiLevel g true) k) h)
 
 pub demand-3 : Demand3
 demand-3 base size before after g v q h =
-    heard-from-rules (run (chipAt base size) before) g v after (run-isNew (chipAt base size) before) (runs-keep-rules (chipAt base size) before (new-keeps-rules 0x11 base size)) q h
+    heard-from-rules (run (chipAt base size) before) g v after (run-isVersion20 (chipAt base size) before) (runs-keep-rules (chipAt base size) before (new-keeps-rules 0x11 base size)) q h
 
 -- ---- last spring's story
 
 -- the lower entry goes on flying, and the upper one isn't sent
-record Starved (v : Vector) (h g : ℕ) (m : EmulatedIoApic) : Type 0 where
-  fly : Flying v (entryAt (next m (EndOfInterrupt v) .state) h)
-  up : entryAt (next m (EndOfInterrupt v) .state) h .«input_level» ≡ true
+record Starved (v : Vector) (h g : ℕ) (m : IoApicState) : Type 0 where
+  fly : Flying v (entryAt (next m (EndOfInterrupt v)) h)
+  up : entryAt (next m (EndOfInterrupt v)) h .«input_level» ≡ true
   unsent : sent g (EndOfInterrupt v) (outcome m (EndOfInterrupt v) .reply) ≡ 0
 
-starved : (v : Vector) (h g : ℕ) (m : EmulatedIoApic) (x : Ending) → ChipRules (m .state) → h < g → g < 24 → Flying v (entryAt (m .state) h) → entryAt (m .state) h .«input_level» ≡ true
-    → Ends (m .state) v x → next m (EndOfInterrupt v) .state ≡ x .state → outcome m (EndOfInterrupt v) .reply ≡ eoiReply (x .answer) → Starved v h g m
+starved : (v : Vector) (h g : ℕ) (m : IoApicState) (x : Ending) → ChipRules m → h < g → g < 24 → Flying v (entryAt m h) → entryAt m h .«input_level» ≡ true
+    → Ends m v x → next m (EndOfInterrupt v) ≡ x .state → outcome m (EndOfInterrupt v) .reply ≡ eoiReply (x .answer) → Starved v h g m
 unfolding sent
-starved v h g m x k l w f u (Ends.unfound n) q r = absurd (let z = first-lowest (m .state) v h (f .fly) (omega arith) in omega (arith, z))
-starved v h g m x k l w f u (Ends.found n) q r = go (ℕ-discrete h (firstAwaiting (m .state) v))
+starved v h g m x k l w f u (Ends.unfound n) q r = absurd (let z = first-lowest m v (k .agrees) h (f .fly) (omega arith) in omega (arith, z))
+starved v h g m x k l w f u (Ends.found n) q r = go (ℕ-discrete h (firstAwaiting m v))
   where
     e : Entry
-    e = entryAt (m .state) (firstAwaiting (m .state) v)
+    e = entryAt m (firstAwaiting m v)
 
-    le : firstAwaiting (m .state) v ≤ h
-    le = first-lowest (m .state) v h (f .fly) (omega arith)
+    le : firstAwaiting m v ≤ h
+    le = first-lowest m v (k .agrees) h (f .fly) (omega arith)
 
     none : sent g (EndOfInterrupt v) (outcome m (EndOfInterrupt v) .reply) ≡ 0
-    none = ap (resends g) r ∙ resends-one g (firstAwaiting (m .state) v) (endEntry e .answer) ∙ rw (ne-eqb (firstAwaiting (m .state) v) g (λ p. omega (arith, le)))
+    none = ap (resends g) r ∙ resends-one g (firstAwaiting m v) (endEntry e .answer) ∙ rw (ne-eqb (firstAwaiting m v) g (λ p. omega (arith, le)))
 
-    go : Dec (h ≡ firstAwaiting (m .state) v) → Starved v h g m
+    go : Dec (h ≡ firstAwaiting m v) → Starved v h g m
     go (yes p) =
-        let at : entryAt (next m (EndOfInterrupt v) .state) h ≡ endEntry e .entry = ap (λ (s : IoApicState). entryAt s h) q ∙ rw p (put-same (m .state) (firstAwaiting (m .state) v) (endEntry e .entry) (k .table) n) in
+        let at : entryAt (next m (EndOfInterrupt v)) h ≡ endEntry e .entry = ap (λ (s : IoApicState). entryAt s h) q ∙ rw p (put-same m (firstAwaiting m v) (endEntry e .entry) (k .agrees .table) n) in
         let y : e .«input_level» ≡ true = rw p at u in
         let t = end-again v e (endEntry e) (over-view e) (rw p at f) (rw y) in
         record { fly = rw at (t .0); up = rw at (end-input e (endEntry e) (over-view e) ∙ y); unsent = none }
     go (no p) =
-        let at : entryAt (next m (EndOfInterrupt v) .state) h ≡ entryAt (m .state) h = ap (λ (s : IoApicState). entryAt s h) q ∙ put-other (m .state) (firstAwaiting (m .state) v) (endEntry e .entry) h p in
+        let at : entryAt (next m (EndOfInterrupt v)) h ≡ entryAt m h = ap (λ (s : IoApicState). entryAt s h) q ∙ put-other m (firstAwaiting m v) (endEntry e .entry) h p in
         record { fly = rw at f; up = rw at u; unsent = none }
 
-starves : (n : ℕ) (v : Vector) (h g : ℕ) (m : EmulatedIoApic) → isNew (m .state) ≡ false → ChipRules (m .state) → h < g → g < 24 → Flying v (entryAt (m .state) h) → entryAt (m .state) h .«input_level» ≡ true
+starves : (n : ℕ) (v : Vector) (h g : ℕ) (m : IoApicState) → isVersion20 m ≡ false → ChipRules m → h < g → g < 24 → Flying v (entryAt m h) → entryAt m h .«input_level» ≡ true
     → sends g m (replicate n (EndOfInterrupt v)) ≡ 0
 unfolding sends outcome endOfInterrupt
 starves zero v h g m o k l w f u = refl
 starves (suc n) v h g m o k l w f u =
-    let t = starved v h g m (endOf (m .state) v) k l w f u (ends-old (m .state) v o) refl refl in
-    let z = starves n v h g (next m (EndOfInterrupt v)) (call-isNew m (EndOfInterrupt v) ∙ o) (calls-keep-rules m (EndOfInterrupt v) k) l w (t .fly) (t .up) in
+    let t = starved v h g m (endOf m v) k l w f u (ends-old m v o) refl refl in
+    let z = starves n v h g (next m (EndOfInterrupt v)) (call-isVersion20 m (EndOfInterrupt v) ∙ o) (calls-keep-rules m (EndOfInterrupt v) k) l w (t .fly) (t .up) in
     rw (t .unsent, z)
 
 pub never-heard : NeverHeard
 never-heard m h g v n o k l w a u =
-    let r = rules-of (entryAt (m .state) h) (k .each h (omega arith)) in
-    starves n v h g m o k l w (record { fly = a; fit = r .fit (awaiting v (entryAt (m .state) h) a .flight) }) u
+    let r = rules-of (entryAt m h) (k .each h (omega arith)) in
+    starves n v h g m o k l w (record { fly = a; fit = r .fit (awaiting v (entryAt m h) a .flight) }) u

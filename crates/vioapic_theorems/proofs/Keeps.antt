@@ -6,31 +6,31 @@ use mathlib.Core.Bool.{Bool, true, false, cond, _&&_}
 use mathlib.Core.List.{List, [], _∷_}
 use mathlib.Core.Path.{_≡_, refl, sym, _∙_, ap}
 use lib.Dec.{eqb}
-use lib.ListN.{getD, length-set, replicate}
+use lib.ListN.{getD, replicate}
+use Rattle.utils.proofs.Bools.{never, and-true}
 use Rattle.types.specs.Reply.{replyNumber, Outcome}
 use Rattle.types.specs.declared.Gsi.{Gsi}
 use Rattle.types.specs.declared.Vector.{Vector}
-use Rattle.vioapic.specs.Answers.{routedReply, eoiReply, writtenReply}
-use Rattle.vioapic.specs.Redirection.{isFit, isLevel, remoteIrr, withInput, withoutRemoteIrr, sendEntry, moveLine, awaits, endEntry, endEntry20}
-use Rattle.vioapic.specs.Table.{newEntry, noEntry, entryAt, put, interruptForEntry, setLevel, isNew, firstAwaiting, endEach, endOfEvery, endOf}
-use Rattle.vioapic.specs.Registers.{writtenBy}
+use Rattle.vioapic_entry.specs.Answers.{routedReply}
+use Rattle.vioapic.specs.Answers.{eoiReply, writtenReply}
+use Rattle.vioapic_entry.specs.Redirection.{EntryStep, isFit, isLevel, remoteIrr, withInput, withoutRemoteIrr, sendEntry, moveLine, awaits, endEntry, endEntry20}
+use Rattle.vioapic.specs.Table.{Routing, Ending, newEntry, noEntry, entryAt, put, interruptForEntry, setLevel, isVersion20, firstAwaiting, endOfEvery, endOf}
+use Rattle.vioapic.specs.Agreement.{endEachInTable}
+use Rattle.vioapic.specs.Registers.{Writing, writtenBy}
 use Rattle.vioapic.specs.IoApic.{setGsiLevel, assertGsi, endOfInterrupt, handleWrite}
 use Rattle.vioapic.specs.Calls.{Call, SetGsiLevel, AssertGsi, EndOfInterrupt, VectorForGsi, AddressRange, HandleRead, HandleWrite, outcome, next, run}
-use Rattle.vioapic.specs.declared.redirection.Entry.{Entry}
-use Rattle.vioapic.specs.declared.redirection.EntryStep.{EntryStep}
-use Rattle.vioapic.specs.declared.redirection.Routed.{Routed}
-use Rattle.vioapic.specs.declared.redirection.Routed.the-variants.{NotRouted, Interrupt}
+use Rattle.vioapic_entry.specs.declared.Entry.{Entry}
+use Rattle.vioapic_entry.specs.declared.Routed.{Routed}
+use Rattle.vioapic_entry.specs.declared.Routed.the-variants.{NotRouted, Interrupt}
 use Rattle.vioapic.specs.declared.Eoi.{Eoi}
 use Rattle.vioapic.specs.declared.Eoi.the-variants.{NotEnded, Ended, EndedAll}
-use Rattle.vioapic.specs.declared.IoApicState.{IoApicState}
-use Rattle.vioapic.specs.declared.EmulatedIoApic.{EmulatedIoApic}
-use Rattle.vioapic.specs.declared.Routing.{Routing}
-use Rattle.vioapic.specs.declared.Ending.{Ending}
-use Rattle.vioapic.specs.declared.Writing.{Writing}
+use Rattle.vioapic.specs.State.{IoApicState}
 use Rattle.vioapic_theorems.specs.Rules.{implies, entryRules, ChipRules, NewKeepsRules, CallsKeepRules, RunsKeepRules, CallsKeepVersion, RefusedKeeps, TableIndex}
-use Rattle.vioapic.proofs.Fields.{same-fit, same-level, alike-with, alike-without, alike-high, irr-with, irr-without, irr-low, irr-high}
-use Rattle.vioapic_theorems.proofs.Steps.{never, and-true, implied, imply}
-use Rattle.vioapic_theorems.proofs.Tables.{put-same, put-other, every-at, every-size}
+use Rattle.vioapic_entry.proofs.Fields.{same-fit, same-level, alike-with, alike-without, alike-high, irr-with, irr-without, irr-low, irr-high}
+use Rattle.vioapic_theorems.proofs.Steps.{implied, imply}
+use Rattle.vioapic_theorems.proofs.Tables.{put-same, put-other, every-at}
+use Rattle.vioapic.proofs.Flight.{put-agrees}
+use Rattle.vioapic.proofs.Agree.{new-agrees, every-ended}
 use Rattle.vioapic_theorems.proofs.Views.{Sent, sent-view, Raised, Moved, moved-view, Over, over-view, over-view20, Wrote, Routes, assert-view, level-view, Ends, EndsBy, ends-by, Writes, Write, write-view}
 
 -- ---- the rules of one entry
@@ -66,7 +66,7 @@ move-rules e b r (Moved.up (Raised.again p q)) k = record { deferred = λ h. q; 
 move-rules e b r (Moved.up (Raised.raised s)) k = send-rules (withInput e true) r s (record { deferred = k .deferred; level = k .level; fit = k .fit })
 move-rules e b r Moved.down k = record { deferred = λ h. never h refl; level = k .level; fit = k .fit }
 
--- an entry that isn't in flight and has nothing put off
+-- an entry that isn't in flight and has nothing deferred
 resting : (e : Entry) → (e .«pending_level» ≡ true → ⊥) → remoteIrr (e .word) ≡ false → Rules e
 resting e n i = record { deferred = λ h. absurd (n h); level = λ h. never h i; fit = λ h. never h i }
 
@@ -95,13 +95,13 @@ at-rules : (s : IoApicState) → ChipRules s → (h : ℕ) → h < 24 → Rules 
 at-rules s k h l = rules-of (entryAt s h) (k .each h l)
 
 put-rules : (s : IoApicState) (h : ℕ) (f : Entry) → ChipRules s → h < 24 → Rules f → ChipRules (put s h f)
-put-rules s h f k l r = record { table = length-set (s .entries) h f ∙ k .table; each = at }
+put-rules s h f k l r = record { agrees = put-agrees s h f (k .agrees) l; each = at }
   where
     at : (j : ℕ) → j < 24 → entryRules (entryAt (put s h f) j) ≡ true
     at j i = go (ℕ-discrete j h)
       where
         go : Dec (j ≡ h) → entryRules (entryAt (put s h f) j) ≡ true
-        go (yes e) = rw e (ap (λ (x : Entry). entryRules x) (put-same s h f (k .table) l) ∙ of-rules f r)
+        go (yes e) = rw e (ap (λ (x : Entry). entryRules x) (put-same s h f (k .agrees .table) l) ∙ of-rules f r)
         go (no e) = ap (λ (x : Entry). entryRules x) (put-other s h f j e) ∙ k .each j i
 
 routes-rules : (s : IoApicState) (gsi : Gsi) (step : Entry → EntryStep) (x : Routing) → Routes s gsi step x
@@ -116,7 +116,7 @@ ends-rules s v x (Ends.found l) k =
 ends-rules s v x (Ends.unfound l) k = k
 
 -- in version 0x20 each entry is ended by itself, or left as it is
-each-rules : (v : Vector) (e : Entry) → Rules e → Rules (endEach v e)
+each-rules : (v : Vector) (e : Entry) → Rules e → Rules (endEachInTable v e)
 each-rules v e k = go (awaits v e)
   where
     go : (b : Bool) → Rules (cond b (endEntry20 e .entry) e)
@@ -126,8 +126,8 @@ each-rules v e k = go (awaits v e)
 every-rules : (s : IoApicState) (v : Vector) → ChipRules s → ChipRules (endOfEvery s v .state)
 every-rules s v k =
     record {
-      table = every-size s v ∙ k .table;
-      each = λ j l. ap (λ (x : Entry). entryRules x) (every-at s v j) ∙ of-rules (endEach v (entryAt s j)) (each-rules v (entryAt s j) (at-rules s k j l));
+      agrees = every-ended s (k .agrees) v;
+      each = λ j l. ap (λ (x : Entry). entryRules x) (every-at s v (k .agrees) j) ∙ of-rules (endEachInTable v (entryAt s j)) (each-rules v (entryAt s j) (at-rules s k j l));
     }
 
 by-rules : (s : IoApicState) (v : Vector) (x : Ending) → EndsBy s v x → ChipRules s → ChipRules (x .state)
@@ -135,21 +135,21 @@ by-rules s v x (EndsBy.one n e) k = ends-rules s v x e k
 by-rules s v x (EndsBy.every n) k = every-rules s v k
 
 writes-rules : (s : IoApicState) (o x : ℕ) (w : Writing) → Writes s o x w → ChipRules s → ChipRules (w .state)
-writes-rules s o x w (Writes.selected y) k = record { table = k .table; each = k .each }
+writes-rules s o x w (Writes.selected y) k = record { agrees = record { table = k .agrees .table; word = k .agrees .word }; each = k .each }
 writes-rules s o x w (Writes.word h f l v) k = put-rules s h f k l (wrote-rules (entryAt s h) x f v (at-rules s k h l))
 writes-rules s o x w (Writes.eoi n e) k = every-rules s (record { 0 = x % 256 }) k
 
-write-rules : (m : EmulatedIoApic) (addr width x : ℕ) (o : Outcome EmulatedIoApic) → Write m addr width x o → ChipRules (m .state) → ChipRules (o .state .state)
+write-rules : (m : IoApicState) (addr width x : ℕ) (o : Outcome IoApicState) → Write m addr width x o → ChipRules m → ChipRules (o .state)
 write-rules m addr width x o (Write.refused why) k = k
-write-rules m addr width x o (Write.served {w} p l v) k = writes-rules (m .state) (addr - m .base) (x % 4294967296) w v k
+write-rules m addr width x o (Write.served {w} p l v) k = writes-rules m (addr - m .base) (x % 4294967296) w v k
 
 pub calls-keep-rules : CallsKeepRules
 unfolding outcome setGsiLevel assertGsi endOfInterrupt handleWrite
 calls-keep-rules m (SetGsiLevel gsi b) k =
-    routes-rules (m .state) gsi (λ e. moveLine e b) (setLevel (m .state) gsi b) (level-view (m .state) gsi b) (λ e r. move-rules e b (moveLine e b) (moved-view e b) r) k
+    routes-rules m gsi (λ e. moveLine e b) (setLevel m gsi b) (level-view m gsi b) (λ e r. move-rules e b (moveLine e b) (moved-view e b) r) k
 calls-keep-rules m (AssertGsi gsi) k =
-    routes-rules (m .state) gsi sendEntry (interruptForEntry (m .state) gsi) (assert-view (m .state) gsi) (λ e r. send-rules e (sendEntry e) (sent-view e) r) k
-calls-keep-rules m (EndOfInterrupt v) k = by-rules (m .state) v (endOf (m .state) v) (ends-by (m .state) v) k
+    routes-rules m gsi sendEntry (interruptForEntry m gsi) (assert-view m gsi) (λ e r. send-rules e (sendEntry e) (sent-view e) r) k
+calls-keep-rules m (EndOfInterrupt v) k = by-rules m v (endOf m v) (ends-by m v) k
 calls-keep-rules m (VectorForGsi gsi) k = k
 calls-keep-rules m AddressRange k = k
 calls-keep-rules m (HandleRead addr width) k = k
@@ -166,48 +166,48 @@ new-rules (suc n) zero = refl
 new-rules (suc n) (suc j) = new-rules n j
 
 pub new-keeps-rules : NewKeepsRules
-new-keeps-rules version base size = record { table = refl; each = λ j l. new-rules 24 j }
+new-keeps-rules version base size = record { agrees = new-agrees version base size; each = λ j l. new-rules 24 j }
 
 -- ---- the version and the address
 
-routes-version : (s : IoApicState) (gsi : Gsi) (step : Entry → EntryStep) (x : Routing) → Routes s gsi step x → x .state .version ≡ s .version
-routes-version s gsi step x (Routes.hit l) = refl
-routes-version s gsi step x (Routes.miss l) = refl
+abbrev Stays : IoApicState → IoApicState → Type 0
+Stays s t = (t .version ≡ s .version) × (t .base ≡ s .base)
 
-ends-version : (s : IoApicState) (v : Vector) (x : Ending) → EndsBy s v x → x .state .version ≡ s .version
+routes-stays : (s : IoApicState) (gsi : Gsi) (step : Entry → EntryStep) (x : Routing) → Routes s gsi step x → Stays s (x .state)
+routes-stays s gsi step x (Routes.hit l) = (refl, refl)
+routes-stays s gsi step x (Routes.miss l) = (refl, refl)
+
+ends-stays : (s : IoApicState) (v : Vector) (x : Ending) → EndsBy s v x → Stays s (x .state)
 unfolding endOfEvery
-ends-version s v x (EndsBy.one n (Ends.found l)) = refl
-ends-version s v x (EndsBy.one n (Ends.unfound l)) = refl
-ends-version s v x (EndsBy.every n) = refl
+ends-stays s v x (EndsBy.one n (Ends.found l)) = (refl, refl)
+ends-stays s v x (EndsBy.one n (Ends.unfound l)) = (refl, refl)
+ends-stays s v x (EndsBy.every n) = (refl, refl)
 
-writes-version : (s : IoApicState) (o x : ℕ) (w : Writing) → Writes s o x w → w .state .version ≡ s .version
+write-stays : (m : IoApicState) (addr width x : ℕ) (o : Outcome IoApicState) → Write m addr width x o → Stays m (o .state)
 unfolding endOfEvery
-writes-version s o x w (Writes.selected y) = refl
-writes-version s o x w (Writes.word h f l v) = refl
-writes-version s o x w (Writes.eoi n e) = refl
-
-write-version : (m : EmulatedIoApic) (addr width x : ℕ) (o : Outcome EmulatedIoApic) → Write m addr width x o → (o .state .state .version ≡ m .state .version) × (o .state .base ≡ m .base)
-write-version m addr width x o (Write.refused why) = (refl, refl)
-write-version m addr width x o (Write.served {w} p l v) = (writes-version (m .state) (addr - m .base) (x % 4294967296) w v, refl)
+write-stays m addr width x o (Write.refused why) = (refl, refl)
+write-stays m addr width x o (Write.served p l (Writes.selected y)) = (refl, refl)
+write-stays m addr width x o (Write.served p l (Writes.word h f i v)) = (refl, refl)
+write-stays m addr width x o (Write.served p l (Writes.eoi n e)) = (refl, refl)
 
 pub calls-keep-version : CallsKeepVersion
 unfolding outcome setGsiLevel assertGsi endOfInterrupt handleWrite
-calls-keep-version m (SetGsiLevel gsi b) = (routes-version (m .state) gsi (λ e. moveLine e b) (setLevel (m .state) gsi b) (level-view (m .state) gsi b), refl)
-calls-keep-version m (AssertGsi gsi) = (routes-version (m .state) gsi sendEntry (interruptForEntry (m .state) gsi) (assert-view (m .state) gsi), refl)
-calls-keep-version m (EndOfInterrupt v) = (ends-version (m .state) v (endOf (m .state) v) (ends-by (m .state) v), refl)
+calls-keep-version m (SetGsiLevel gsi b) = routes-stays m gsi (λ e. moveLine e b) (setLevel m gsi b) (level-view m gsi b)
+calls-keep-version m (AssertGsi gsi) = routes-stays m gsi sendEntry (interruptForEntry m gsi) (assert-view m gsi)
+calls-keep-version m (EndOfInterrupt v) = ends-stays m v (endOf m v) (ends-by m v)
 calls-keep-version m (VectorForGsi gsi) = (refl, refl)
 calls-keep-version m AddressRange = (refl, refl)
 calls-keep-version m (HandleRead addr width) = (refl, refl)
-calls-keep-version m (HandleWrite addr width x) = write-version m addr width x (handleWrite m addr width x) (write-view m addr width x)
+calls-keep-version m (HandleWrite addr width x) = write-stays m addr width x (handleWrite m addr width x) (write-view m addr width x)
 
 -- a chip of one version stays one
-pub call-isNew : (m : EmulatedIoApic) (c : Call) → isNew (next m c .state) ≡ isNew (m .state)
-call-isNew m c = ap (λ (n : ℕ). eqb n 0x20) (calls-keep-version m c .0)
+pub call-isVersion20 : (m : IoApicState) (c : Call) → isVersion20 (next m c) ≡ isVersion20 m
+call-isVersion20 m c = ap (λ (n : ℕ). eqb n 0x20) (calls-keep-version m c .0)
 
-pub run-isNew : (m : EmulatedIoApic) (cs : List Call) → isNew (run m cs .state) ≡ isNew (m .state)
+pub run-isVersion20 : (m : IoApicState) (cs : List Call) → isVersion20 (run m cs) ≡ isVersion20 m
 unfolding run
-run-isNew m [] = refl
-run-isNew m (c ∷ cs) = run-isNew (next m c) cs ∙ call-isNew m c
+run-isVersion20 m [] = refl
+run-isVersion20 m (c ∷ cs) = run-isVersion20 (next m c) cs ∙ call-isVersion20 m c
 
 -- ---- refusals
 
@@ -234,15 +234,15 @@ writes-done s o x w (Writes.selected y) = refl
 writes-done s o x w (Writes.word h f l v) = refl
 writes-done s o x w (Writes.eoi n e) = written-done (endOfEvery s (record { 0 = x % 256 }) .answer)
 
-write-kept : (m : EmulatedIoApic) (addr width x : ℕ) (o : Outcome EmulatedIoApic) → Write m addr width x o → (replyNumber (o .reply) ≡ 0 → ⊥) → o .state ≡ m
+write-kept : (m : IoApicState) (addr width x : ℕ) (o : Outcome IoApicState) → Write m addr width x o → (replyNumber (o .reply) ≡ 0 → ⊥) → o .state ≡ m
 write-kept m addr width x o (Write.refused why) n = refl
-write-kept m addr width x o (Write.served {w} p l v) n = absurd (n (writes-done (m .state) (addr - m .base) (x % 4294967296) w v))
+write-kept m addr width x o (Write.served {w} p l v) n = absurd (n (writes-done m (addr - m .base) (x % 4294967296) w v))
 
 pub refused-keeps : RefusedKeeps
 unfolding outcome setGsiLevel assertGsi endOfInterrupt handleWrite
-refused-keeps m (SetGsiLevel gsi b) n = absurd (n (routed-done (setLevel (m .state) gsi b .answer)))
-refused-keeps m (AssertGsi gsi) n = absurd (n (routed-done (interruptForEntry (m .state) gsi .answer)))
-refused-keeps m (EndOfInterrupt v) n = absurd (n (eoi-done (endOf (m .state) v .answer)))
+refused-keeps m (SetGsiLevel gsi b) n = absurd (n (routed-done (setLevel m gsi b .answer)))
+refused-keeps m (AssertGsi gsi) n = absurd (n (routed-done (interruptForEntry m gsi .answer)))
+refused-keeps m (EndOfInterrupt v) n = absurd (n (eoi-done (endOf m v .answer)))
 refused-keeps m (VectorForGsi gsi) n = refl
 refused-keeps m AddressRange n = refl
 refused-keeps m (HandleRead addr width) n = refl

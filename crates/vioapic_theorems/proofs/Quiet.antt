@@ -11,18 +11,15 @@ use Rattle.types.specs.Reply.{Outcome}
 use Rattle.types.specs.declared.Gsi.{Gsi}
 use Rattle.types.specs.declared.Vector.{Vector}
 use Rattle.types.specs.declared.Reply.the-variants.{Two}
-use Rattle.vioapic.specs.Answers.{routedReply}
-use Rattle.vioapic.specs.Redirection.{awaits, lowPart, sendEntry, raiseEntry, moveLine}
-use Rattle.vioapic.specs.Table.{isNew, entryAt, put, interruptForEntry, setLevel}
+use Rattle.vioapic_entry.specs.Answers.{routedReply}
+use Rattle.vioapic_entry.specs.Redirection.{EntryStep, awaits, lowPart, sendEntry, raiseEntry, moveLine}
+use Rattle.vioapic.specs.Table.{Routing, isVersion20, entryAt, put, interruptForEntry, setLevel}
 use Rattle.vioapic.specs.IoApic.{goodWidth, setGsiLevel, assertGsi, handleWrite}
 use Rattle.vioapic.specs.Calls.{Call, SetGsiLevel, AssertGsi, HandleWrite, outcome, next}
-use Rattle.vioapic.specs.declared.redirection.Entry.{Entry}
-use Rattle.vioapic.specs.declared.redirection.EntryStep.{EntryStep}
-use Rattle.vioapic.specs.declared.redirection.Routed.{Routed}
-use Rattle.vioapic.specs.declared.redirection.Routed.the-variants.{NotRouted, Interrupt}
-use Rattle.vioapic.specs.declared.IoApicState.{IoApicState}
-use Rattle.vioapic.specs.declared.EmulatedIoApic.{EmulatedIoApic}
-use Rattle.vioapic.specs.declared.Routing.{Routing}
+use Rattle.vioapic_entry.specs.declared.Entry.{Entry}
+use Rattle.vioapic_entry.specs.declared.Routed.{Routed}
+use Rattle.vioapic_entry.specs.declared.Routed.the-variants.{NotRouted, Interrupt}
+use Rattle.vioapic.specs.State.{IoApicState}
 use Rattle.vioapic_theorems.specs.Sends.{routes, resends, sent}
 use Rattle.vioapic_theorems.specs.Premises.{keepsLow}
 use Rattle.vioapic_theorems.proofs.Views.{sent-view, raised-view, moved-view, Routes, assert-view, level-view, Writes, Write, write-view}
@@ -36,8 +33,8 @@ pub record Going (v : Vector) (g : ℕ) (s : IoApicState) : Type 0 where
   pub on : Flying v (entryAt s g)
 
 -- the call leaves it so, and doesn't send it
-pub record Quiet (v : Vector) (g : ℕ) (m : EmulatedIoApic) (c : Call) : Type 0 where
-  pub going : Going v g (next m c .state)
+pub record Quiet (v : Vector) (g : ℕ) (m : IoApicState) (c : Call) : Type 0 where
+  pub going : Going v g (next m c)
   pub unsent : sent g c (outcome m c .reply) ≡ 0
 
 -- the entries after a call that replaces one of them
@@ -49,14 +46,14 @@ replaced v g s h f k l o = record { size = length-set (s .entries) h f ∙ k .si
     go (no p) = rw (put-other s h f g p) (k .on)
 
 -- a call that leaves the entries as they are
-pub still : (v : Vector) (g : ℕ) (m : EmulatedIoApic) (c : Call) → Going v g (m .state) → next m c .state .entries ≡ m .state .entries
+pub still : (v : Vector) (g : ℕ) (m : IoApicState) (c : Call) → Going v g m → next m c .entries ≡ m .entries
     → sent g c (outcome m c .reply) ≡ 0 → Quiet v g m c
 still v g m c k q z = record { going = record { size = rw q (k .size); within = k .within; on = rw q (k .on) }; unsent = z }
 
 -- a call that replaces entry h
-pub moves : (v : Vector) (g : ℕ) (m : EmulatedIoApic) (c : Call) (h : ℕ) (f : Entry) → Going v g (m .state) → h < 24 → next m c .state ≡ put (m .state) h f
+pub moves : (v : Vector) (g : ℕ) (m : IoApicState) (c : Call) (h : ℕ) (f : Entry) → Going v g m → h < 24 → next m c ≡ put m h f
     → sent g c (outcome m c .reply) ≡ 0 → (h ≡ g → Flying v f) → Quiet v g m c
-moves v g m c h f k l q z o = record { going = rw q (replaced v g (m .state) h f k l o); unsent = z }
+moves v g m c h f k l q z o = record { going = rw q (replaced v g m h f k l o); unsent = z }
 
 -- an entry whose register stays flies on
 flies-on : (v : Vector) (e f : Entry) → Flying v e → f .word ≡ e .word → Flying v f
@@ -79,56 +76,56 @@ only h g n z = go (ℕ-discrete h g)
 
 -- ---- a line is moved or asserted
 
-line-quiet : (v : Vector) (g : ℕ) (m : EmulatedIoApic) (c : Call) (gsi : Gsi) (step : Entry → EntryStep) (x : Routing) → Going v g (m .state)
+line-quiet : (v : Vector) (g : ℕ) (m : IoApicState) (c : Call) (gsi : Gsi) (step : Entry → EntryStep) (x : Routing) → Going v g m
     → ((e : Entry) → awaits v e ≡ true → (step e .entry .word ≡ e .word) × (one (step e .answer) ≡ 0))
-    → Routes (m .state) gsi step x → next m c .state ≡ x .state → sent g c (outcome m c .reply) ≡ cond (eqb (gsi .0) g) (routes (routedReply (x .answer))) 0 → Quiet v g m c
+    → Routes m gsi step x → next m c ≡ x .state → sent g c (outcome m c .reply) ≡ cond (eqb (gsi .0) g) (routes (routedReply (x .answer))) 0 → Quiet v g m c
 line-quiet v g m c gsi step x k t (Routes.hit l) q z =
-    moves v g m c (gsi .0) (step (entryAt (m .state) (gsi .0)) .entry) k l q
-    (z ∙ only (gsi .0) g (routes (routedReply (step (entryAt (m .state) (gsi .0)) .answer)))
-    (λ p. routes-one (step (entryAt (m .state) (gsi .0)) .answer) ∙ t (entryAt (m .state) (gsi .0)) (own v g (m .state) (gsi .0) k p .fly) .1))
+    moves v g m c (gsi .0) (step (entryAt m (gsi .0)) .entry) k l q
+    (z ∙ only (gsi .0) g (routes (routedReply (step (entryAt m (gsi .0)) .answer)))
+    (λ p. routes-one (step (entryAt m (gsi .0)) .answer) ∙ t (entryAt m (gsi .0)) (own v g m (gsi .0) k p .fly) .1))
     (λ p.
-    let o = own v g (m .state) (gsi .0) k p in
-    flies-on v (entryAt (m .state) (gsi .0)) (step (entryAt (m .state) (gsi .0)) .entry) o (t (entryAt (m .state) (gsi .0)) (o .fly) .0))
+    let o = own v g m (gsi .0) k p in
+    flies-on v (entryAt m (gsi .0)) (step (entryAt m (gsi .0)) .entry) o (t (entryAt m (gsi .0)) (o .fly) .0))
 line-quiet v g m c gsi step x k t (Routes.miss l) q z =
     still v g m c k (ap (λ (s : IoApicState). s .entries) q) (z ∙ only (gsi .0) g 0 (λ p. refl))
 
-pub level-quiet : (v : Vector) (g : ℕ) (m : EmulatedIoApic) (gsi : Gsi) (b : Bool) → Going v g (m .state) → Quiet v g m (SetGsiLevel gsi b)
+pub level-quiet : (v : Vector) (g : ℕ) (m : IoApicState) (gsi : Gsi) (b : Bool) → Going v g m → Quiet v g m (SetGsiLevel gsi b)
 unfolding outcome setGsiLevel sent
 level-quiet v g m gsi b k =
-    line-quiet v g m (SetGsiLevel gsi b) gsi (λ e. moveLine e b) (setLevel (m .state) gsi b) k (λ e. move-flying v e b (moveLine e b) (moved-view e b)) (level-view (m .state) gsi b) refl refl
+    line-quiet v g m (SetGsiLevel gsi b) gsi (λ e. moveLine e b) (setLevel m gsi b) k (λ e. move-flying v e b (moveLine e b) (moved-view e b)) (level-view m gsi b) refl refl
 
-pub assert-quiet : (v : Vector) (g : ℕ) (m : EmulatedIoApic) (gsi : Gsi) → Going v g (m .state) → Quiet v g m (AssertGsi gsi)
+pub assert-quiet : (v : Vector) (g : ℕ) (m : IoApicState) (gsi : Gsi) → Going v g m → Quiet v g m (AssertGsi gsi)
 unfolding outcome assertGsi sent
 assert-quiet v g m gsi k =
-    line-quiet v g m (AssertGsi gsi) gsi sendEntry (interruptForEntry (m .state) gsi) k (λ e. send-flying v e (sendEntry e) (sent-view e)) (assert-view (m .state) gsi) refl refl
+    line-quiet v g m (AssertGsi gsi) gsi sendEntry (interruptForEntry m gsi) k (λ e. send-flying v e (sendEntry e) (sent-view e)) (assert-view m gsi) refl refl
 
 -- ---- a write that is no EOI
 
-pub low-kept : (m : EmulatedIoApic) (c : Call) (h : ℕ) (f : Entry) → length (m .state .entries) ≡ 24 → h < 24 → next m c .state ≡ put (m .state) h f
-    → keepsLow m c h ≡ true → lowPart (f .word) ≡ lowPart (entryAt (m .state) h .word)
+pub low-kept : (m : IoApicState) (c : Call) (h : ℕ) (f : Entry) → length (m .entries) ≡ 24 → h < 24 → next m c ≡ put m h f
+    → keepsLow m c h ≡ true → lowPart (f .word) ≡ lowPart (entryAt m h .word)
 low-kept m c h f n l q r =
-    ap (λ (y : Entry). lowPart (y .word)) (sym (ap (λ (s : IoApicState). entryAt s h) q ∙ put-same (m .state) h f n l))
-    ∙ eqb-true (lowPart (entryAt (next m c .state) h .word)) (lowPart (entryAt (m .state) h .word)) r
+    ap (λ (y : Entry). lowPart (y .word)) (sym (ap (λ (s : IoApicState). entryAt s h) q ∙ put-same m h f n l))
+    ∙ eqb-true (lowPart (entryAt (next m c) h .word)) (lowPart (entryAt m h .word)) r
 
-word-quiet : (v : Vector) (g : ℕ) (m : EmulatedIoApic) (c : Call) (addr width x : ℕ) (o : Outcome EmulatedIoApic) → Going v g (m .state) → keepsLow m c g ≡ true
-    → (isNew (m .state) ≡ true → goodWidth width ≡ true → addr ≡ m .base + 0x40 → ⊥)
+word-quiet : (v : Vector) (g : ℕ) (m : IoApicState) (c : Call) (addr width x : ℕ) (o : Outcome IoApicState) → Going v g m → keepsLow m c g ≡ true
+    → (isVersion20 m ≡ true → goodWidth width ≡ true → addr ≡ m .base + 0x40 → ⊥)
     → Write m addr width x o → outcome m c ≡ o → sent g c (outcome m c .reply) ≡ resends g (o .reply) → Quiet v g m c
-word-quiet v g m c addr width x o k d n (Write.refused why) q z = still v g m c k (ap (λ (r : Outcome EmulatedIoApic). r .state .state .entries) q) z
-word-quiet v g m c addr width x o k d n (Write.served p l (Writes.selected y)) q z = still v g m c k (ap (λ (r : Outcome EmulatedIoApic). r .state .state .entries) q) z
+word-quiet v g m c addr width x o k d n (Write.refused why) q z = still v g m c k (ap (λ (r : Outcome IoApicState). r .state .entries) q) z
+word-quiet v g m c addr width x o k d n (Write.served p l (Writes.selected y)) q z = still v g m c k (ap (λ (r : Outcome IoApicState). r .state .entries) q) z
 word-quiet v g m c addr width x o k d n (Write.served p l (Writes.eoi i e)) q z = absurd (n i p (omega arith))
 word-quiet v g m c addr width x o k d n (Write.served p l (Writes.word h f i u)) q z = moves v g m c h f k i at z mine
   where
-    at : next m c .state ≡ put (m .state) h f
-    at = ap (λ (r : Outcome EmulatedIoApic). r .state .state) q
+    at : next m c ≡ put m h f
+    at = ap (λ (r : Outcome IoApicState). r .state) q
 
     mine : h ≡ g → Flying v f
     mine e =
-        let a = own v g (m .state) h k e in
-        let b = wrote-kept v (entryAt (m .state) h) (x % 2 ^ 32) f (omega arith) u (low-kept m c h f (k .size) i at (rw e d)) in
+        let a = own v g m h k e in
+        let b = wrote-kept v (entryAt m h) (x % 2 ^ 32) f (omega arith) u (low-kept m c h f (k .size) i at (rw e d)) in
         record { fly = b .0 ∙ a .fly; fit = b .1 ∙ a .fit }
 
-pub write-quiet : (v : Vector) (g : ℕ) (m : EmulatedIoApic) (addr width x : ℕ) → Going v g (m .state) → keepsLow m (HandleWrite addr width x) g ≡ true
-    → (isNew (m .state) ≡ true → goodWidth width ≡ true → addr ≡ m .base + 0x40 → ⊥) → Quiet v g m (HandleWrite addr width x)
+pub write-quiet : (v : Vector) (g : ℕ) (m : IoApicState) (addr width x : ℕ) → Going v g m → keepsLow m (HandleWrite addr width x) g ≡ true
+    → (isVersion20 m ≡ true → goodWidth width ≡ true → addr ≡ m .base + 0x40 → ⊥) → Quiet v g m (HandleWrite addr width x)
 unfolding outcome sent
 write-quiet v g m addr width x k d n = word-quiet v g m (HandleWrite addr width x) addr width x (handleWrite m addr width x) k d n (write-view m addr width x) refl refl
 

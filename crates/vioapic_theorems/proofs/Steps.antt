@@ -1,35 +1,23 @@
 -- What each rule does to an entry that is in flight, and what it keeps. Assumes nothing.
 use Prim.Native.Nat.{ℕ, _%_, _^_, _<_}
 use native.Mathlib.Omega.{arith}
-use mathlib.Core.Bool.{Bool, true, false, not, cond, _&&_, true≢false}
+use mathlib.Core.Bool.{Bool, true, false, _&&_}
 use mathlib.Core.Path.{_≡_, refl, sym, _∙_, ap}
 use borrow.Author.Tests.{eq-eqb}
+use Rattle.utils.proofs.Bools.{never, and-true}
 use Rattle.types.specs.Reply.{flag}
 use Rattle.types.specs.declared.Vector.{Vector}
 use Rattle.types.specs.declared.Reply.{Reply}
 use Rattle.types.specs.declared.Reply.the-variants.{Refused, Nothing, One, Two, Three}
-use Rattle.vioapic.specs.Answers.{routedReply}
-use Rattle.vioapic.specs.Redirection.{isFit, isLevel, remoteIrr, hasVector, awaits, lowPart, withRemoteIrr, withoutRemoteIrr, withWord, withPending, withInput}
-use Rattle.vioapic.specs.declared.redirection.Entry.{Entry}
-use Rattle.vioapic.specs.declared.redirection.EntryStep.{EntryStep}
-use Rattle.vioapic.specs.declared.redirection.Routed.{Routed}
-use Rattle.vioapic.specs.declared.redirection.Routed.the-variants.{NotRouted, Interrupt}
+use Rattle.vioapic_entry.specs.Answers.{routedReply}
+use Rattle.vioapic_entry.specs.Redirection.{EntryStep, isFit, isLevel, remoteIrr, hasVector, awaits, lowPart, withRemoteIrr, withoutRemoteIrr, withWord, withDeferred, withInput}
+use Rattle.vioapic_entry.specs.declared.Entry.{Entry}
+use Rattle.vioapic_entry.specs.declared.Routed.{Routed}
+use Rattle.vioapic_entry.specs.declared.Routed.the-variants.{NotRouted, Interrupt}
 use Rattle.vioapic_theorems.specs.Rules.{implies}
 use Rattle.vioapic_theorems.specs.Premises.{asks, levelSent}
-use Rattle.vioapic.proofs.Fields.{Alike, alike-refl, alike-then, same-fit, same-level, same-vector, alike-with, alike-without, alike-high, irr-with, irr-without, irr-low, irr-high, low-written}
+use Rattle.vioapic_entry.proofs.Fields.{Alike, alike-refl, alike-then, same-fit, same-level, same-vector, alike-with, alike-without, alike-high, irr-with, irr-without, irr-low, irr-high, low-written}
 use Rattle.vioapic_theorems.proofs.Views.{Sent, Raised, Moved, Over, Wrote}
-
--- nothing is both
-pub never : {A : Type 0} {b : Bool} → b ≡ true → b ≡ false → A
-never p q = absurd (true≢false (sym p ∙ q))
-
-pub and-true : (a b : Bool) → (a && b) ≡ true → (a ≡ true) × (b ≡ true)
-and-true true b e = (refl, e)
-and-true false b e = never e refl
-
-pub not-is : (b : Bool) → not b ≡ true → b ≡ false
-not-is true e = never refl (sym e)
-not-is false e = refl
 
 pub implied : (a b : Bool) → implies a b ≡ true → a ≡ true → b ≡ true
 implied true b e h = e
@@ -38,10 +26,6 @@ implied false b e h = never h refl
 pub imply : (a b : Bool) → (a ≡ true → b ≡ true) → implies a b ≡ true
 imply true b f = f refl
 imply false b f = refl
-
-cond-true : (a b : Bool) → cond a b false ≡ true → (a ≡ true) × (b ≡ true)
-cond-true true b e = (refl, e)
-cond-true false b e = never e refl
 
 -- 1 for an interrupt, 0 for none
 abbrev pub one : Routed → ℕ
@@ -57,9 +41,9 @@ pub record Awaiting (v : Vector) (e : Entry) : Type 0 where
 
 pub awaiting : (v : Vector) (e : Entry) → awaits v e ≡ true → Awaiting v e
 awaiting v e h =
-    let p = cond-true (hasVector (e .word) v) (cond (isLevel (e .word)) (remoteIrr (e .word)) false) h in
-    let q = cond-true (isLevel (e .word)) (remoteIrr (e .word)) (p .1) in
-    record { vector = p .0; level = q .0; flight = q .1 }
+    let p = and-true (hasVector (e .word) v && isLevel (e .word)) (remoteIrr (e .word)) h in
+    let q = and-true (hasVector (e .word) v) (isLevel (e .word)) (p .0) in
+    record { vector = q .0; level = q .1; flight = p .1 }
 
 pub awaits-yes : (v : Vector) (e : Entry) → Awaiting v e → awaits v e ≡ true
 awaits-yes v e a = rw (a .vector, a .level, a .flight)
@@ -189,7 +173,7 @@ send-alike e r (Sent.later p q i) = alike-refl (e .word)
 send-alike e r (Sent.fresh p q i) = alike-with (e .word)
 
 pub end-alike : (e : Entry) (r : EntryStep) → Over e r → Alike (r .entry .word) (e .word)
-end-alike e r (Over.resent b a c s) = alike-then (send-alike (withPending (withWord e (withoutRemoteIrr (e .word))) b) r s) (alike-without (e .word))
+end-alike e r (Over.resent b a c s) = alike-then (send-alike (withDeferred (withWord e (withoutRemoteIrr (e .word))) b) r s) (alike-without (e .word))
 end-alike e r (Over.rested a) = alike-without (e .word)
 
 -- an entry that asks is sent again and flies again
@@ -197,16 +181,16 @@ pub end-again : (v : Vector) (e : Entry) (r : EntryStep) → Over e r → Flying
 end-again v e r (Over.resent b a c s) k h =
     let n = awaiting v e (k .fly) in
     let m = alike-without (e .word) in
-    send-fresh v (withPending (withWord e (withoutRemoteIrr (e .word))) b) r s (same-vector m v ∙ n .vector) (same-level m ∙ n .level) (same-fit m ∙ k .fit) (irr-without (e .word))
+    send-fresh v (withDeferred (withWord e (withoutRemoteIrr (e .word))) b) r s (same-vector m v ∙ n .vector) (same-level m ∙ n .level) (same-fit m ∙ k .fit) (irr-without (e .word))
 end-again v e r (Over.rested a) k h = never h a
 
 -- and one that doesn't ask is at rest
 pub end-rest : (v : Vector) (e : Entry) (r : EntryStep) → Over e r → asks e ≡ false → (awaits v (r .entry) ≡ false) × (one (r .answer) ≡ 0)
 end-rest v e r (Over.resent b a c s) h = never a h
-end-rest v e r (Over.rested a) h = (grounded v (withPending (withWord e (withoutRemoteIrr (e .word))) false) (irr-without (e .word)), refl)
+end-rest v e r (Over.rested a) h = (grounded v (withDeferred (withWord e (withoutRemoteIrr (e .word))) false) (irr-without (e .word)), refl)
 
 pub end-input : (e : Entry) (r : EntryStep) → Over e r → r .entry .«input_level» ≡ e .«input_level»
-end-input e r (Over.resent b a c s) = send-input (withPending (withWord e (withoutRemoteIrr (e .word))) b) r s
+end-input e r (Over.resent b a c s) = send-input (withDeferred (withWord e (withoutRemoteIrr (e .word))) b) r s
 end-input e r (Over.rested a) = refl
 
 -- ---- the guest's writes

@@ -7,15 +7,20 @@ use mathlib.Core.List.{map}
 use mathlib.Core.Path.{_≡_, refl, sym, _∙_, ap, ap₂}
 use lib.ListN.{length, length-map, getD, List·getD-map}
 use lib.Seq.{getD-set-same, getD-set-other}
+use Rattle.utils.specs.Set.{bit}
 use Rattle.utils.proofs.Search.{first-holds, first-before}
+use Rattle.utils.proofs.Bools.{never, and-true}
 use Rattle.types.specs.declared.Vector.{Vector}
-use Rattle.vioapic.specs.Redirection.{awaits}
-use Rattle.vioapic.specs.Table.{noEntry, entryAt, put, firstAwaiting, endEach, endOfEvery}
-use Rattle.vioapic.specs.declared.redirection.Entry.{Entry}
-use Rattle.vioapic.specs.declared.IoApicState.{IoApicState}
+use Rattle.vioapic.specs.State.{IoApicState}
+use Rattle.vioapic_entry.specs.Redirection.{awaits}
+use Rattle.vioapic.specs.Table.{Ending, noEntry, entryAt, put, ends, firstAwaiting, endOfEvery}
+use Rattle.vioapic.specs.Agreement.{Agrees, firstInTable, endEachInTable, endOfEveryInTable}
+use Rattle.vioapic.proofs.Flight.{first-in-table}
+use Rattle.vioapic.proofs.Every.{every-in-table}
+use Rattle.vioapic_entry.specs.declared.Entry.{Entry}
 use Rattle.vioapic_theorems.specs.Sends.{count, lowerInFlight}
 use Rattle.vioapic_theorems.specs.Premises.{allBelow}
-use Rattle.vioapic_theorems.proofs.Steps.{never, and-true, grounded}
+use Rattle.vioapic_theorems.proofs.Steps.{grounded}
 
 pub put-same : (s : IoApicState) (h : ℕ) (f : Entry) → length (s .entries) ≡ 24 → h < 24 → entryAt (put s h f) h ≡ f
 put-same s h f n l = getD-set-same (s .entries) h f noEntry (rw n l)
@@ -23,16 +28,18 @@ put-same s h f n l = getD-set-same (s .entries) h f noEntry (rw n l)
 pub put-other : (s : IoApicState) (h : ℕ) (f : Entry) (j : ℕ) → (j ≡ h → ⊥) → entryAt (put s h f) j ≡ entryAt s j
 put-other s h f j n = getD-set-other (s .entries) h j f noEntry n
 
--- an EOI of version 0x20 takes each entry by itself
-pub every-at : (s : IoApicState) (v : Vector) (j : ℕ) → entryAt (endOfEvery s v .state) j ≡ endEach v (entryAt s j)
-unfolding endOfEvery
-every-at s v j =
-    let n : endEach v noEntry ≡ noEntry = rw (grounded v noEntry refl) in
-    ap (λ (d : Entry). getD (map (endEach v) (s .entries)) j d) (sym n) ∙ List·getD-map (endEach v) (s .entries) j noEntry
+-- where the word agrees, an EOI of version 0x20 takes each entry by itself
+module _ (s : IoApicState) (v : Vector) (a : Agrees s) where
+  pub every-at : (j : ℕ) → entryAt (endOfEvery s v .state) j ≡ endEachInTable v (entryAt s j)
+  unfolding endOfEveryInTable
+  every-at j =
+      let n : endEachInTable v noEntry ≡ noEntry = rw (grounded v noEntry refl) in
+      ap (λ (x : Ending). entryAt (x .state) j) (every-in-table s v a)
+      ∙ ap (λ (d : Entry). getD (map (endEachInTable v) (s .entries)) j d) (sym n) ∙ List·getD-map (endEachInTable v) (s .entries) j noEntry
 
-pub every-size : (s : IoApicState) (v : Vector) → length (endOfEvery s v .state .entries) ≡ length (s .entries)
-unfolding endOfEvery
-every-size s v = length-map (s .entries) (endEach v)
+  pub every-size : length (endOfEvery s v .state .entries) ≡ length (s .entries)
+  unfolding endOfEveryInTable
+  every-size = ap (λ (x : Ending). length (x .state .entries)) (every-in-table s v a) ∙ length-map (s .entries) (endEachInTable v)
 
 -- a test that holds below n, at each number
 pub all-at : (n : ℕ) (p : ℕ → Bool) → allBelow n p ≡ true → (j : ℕ) → j < n → p j ≡ true
@@ -107,18 +114,23 @@ module _ (v : Vector) (g : ℕ) (s : IoApicState) (size : length (s .entries) �
 
 -- ---- the first entry in flight
 
-module _ (s : IoApicState) (v : Vector) where
-  pub first-awaits : firstAwaiting s v < 24 → awaits v (entryAt s (firstAwaiting s v)) ≡ true
-  unfolding firstAwaiting
-  first-awaits h = first-holds 24 (λ g. awaits v (entryAt s g)) h
+-- what the search finds awaits the EOI
+pub first-awaits : (s : IoApicState) (v : Vector) → firstAwaiting s v < 24 → awaits v (entryAt s (firstAwaiting s v)) ≡ true
+unfolding firstAwaiting
+first-awaits s v h = and-true (bit (s .«in_flight») (firstAwaiting s v)) (awaits v (entryAt s (firstAwaiting s v))) (first-holds 24 (ends v s) h) .1
+
+-- and where the word agrees, nothing below it does
+module _ (s : IoApicState) (v : Vector) (k : Agrees s) where
+  pub before-first : (j : ℕ) → j < firstAwaiting s v → awaits v (entryAt s j) ≡ false
+  unfolding firstInTable
+  before-first j i = first-before 24 (λ g. awaits v (entryAt s g)) j (rw (← first-in-table s v k) i)
 
   pub first-lowest : (j : ℕ) → awaits v (entryAt s j) ≡ true → j < 24 → firstAwaiting s v ≤ j
-  unfolding firstAwaiting
   first-lowest j a l = go (decLt j (firstAwaiting s v))
     where
       go : Dec (j < firstAwaiting s v) → firstAwaiting s v ≤ j
-      go (yes k) = never a (first-before 24 (λ g. awaits v (entryAt s g)) j k)
-      go (no k) = omega arith
+      go (yes i) = never a (before-first j i)
+      go (no i) = omega arith
 
   -- with no lower entry in flight, entry g is the first
   pub first-own : (g : ℕ) → g < 24 → awaits v (entryAt s g) ≡ true → lowerInFlight v g s ≡ 0 → firstAwaiting s v ≡ g
@@ -128,19 +140,15 @@ module _ (s : IoApicState) (v : Vector) where
       le = first-lowest g a l
 
       go : Dec (firstAwaiting s v < g) → firstAwaiting s v ≡ g
-      go (yes k) = absurd (count-some g (λ j. awaits v (entryAt s j)) (firstAwaiting s v) k (first-awaits (omega (arith, l, k))) z)
-      go (no k) = omega (arith, first-lowest g a l)
-
-  pub before-first : (j : ℕ) → j < firstAwaiting s v → awaits v (entryAt s j) ≡ false
-  unfolding firstAwaiting
-  before-first j i = first-before 24 (λ g. awaits v (entryAt s g)) j i
+      go (yes i) = absurd (count-some g (λ j. awaits v (entryAt s j)) (firstAwaiting s v) i (first-awaits s v (omega (arith, l, i))) z)
+      go (no i) = omega (arith, first-lowest g a l)
 
   -- with some, the first is lower
-  pub first-lower : (g k : ℕ) → lowerInFlight v g s ≡ suc k → firstAwaiting s v < g
-  first-lower g k z = go (decLt (firstAwaiting s v) g)
+  pub first-lower : (g n : ℕ) → lowerInFlight v g s ≡ suc n → firstAwaiting s v < g
+  first-lower g n z = go (decLt (firstAwaiting s v) g)
     where
       go : Dec (firstAwaiting s v < g) → firstAwaiting s v < g
       go (yes l) = l
-      go (no n) =
+      go (no l) =
           let e : count g (λ j. awaits v (entryAt s j)) ≡ 0 = count-none g (λ j. awaits v (entryAt s j)) (λ j i. before-first j (omega arith)) in
           absurd (omega arith)

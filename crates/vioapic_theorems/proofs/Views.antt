@@ -11,19 +11,13 @@ use Rattle.types.specs.declared.Gsi.{Gsi}
 use Rattle.types.specs.declared.Vector.{Vector}
 use Rattle.types.specs.declared.Refusal.{Refusal}
 use Rattle.types.specs.declared.Refusal.the-variants.{Unsupported, InvalidAddress}
-use Rattle.vioapic.specs.Answers.{writtenReply}
-use Rattle.vioapic.specs.Redirection.{isFit, isLevel, remoteIrr, isMasked, sameLow, lowPart, withRemoteIrr, withoutRemoteIrr, replaceLow, replaceHigh, withWord, withPending, withInput, quietly, sending, settled, sendEntry, raiseEntry, lowerEntry, moveLine, endEntry, endEntry20, writeLow, writeHigh}
-use Rattle.vioapic.specs.Table.{isNew, entryAt, put, routeAt, unrouted, endAt, interruptForEntry, setLevel, firstAwaiting, endOfEntry, endOfEvery, endOf}
-use Rattle.vioapic.specs.Registers.{isEntryWord, entryOf, isLow, done, writeWord, writeSelected, eoiWritten, writeEoi, writeAt}
-use Rattle.vioapic.specs.IoApic.{goodWidth, withState, refuse, handleWrite}
-use Rattle.vioapic.proofs.ChipLaws.{entry-word-range}
-use Rattle.vioapic.specs.declared.redirection.Entry.{Entry}
-use Rattle.vioapic.specs.declared.redirection.EntryStep.{EntryStep}
-use Rattle.vioapic.specs.declared.IoApicState.{IoApicState}
-use Rattle.vioapic.specs.declared.EmulatedIoApic.{EmulatedIoApic}
-use Rattle.vioapic.specs.declared.Routing.{Routing}
-use Rattle.vioapic.specs.declared.Ending.{Ending}
-use Rattle.vioapic.specs.declared.Writing.{Writing}
+use Rattle.vioapic_entry.specs.Redirection.{EntryStep, isFit, isLevel, remoteIrr, isMasked, sameLow, lowPart, withRemoteIrr, withoutRemoteIrr, replaceLow, replaceHigh, withWord, withDeferred, withInput, quietly, sending, settled, sendEntry, raiseEntry, lowerEntry, moveLine, endEntry, endEntry20, writeLow, writeHigh}
+use Rattle.vioapic.specs.Table.{Routing, Ending, isVersion20, entryAt, put, routeAt, unrouted, ending, endAt, interruptForEntry, setLevel, firstAwaiting, endOfEntry, endOfEvery, endOf}
+use Rattle.vioapic.specs.Registers.{Writing, isEntryWord, entryOf, isLow, done, writeWord, writeSelected, eoiWritten, writeEoi, withSelector, writeAt}
+use Rattle.vioapic.specs.IoApic.{goodWidth, writingOutcome, refuse, handleWrite}
+use Rattle.vioapic.proofs.Ways.{entry-word-range}
+use Rattle.vioapic_entry.specs.declared.Entry.{Entry}
+use Rattle.vioapic.specs.State.{IoApicState}
 use Rattle.vioapic.specs.declared.Eoi.the-variants.{NotEnded}
 use Rattle.vioapic_theorems.specs.Premises.{asks}
 
@@ -32,7 +26,7 @@ use Rattle.vioapic_theorems.specs.Premises.{asks}
 pub data Sent (e : Entry) : EntryStep → Type 0 where
   unfit : isFit (e .word) ≡ false → Sent e (quietly e)
   edge : isFit (e .word) ≡ true → isLevel (e .word) ≡ false → Sent e (sending e)
-  later : isFit (e .word) ≡ true → isLevel (e .word) ≡ true → remoteIrr (e .word) ≡ true → Sent e (quietly (withPending e true))
+  later : isFit (e .word) ≡ true → isLevel (e .word) ≡ true → remoteIrr (e .word) ≡ true → Sent e (quietly (withDeferred e true))
   fresh : isFit (e .word) ≡ true → isLevel (e .word) ≡ true → remoteIrr (e .word) ≡ false → Sent e (sending (withWord e (withRemoteIrr (e .word))))
 
 pub sent-view : (e : Entry) → Sent e (sendEntry e)
@@ -40,7 +34,7 @@ unfolding sendEntry
 sent-view e = go (isFit (e .word)) (isLevel (e .word)) (remoteIrr (e .word)) refl refl refl
   where
     go : (a b c : Bool) → isFit (e .word) ≡ a → isLevel (e .word) ≡ b → remoteIrr (e .word) ≡ c
-        → Sent e (cond a (cond b (cond c (quietly (withPending e true)) (sending (withWord e (withRemoteIrr (e .word))))) (sending e)) (quietly e))
+        → Sent e (cond a (cond b (cond c (quietly (withDeferred e true)) (sending (withWord e (withRemoteIrr (e .word))))) (sending e)) (quietly e))
     go false b c p q r = unfit p
     go true false c p q r = edge p q
     go true true true p q r = later p q r
@@ -49,7 +43,7 @@ sent-view e = go (isFit (e .word)) (isLevel (e .word)) (remoteIrr (e .word)) ref
 -- ---- its line moves
 
 pub data Raised (e : Entry) : EntryStep → Type 0 where
-  again : e .«input_level» ≡ true → remoteIrr (e .word) ≡ true → Raised e (quietly (withPending (withInput e true) true))
+  again : e .«input_level» ≡ true → remoteIrr (e .word) ≡ true → Raised e (quietly (withDeferred (withInput e true) true))
   raised : {r : EntryStep} → Sent (withInput e true) r → Raised e r
 
 pub raised-view : (e : Entry) → Raised e (raiseEntry e)
@@ -57,14 +51,14 @@ unfolding raiseEntry
 raised-view e = go (e .«input_level») (remoteIrr (e .word)) refl refl
   where
     go : (a b : Bool) → e .«input_level» ≡ a → remoteIrr (e .word) ≡ b
-        → Raised e (cond (a && b) (quietly (withPending (withInput e true) true)) (sendEntry (withInput e true)))
+        → Raised e (cond (a && b) (quietly (withDeferred (withInput e true) true)) (sendEntry (withInput e true)))
     go true true p q = again p q
     go true false p q = raised (sent-view (withInput e true))
     go false b p q = raised (sent-view (withInput e true))
 
 pub data Moved (e : Entry) : Bool → EntryStep → Type 0 where
   up : {r : EntryStep} → Raised e r → Moved e true r
-  down : Moved e false (quietly (withPending (withInput e false) false))
+  down : Moved e false (quietly (withDeferred (withInput e false) false))
 
 pub moved-view : (e : Entry) (b : Bool) → Moved e b (moveLine e b)
 unfolding lowerEntry
@@ -73,30 +67,30 @@ moved-view e false = down
 
 -- ---- an EOI ends it
 
--- sent again, with what was put off before it or with nothing put off; or at rest
+-- sent again, with what was deferred before it or with nothing deferred; or at rest
 pub data Over (e : Entry) : EntryStep → Type 0 where
-  resent : {r : EntryStep} (b : Bool) → asks e ≡ true → (b ≡ true → e .«pending_level» ≡ true) → Sent (withPending (withWord e (withoutRemoteIrr (e .word))) b) r → Over e r
-  rested : asks e ≡ false → Over e (quietly (withPending (withWord e (withoutRemoteIrr (e .word))) false))
+  resent : {r : EntryStep} (b : Bool) → asks e ≡ true → (b ≡ true → e .«pending_level» ≡ true) → Sent (withDeferred (withWord e (withoutRemoteIrr (e .word))) b) r → Over e r
+  rested : asks e ≡ false → Over e (quietly (withDeferred (withWord e (withoutRemoteIrr (e .word))) false))
 
 pub over-view : (e : Entry) → Over e (endEntry e)
 unfolding endEntry
 over-view e = go (e .«input_level») (e .«pending_level») refl refl
   where
     go : (a b : Bool) → e .«input_level» ≡ a → e .«pending_level» ≡ b
-        → Over e (cond a (sendEntry (withWord e (withoutRemoteIrr (e .word)))) (cond b (sendEntry (withPending (withWord e (withoutRemoteIrr (e .word))) false)) (quietly (withWord e (withoutRemoteIrr (e .word))))))
+        → Over e (cond a (sendEntry (withWord e (withoutRemoteIrr (e .word)))) (cond b (sendEntry (withDeferred (withWord e (withoutRemoteIrr (e .word))) false)) (quietly (withWord e (withoutRemoteIrr (e .word))))))
     go true b p q = resent (e .«pending_level») (rw p) (λ h. h) (sent-view (withWord e (withoutRemoteIrr (e .word))))
-    go false true p q = resent false (rw (p, q)) (λ h. q) (sent-view (withPending (withWord e (withoutRemoteIrr (e .word))) false))
+    go false true p q = resent false (rw (p, q)) (λ h. q) (sent-view (withDeferred (withWord e (withoutRemoteIrr (e .word))) false))
     go false false p q =
         let at : asks e ≡ false = rw (p, q) in
-        subst⁻¹ (λ (b : Bool). Over e (quietly (withPending (withWord e (withoutRemoteIrr (e .word))) b))) q (rested at)
+        subst⁻¹ (λ (b : Bool). Over e (quietly (withDeferred (withWord e (withoutRemoteIrr (e .word))) b))) q (rested at)
 
--- in version 0x20 nothing stays put off
+-- in version 0x20 nothing stays deferred
 pub over-view20 : (e : Entry) → Over e (endEntry20 e)
 unfolding endEntry20
 over-view20 e = go (e .«input_level») (e .«pending_level») refl refl
   where
     f : Entry
-    f = withPending (withWord e (withoutRemoteIrr (e .word))) false
+    f = withDeferred (withWord e (withoutRemoteIrr (e .word))) false
 
     go : (a b : Bool) → e .«input_level» ≡ a → e .«pending_level» ≡ b → Over e (cond (a || b) (sendEntry f) (quietly f))
     go true b p q = resent false (rw p) (λ h. absurd (let z : _≡_ {A = ℕ} 0 1 = cc in omega arith)) (sent-view f)
@@ -106,23 +100,23 @@ over-view20 e = go (e .«input_level») (e .«pending_level») refl refl
 -- ---- the guest writes it
 
 pub data Wrote (e : Entry) (x : ℕ) : Entry → Type 0 where
-  kept : (b : Bool) → (b ≡ true → e .«pending_level» ≡ true) → Wrote e x (withPending e b)
-  changed : (lowPart (e .word) ≡ withoutRemoteIrr x → ⊥) → Wrote e x (withPending (withWord e (replaceLow (e .word) x)) false)
+  kept : (b : Bool) → (b ≡ true → e .«pending_level» ≡ true) → Wrote e x (withDeferred e b)
+  changed : (lowPart (e .word) ≡ withoutRemoteIrr x → ⊥) → Wrote e x (withDeferred (withWord e (replaceLow (e .word) x)) false)
   high : Wrote e x (withWord e (replaceHigh (e .word) x))
 
 pub wrote-view : (sel : ℕ) (e : Entry) (x : ℕ) → Wrote e x (writeWord sel e x)
 unfolding writeWord writeLow writeHigh
 wrote-view sel e x = go (isLow sel) (sameLow (e .word) x) refl refl
   where
-    settle : (b : Bool) → Wrote e x (cond b (withPending e false) e)
+    settle : (b : Bool) → Wrote e x (cond b (withDeferred e false) e)
     settle true = kept false (λ h. absurd (let z : _≡_ {A = ℕ} 0 1 = cc in omega arith))
     settle false = kept (e .«pending_level») (λ h. h)
 
-    plain : (f : Entry) → (b : Bool) → cond b (withPending (withPending f false) false) (withPending f false) ≡ withPending f false
+    plain : (f : Entry) → (b : Bool) → cond b (withDeferred (withDeferred f false) false) (withDeferred f false) ≡ withDeferred f false
     plain f true = refl
     plain f false = refl
 
-    go : (a b : Bool) → isLow sel ≡ a → sameLow (e .word) x ≡ b → Wrote e x (cond a (settled (cond b e (withPending (withWord e (replaceLow (e .word) x)) false))) (withWord e (replaceHigh (e .word) x)))
+    go : (a b : Bool) → isLow sel ≡ a → sameLow (e .word) x ≡ b → Wrote e x (cond a (settled (cond b e (withDeferred (withWord e (replaceLow (e .word) x)) false))) (withWord e (replaceHigh (e .word) x)))
     go true true p q = settle (isMasked (e .word))
     go true false p q =
         rw (plain (withWord e (replaceLow (e .word) x)) (isMasked (replaceLow (e .word) x))) (changed (eqb-false (lowPart (e .word)) (withoutRemoteIrr x) q))
@@ -151,47 +145,47 @@ level-view s gsi b = routes-view s gsi (λ e. moveLine e b)
 
 pub data Ends (s : IoApicState) (v : Vector) : Ending → Type 0 where
   found : firstAwaiting s v < 24 → Ends s v (endAt s (firstAwaiting s v))
-  unfound : 24 ≤ firstAwaiting s v → Ends s v (record { state = s; answer = NotEnded })
+  unfound : 24 ≤ firstAwaiting s v → Ends s v (ending s NotEnded)
 
 ends-view : (s : IoApicState) (v : Vector) → Ends s v (endOfEntry s v)
 unfolding endOfEntry
 ends-view s v = go (ltb (firstAwaiting s v) 24) refl
   where
-    go : (b : Bool) → ltb (firstAwaiting s v) 24 ≡ b → Ends s v (cond b (endAt s (firstAwaiting s v)) (record { state = s; answer = NotEnded }))
+    go : (b : Bool) → ltb (firstAwaiting s v) 24 ≡ b → Ends s v (cond b (endAt s (firstAwaiting s v)) (ending s NotEnded))
     go true p = found (ltb-true (firstAwaiting s v) 24 p)
     go false p = unfound (ltb-false (firstAwaiting s v) 24 p)
 
 -- the choice by version
 pub data EndsBy (s : IoApicState) (v : Vector) : Ending → Type 0 where
-  one : {x : Ending} → isNew s ≡ false → Ends s v x → EndsBy s v x
-  every : isNew s ≡ true → EndsBy s v (endOfEvery s v)
+  one : {x : Ending} → isVersion20 s ≡ false → Ends s v x → EndsBy s v x
+  every : isVersion20 s ≡ true → EndsBy s v (endOfEvery s v)
 
 pub ends-by : (s : IoApicState) (v : Vector) → EndsBy s v (endOf s v)
 unfolding endOf
-ends-by s v = go (isNew s) refl
+ends-by s v = go (isVersion20 s) refl
   where
-    go : (b : Bool) → isNew s ≡ b → EndsBy s v (cond b (endOfEvery s v) (endOfEntry s v))
+    go : (b : Bool) → isVersion20 s ≡ b → EndsBy s v (cond b (endOfEvery s v) (endOfEntry s v))
     go true p = every p
     go false p = one p (ends-view s v)
 
-pub ends-old : (s : IoApicState) (v : Vector) → isNew s ≡ false → Ends s v (endOf s v)
+pub ends-old : (s : IoApicState) (v : Vector) → isVersion20 s ≡ false → Ends s v (endOf s v)
 unfolding endOf
 ends-old s v o = rw o (ends-view s v)
 
 pub data Writes (s : IoApicState) (offset x : ℕ) : Writing → Type 0 where
-  selected : (y : ℕ) → Writes s offset x (done (record { version = s .version; selector = y; «in_flight» = s .«in_flight»; entries = s .entries }))
+  selected : (y : ℕ) → Writes s offset x (done (withSelector s y))
   word : (h : ℕ) (f : Entry) → h < 24 → Wrote (entryAt s h) x f → Writes s offset x (done (put s h f))
-  eoi : isNew s ≡ true → offset ≡ 0x40 → Writes s offset x (eoiWritten (endOfEvery s (record { 0 = x % 2 ^ 8 })))
+  eoi : isVersion20 s ≡ true → offset ≡ 0x40 → Writes s offset x (eoiWritten (endOfEvery s (record { 0 = x % 2 ^ 8 })))
 
 writes-view : (s : IoApicState) (offset x : ℕ) → Writes s offset x (writeAt s offset x)
 unfolding writeAt writeSelected writeEoi
-writes-view s offset x = go (eqb offset 0) (eqb offset 0x10) (eqb offset 0x40) (isEntryWord (s .selector)) (isNew s) refl refl refl
+writes-view s offset x = go (eqb offset 0) (eqb offset 0x10) (eqb offset 0x40) (isEntryWord (s .selector)) (isVersion20 s) refl refl refl
   where
     word-written : Writing
     word-written = done (put s (entryOf (s .selector)) (writeWord (s .selector) (entryAt s (entryOf (s .selector))) x))
 
-    go : (a b d c n : Bool) → eqb offset 0x40 ≡ d → isEntryWord (s .selector) ≡ c → isNew s ≡ n
-        → Writes s offset x (cond a (done (record { version = s .version; selector = x; «in_flight» = s .«in_flight»; entries = s .entries })) (cond b (cond c word-written (done s)) (cond d (cond n (eoiWritten (endOfEvery s (record { 0 = x % 2 ^ 8 }))) (done s)) (done s))))
+    go : (a b d c n : Bool) → eqb offset 0x40 ≡ d → isEntryWord (s .selector) ≡ c → isVersion20 s ≡ n
+        → Writes s offset x (cond a (done (withSelector s x)) (cond b (cond c word-written (done s)) (cond d (cond n (eoiWritten (endOfEvery s (record { 0 = x % 2 ^ 8 }))) (done s)) (done s))))
     go true b d c n o p q = selected x
     go false false false c n o p q = selected (s .selector)
     go false false true c false o p q = selected (s .selector)
@@ -202,22 +196,19 @@ writes-view s offset x = go (eqb offset 0) (eqb offset 0x10) (eqb offset 0x40) (
         word (entryOf (s .selector)) (writeWord (s .selector) (entryAt s (entryOf (s .selector))) x) (omega arith) (wrote-view (s .selector) (entryAt s (entryOf (s .selector))) x)
 
 -- a write as a call: refused, or served
-pub data Write (m : EmulatedIoApic) (addr width x : ℕ) : Outcome EmulatedIoApic → Type 0 where
+pub data Write (m : IoApicState) (addr width x : ℕ) : Outcome IoApicState → Type 0 where
   refused : (why : Refusal) → Write m addr width x (refuse m why)
-  served : {w : Writing} → goodWidth width ≡ true → m .base ≤ addr → Writes (m .state) (addr - m .base) (x % 2 ^ 32) w
-      → Write m addr width x (record { state = withState m (w .state); reply = writtenReply (w .answer) })
+  served : {w : Writing} → goodWidth width ≡ true → m .base ≤ addr → Writes m (addr - m .base) (x % 2 ^ 32) w
+      → Write m addr width x (writingOutcome w)
 
-pub write-view : (m : EmulatedIoApic) (addr width x : ℕ) → Write m addr width x (handleWrite m addr width x)
+pub write-view : (m : IoApicState) (addr width x : ℕ) → Write m addr width x (handleWrite m addr width x)
 unfolding handleWrite
 write-view m addr width x = go (goodWidth width) (leb (m .base) addr) refl refl
   where
-    done-so : Outcome EmulatedIoApic
-    done-so = record {
-      state = withState m (writeAt (m .state) (addr - m .base) (x % 2 ^ 32) .state);
-      reply = writtenReply (writeAt (m .state) (addr - m .base) (x % 2 ^ 32) .answer);
-    }
+    done-so : Outcome IoApicState
+    done-so = writingOutcome (writeAt m (addr - m .base) (x % 2 ^ 32))
 
     go : (a b : Bool) → goodWidth width ≡ a → leb (m .base) addr ≡ b → Write m addr width x (cond a (cond b done-so (refuse m InvalidAddress)) (refuse m Unsupported))
     go false b p q = refused Unsupported
     go true false p q = refused InvalidAddress
-    go true true p q = served p (leb-true (m .base) addr q) (writes-view (m .state) (addr - m .base) (x % 2 ^ 32))
+    go true true p q = served p (leb-true (m .base) addr q) (writes-view m (addr - m .base) (x % 2 ^ 32))

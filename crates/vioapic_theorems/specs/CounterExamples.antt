@@ -5,14 +5,15 @@ use mathlib.Core.Bool.{Bool, true, false, _&&_}
 use mathlib.Core.List.{List, [], _∷_}
 use mathlib.Core.Path.{_≡_, refl}
 use lib.Dec.{eqb}
+use Rattle.utils.specs.Set.{with, without}
 use Rattle.types.specs.declared.Vector.{Vector}
-use Rattle.vioapic.specs.Redirection.{sendEntry, raiseEntry, lowerEntry, endEntry, writeLow, writeHigh}
+use Rattle.vioapic_entry.specs.Redirection.{sendEntry, raiseEntry, lowerEntry, endEntry, writeLow, writeHigh}
 use Rattle.vioapic.specs.Table.{interruptForEntry, setLevel, firstAwaiting, endOfEntry, endOf}
 use Rattle.vioapic.specs.Registers.{writeWord, writeSelected, writeAt}
 use Rattle.vioapic.specs.IoApic.{chipAt, assertGsi, setGsiLevel, endOfInterrupt, handleWrite}
 use Rattle.vioapic.specs.Calls.{Call, outcome, next, run}
 use Rattle.vioapic.specs.Departures.{raise, lower, assert, eoi, select, write}
-use Rattle.vioapic.specs.declared.EmulatedIoApic.{EmulatedIoApic}
+use Rattle.vioapic.specs.State.{IoApicState}
 use Rattle.vioapic_theorems.specs.Sends.{sent, sends, eois, count, lowerInFlight}
 use Rattle.vioapic_theorems.specs.Premises.{allBelow, throughout, demanded, held}
 
@@ -20,7 +21,7 @@ abbrev pub vector : Vector
 vector = record { 0 = 0x30 }
 
 -- the chip after both entries were written and some further calls
-abbrev pub after : List Call → EmulatedIoApic
+abbrev pub after : List Call → IoApicState
 after cs = run (run (chipAt 0 0x1000) (select 0x10 ∷ write 0x8030 ∷ select 0x12 ∷ write 0x8030 ∷ [])) cs
 
 -- two lists of answers, joined one by one
@@ -30,7 +31,7 @@ both (a ∷ l) [] = a ∷ l
 both (a ∷ l) (b ∷ m) = (a && b) ∷ both l m
 
 -- of each premise, whether it holds at every call of a run
-unfoldable pub along : (EmulatedIoApic → Call → List Bool) → EmulatedIoApic → List Call → List Bool
+unfoldable pub along : (IoApicState → Call → List Bool) → IoApicState → List Call → List Bool
 along premises m [] = []
 along premises m (c ∷ cs) = both (premises m c) (along premises (next m c) cs)
 
@@ -51,7 +52,7 @@ Counters (x ∷ xs) =
     (along (demanded vector 1) (next (after (x .before)) (raise 1)) (x .from) ≡ x .demanded)
     × (along (held vector 1) (next (after (x .before)) (raise 1)) (x .from) ≡ x .held)
     × (sends 1 (after (x .before)) (raise 1 ∷ x .from) ≡ x .sent)
-    × (1 + (eois vector (x .from) - lowerInFlight vector 1 (after (x .before) .state)) ≡ x .said)
+    × (1 + (eois vector (x .from) - lowerInFlight vector 1 (after (x .before))) ≡ x .said)
     × (eqb (x .sent) (x .said) ≡ false)
     )
     × Counters xs
@@ -85,7 +86,7 @@ counterExamples =
       sent = 1;
       said = 2;
     }
-    -- a lower entry in flight is put off
+    -- a lower entry in flight is deferred
     ∷ record {
       before = assert 0 ∷ assert 0 ∷ [];
       from = eoi 0x30 ∷ eoi 0x30 ∷ [];
@@ -124,12 +125,12 @@ counterExamples =
     ∷ []
 
 pub counter-examples : Counters counterExamples
-unfolding along run outcome sends sent eois count allBelow assertGsi setGsiLevel endOfInterrupt handleWrite interruptForEntry setLevel firstAwaiting endOfEntry endOf writeWord writeSelected writeAt sendEntry raiseEntry lowerEntry endEntry writeLow writeHigh
+unfolding along run outcome with without sends sent eois count allBelow assertGsi setGsiLevel endOfInterrupt handleWrite interruptForEntry setLevel firstAwaiting endOfEntry endOf writeWord writeSelected writeAt sendEntry raiseEntry lowerEntry endEntry writeLow writeHigh
 counter-examples = ((refl, refl, refl, refl, refl), ((refl, refl, refl, refl, refl), ((refl, refl, refl, refl, refl), ((refl, refl, refl, refl, refl), ((refl, refl, refl, refl, refl), ((refl, refl, refl, refl, refl), ((refl, refl, refl, refl, refl), tt)))))))
 
 -- and the premises can all be met: entry 0 is in flight once, so of three EOIs the first goes to it, and entry 1 is sent 1 + (3 - 1) times
 pub premises-met :
     (throughout (demanded vector 1) (next (after (assert 0 ∷ [])) (raise 1)) (eoi 0x30 ∷ eoi 0x30 ∷ eoi 0x30 ∷ []) ≡ true)
     × (sends 1 (after (assert 0 ∷ [])) (raise 1 ∷ eoi 0x30 ∷ eoi 0x30 ∷ eoi 0x30 ∷ []) ≡ 3)
-unfolding along run outcome sends sent eois count allBelow assertGsi setGsiLevel endOfInterrupt handleWrite interruptForEntry setLevel firstAwaiting endOfEntry endOf writeWord writeSelected writeAt sendEntry raiseEntry lowerEntry endEntry writeLow writeHigh throughout
+unfolding along run outcome with without sends sent eois count allBelow assertGsi setGsiLevel endOfInterrupt handleWrite interruptForEntry setLevel firstAwaiting endOfEntry endOf writeWord writeSelected writeAt sendEntry raiseEntry lowerEntry endEntry writeLow writeHigh throughout
 premises-met = (refl, refl)

@@ -1,23 +1,24 @@
--- Version 0x20: what each of its two premises is for, and last spring's story run in both versions. Entries 0 and 1 are level entries of vector 0x30 on a
+-- Version 0x20: what each of its two premises is for, and last spring's story run in both versions; and what agreement is for. Entries 0 and 1 are level entries of vector 0x30 on a
 -- new chip at address 0; entry 1 is the one that is counted.
 use Prim.Native.Nat.{ℕ, _+_}
 use mathlib.Core.Bool.{true, false}
 use mathlib.Core.List.{List, [], _∷_}
 use mathlib.Core.Path.{_≡_, refl}
-use Rattle.vioapic.specs.Redirection.{sendEntry, raiseEntry, lowerEntry, endEntry, endEntry20, writeLow, writeHigh}
-use Rattle.vioapic.specs.Table.{interruptForEntry, setLevel, firstAwaiting, endOfEntry, endOfEvery, endOf}
+use Rattle.utils.specs.Set.{with, without}
+use Rattle.vioapic_entry.specs.Redirection.{sendEntry, raiseEntry, lowerEntry, endEntry, endEntry20, writeLow, writeHigh}
+use Rattle.vioapic.specs.Table.{withFlight, interruptForEntry, setLevel, firstAwaiting, endOfEntry, endOfEvery, endOf}
 use Rattle.vioapic.specs.Registers.{writeWord, writeSelected, writeEoi, writeAt}
 use Rattle.vioapic.specs.IoApic.{chipOf, assertGsi, setGsiLevel, endOfInterrupt, handleWrite}
 use Rattle.vioapic.specs.Calls.{Call, HandleWrite, outcome, next, run}
 use Rattle.vioapic.specs.Departures.{raise, lower, assert, eoi, select, write}
-use Rattle.vioapic.specs.declared.EmulatedIoApic.{EmulatedIoApic}
+use Rattle.vioapic.specs.State.{IoApicState}
 use Rattle.vioapic_theorems.specs.Sends.{sent, sends}
 use Rattle.vioapic_theorems.specs.Premises.{throughout}
 use Rattle.vioapic_theorems.specs.Heard20.{eoisAt, heldUp}
 use Rattle.vioapic_theorems.specs.CounterExamples.{vector, along}
 
 -- the chip of a version after both entries were written
-abbrev pub written : ℕ → EmulatedIoApic
+abbrev pub written : ℕ → IoApicState
 written version = run (chipOf version 0 0x1000) (select 0x10 ∷ write 0x8030 ∷ select 0x12 ∷ write 0x8030 ∷ [])
 
 -- line 1 goes up and then come some calls: entry 1 is sent once, where demand 3 would say twice
@@ -30,7 +31,7 @@ pub counter-examples-20 :
     × SentOnce (lower 1 ∷ eoi 0x30 ∷ [])
     × (along (heldUp 1) (next (written 0x20) (raise 1)) (write 0x8031 ∷ eoi 0x30 ∷ []) ≡ true ∷ false ∷ [])
     × SentOnce (write 0x8031 ∷ eoi 0x30 ∷ [])
-unfolding along run outcome sends sent eoisAt assertGsi setGsiLevel endOfInterrupt handleWrite interruptForEntry setLevel endOfEvery endOf writeWord writeSelected writeEoi writeAt sendEntry raiseEntry lowerEntry endEntry20 writeLow writeHigh
+unfolding along run outcome with without sends sent eoisAt assertGsi setGsiLevel endOfInterrupt handleWrite interruptForEntry setLevel endOfEvery endOf writeWord writeSelected writeEoi writeAt sendEntry raiseEntry lowerEntry endEntry20 writeLow writeHigh
 counter-examples-20 = (refl, (refl, refl), refl, (refl, refl))
 
 -- both lines are up, and three EOIs come, one of them a write of 0x130 to the EOI register
@@ -41,10 +42,19 @@ spring = raise 0 ∷ raise 1 ∷ eoi 0x30 ∷ HandleWrite 0x40 4 0x130 ∷ eoi 0
 pub spring-told :
     (sends 0 (written 0x11) spring ≡ 3) × (sends 1 (written 0x11) spring ≡ 1)
     × (sends 0 (written 0x20) spring ≡ 4) × (sends 1 (written 0x20) spring ≡ 4)
-unfolding run outcome sends sent setGsiLevel endOfInterrupt handleWrite setLevel firstAwaiting endOfEntry endOfEvery endOf writeWord writeSelected writeEoi writeAt sendEntry raiseEntry endEntry endEntry20 writeLow writeHigh
+unfolding run outcome with without sends sent setGsiLevel endOfInterrupt handleWrite setLevel firstAwaiting endOfEntry endOfEvery endOf writeWord writeSelected writeEoi writeAt sendEntry raiseEntry endEntry endEntry20 writeLow writeHigh
 spring-told = (refl, refl, refl, refl)
 
 -- and the premises can be met, with the lower line up all the while
 pub premises-met-20 : throughout (heldUp 1) (run (written 0x20) (raise 0 ∷ raise 1 ∷ [])) (eoi 0x30 ∷ HandleWrite 0x40 4 0x130 ∷ assert 0 ∷ eoi 0x30 ∷ []) ≡ true
-unfolding throughout run outcome assertGsi setGsiLevel endOfInterrupt handleWrite interruptForEntry setLevel endOfEvery endOf writeWord writeSelected writeEoi writeAt sendEntry raiseEntry endEntry20 writeLow writeHigh
+unfolding throughout run outcome with without assertGsi setGsiLevel endOfInterrupt handleWrite interruptForEntry setLevel endOfEvery endOf writeWord writeSelected writeEoi writeAt sendEntry raiseEntry endEntry20 writeLow writeHigh
 premises-met-20 = refl
+
+-- what agreement is for: line 0 is up and its entry in flight. Where its bit is missing from the word of lines in flight an EOI
+-- passes over the entry, in both versions, and where it is there the entry is sent again
+abbrev pub sentIf : ℕ → ℕ → ℕ
+sentIf version lines = sends 0 (withFlight (run (written version) (raise 0 ∷ [])) lines) (eoi 0x30 ∷ [])
+
+pub agreement-needed : (sentIf 0x11 0 ≡ 0) × (sentIf 0x11 1 ≡ 1) × (sentIf 0x20 0 ≡ 0) × (sentIf 0x20 1 ≡ 1)
+unfolding run outcome with without sends sent setGsiLevel endOfInterrupt handleWrite setLevel firstAwaiting endOfEntry endOfEvery endOf writeWord writeSelected writeEoi writeAt sendEntry raiseEntry endEntry endEntry20 writeLow writeHigh
+agreement-needed = (refl, refl, refl, refl)

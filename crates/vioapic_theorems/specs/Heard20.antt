@@ -5,16 +5,17 @@ use mathlib.Core.Bool.{Bool, true, false, cond, _&&_}
 use mathlib.Core.List.{List, [], _∷_}
 use mathlib.Core.Path.{_≡_}
 use lib.Dec.{eqb}
-use lib.ListN.{length, replicate}
+use lib.ListN.{replicate}
 use Rattle.types.specs.declared.Gsi.{Gsi}
 use Rattle.types.specs.declared.Vector.{Vector}
 use Rattle.types.specs.declared.Reply.the-variants.{Two}
-use Rattle.vioapic.specs.Redirection.{isFit, awaits}
-use Rattle.vioapic.specs.Table.{isNew, entryAt}
+use Rattle.vioapic_entry.specs.Redirection.{isFit, awaits}
+use Rattle.vioapic.specs.Table.{isVersion20, entryAt}
+use Rattle.vioapic.specs.Agreement.{Agrees}
 use Rattle.vioapic.specs.IoApic.{goodWidth, chipOf, setGsiLevel}
 use Rattle.vioapic.specs.Calls.{Call, SetGsiLevel, AssertGsi, EndOfInterrupt, VectorForGsi, AddressRange, HandleRead, HandleWrite, outcome, next, run}
-use Rattle.vioapic.specs.declared.redirection.Entry.{Entry}
-use Rattle.vioapic.specs.declared.EmulatedIoApic.{EmulatedIoApic}
+use Rattle.vioapic_entry.specs.declared.Entry.{Entry}
+use Rattle.vioapic.specs.State.{IoApicState}
 use Rattle.vioapic_theorems.specs.Rules.{implies, ChipRules}
 use Rattle.vioapic_theorems.specs.Sends.{sent, sends}
 use Rattle.vioapic_theorems.specs.Premises.{always, lineUp, keepsLow, asks, throughout}
@@ -38,39 +39,40 @@ eoisAt base v (c ∷ cs) = cond (isEoiAt base v c) 1 0 + eoisAt base v cs
 
 -- ---- one EOI
 
--- what an EOI of v sends again: in flight with v (and so level), fit to be sent, and its line is up or something was put off
+-- what an EOI of v sends again: in flight with v (and so level), fit to be sent, and its line is up or something was deferred
 abbrev pub again : Vector → Entry → Bool
 again v e = awaits v e && (isFit (e .word) && asks e)
 
--- from any chip of version 0x20, by either road, for each entry: it is sent exactly if it is such a one; it is in flight with v afterwards exactly if it
--- was sent; and if it was in flight with v, nothing is put off any more
+-- from any chip of version 0x20 whose word of lines in flight agrees, by either road, for each entry: it is sent exactly if it is
+-- such a one; it is in flight with v afterwards exactly if it was sent; and if it was in flight with v, nothing is deferred any more
 abbrev pub EveryEnded : Type 0
 EveryEnded =
-    (m : EmulatedIoApic) (g : ℕ) (v : Vector) (c : Call)
-    → isNew (m .state) ≡ true
+    (m : IoApicState) (g : ℕ) (v : Vector) (c : Call)
+    → isVersion20 m ≡ true
+    → Agrees m
     → g < 24
     → isEoiAt (m .base) v c ≡ true
-    → (sent g c (outcome m c .reply) ≡ cond (again v (entryAt (m .state) g)) 1 0)
-    × (awaits v (entryAt (next m c .state) g) ≡ again v (entryAt (m .state) g))
-    × (awaits v (entryAt (m .state) g) ≡ true → entryAt (next m c .state) g .«pending_level» ≡ false)
+    → (sent g c (outcome m c .reply) ≡ cond (again v (entryAt m g)) 1 0)
+    × (awaits v (entryAt (next m c) g) ≡ again v (entryAt m g))
+    × (awaits v (entryAt m g) ≡ true → entryAt (next m c) g .«pending_level» ≡ false)
 
 -- ---- demand 3
 
 -- its premises: the line of entry g stays up, and its low word, Remote IRR apart, the same
-abbrev pub heldUp : ℕ → EmulatedIoApic → Call → List Bool
+abbrev pub heldUp : ℕ → IoApicState → Call → List Bool
 heldUp g m c = always (lineUp g) m c ∷ keepsLow m c g ∷ []
 
 -- the count: raising line g sends its level entry with vector v, and then come the calls `after`. Entry g is sent, that first time counted, once and
 -- then once more for each EOI of v
-abbrev pub SentEachTime : EmulatedIoApic → Gsi → Vector → List Call → Type 0
+abbrev pub SentEachTime : IoApicState → Gsi → Vector → List Call → Type 0
 SentEachTime m g v after = sends (g .0) m (SetGsiLevel g true ∷ after) ≡ 1 + eoisAt (m .base) v after
 
--- from any chip of version 0x20 with 24 entries, and so from any that keeps the rules
+-- from any chip of version 0x20 with 24 entries whose word of lines in flight agrees, and so from any that keeps the rules
 abbrev pub Heard20 : Type 0
 Heard20 =
-    (m : EmulatedIoApic) (g : Gsi) (v : Vector) (after : List Call)
-    → isNew (m .state) ≡ true
-    → length (m .state .entries) ≡ 24
+    (m : IoApicState) (g : Gsi) (v : Vector) (after : List Call)
+    → isVersion20 m ≡ true
+    → Agrees m
     → setGsiLevel m g true .reply ≡ Two (v .0) 1
     → throughout (heldUp (g .0)) (next m (SetGsiLevel g true)) after ≡ true
     → SentEachTime m g v after
@@ -89,32 +91,33 @@ Demand3Of20 =
 abbrev pub waits : Vector → Entry → Bool
 waits v e = awaits v e && (isFit (e .word) && e .«input_level»)
 
--- two such entries: one EOI of v, by either road, sends both
+-- two such entries, where the word of lines in flight agrees: one EOI of v, by either road, sends both
 abbrev pub BothSent : Type 0
 BothSent =
-    (m : EmulatedIoApic) (g h : ℕ) (v : Vector) (c : Call)
-    → isNew (m .state) ≡ true
+    (m : IoApicState) (g h : ℕ) (v : Vector) (c : Call)
+    → isVersion20 m ≡ true
+    → Agrees m
     → g < 24
     → h < 24
-    → waits v (entryAt (m .state) g) ≡ true
-    → waits v (entryAt (m .state) h) ≡ true
+    → waits v (entryAt m g) ≡ true
+    → waits v (entryAt m h) ≡ true
     → isEoiAt (m .base) v c ≡ true
     → (sent g c (outcome m c .reply) ≡ 1) × (sent h c (outcome m c .reply) ≡ 1)
 
 -- whichever of the calls is an EOI of v sends entry g
-abbrev pub sentAtEoi : Vector → ℕ → EmulatedIoApic → Call → Bool
+abbrev pub sentAtEoi : Vector → ℕ → IoApicState → Call → Bool
 sentAtEoi v g m c = implies (isEoiAt (m .base) v c) (eqb (sent g c (outcome m c .reply)) 1)
 
 -- and over any calls, while their lines stay up and their low words the same, every EOI of v does
 abbrev pub BothHeard : Type 0
 BothHeard =
-    (m : EmulatedIoApic) (g h : ℕ) (v : Vector) (cs : List Call)
-    → isNew (m .state) ≡ true
-    → length (m .state .entries) ≡ 24
+    (m : IoApicState) (g h : ℕ) (v : Vector) (cs : List Call)
+    → isVersion20 m ≡ true
+    → Agrees m
     → g < 24
     → h < 24
-    → waits v (entryAt (m .state) g) ≡ true
-    → waits v (entryAt (m .state) h) ≡ true
+    → waits v (entryAt m g) ≡ true
+    → waits v (entryAt m h) ≡ true
     → throughout (heldUp g) m cs ≡ true
     → throughout (heldUp h) m cs ≡ true
     → throughout (λ n c. sentAtEoi v g n c ∷ sentAtEoi v h n c ∷ []) m cs ≡ true
@@ -123,13 +126,13 @@ BothHeard =
 -- vector come, and nothing else, each of them sends both
 abbrev pub NeverStarved : Type 0
 NeverStarved =
-    (m : EmulatedIoApic) (h g : ℕ) (v : Vector) (n : ℕ)
-    → isNew (m .state) ≡ true
-    → ChipRules (m .state)
+    (m : IoApicState) (h g : ℕ) (v : Vector) (n : ℕ)
+    → isVersion20 m ≡ true
+    → ChipRules m
     → h < g
     → g < 24
-    → awaits v (entryAt (m .state) h) ≡ true
-    → entryAt (m .state) h .«input_level» ≡ true
-    → awaits v (entryAt (m .state) g) ≡ true
-    → entryAt (m .state) g .«input_level» ≡ true
+    → awaits v (entryAt m h) ≡ true
+    → entryAt m h .«input_level» ≡ true
+    → awaits v (entryAt m g) ≡ true
+    → entryAt m g .«input_level» ≡ true
     → (sends h m (replicate n (EndOfInterrupt v)) ≡ n) × (sends g m (replicate n (EndOfInterrupt v)) ≡ n)

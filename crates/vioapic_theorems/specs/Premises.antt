@@ -7,12 +7,11 @@ use lib.Dec.{eqb, ltb}
 use Rattle.types.specs.declared.Vector.{Vector}
 use Rattle.types.specs.declared.Reply.{Reply}
 use Rattle.types.specs.declared.Reply.the-variants.{Refused, Nothing, One, Two, Three}
-use Rattle.vioapic.specs.Redirection.{lowPart, isLevel, hasVector, awaits}
+use Rattle.vioapic_entry.specs.Redirection.{lowPart, isLevel, hasVector, awaits}
 use Rattle.vioapic.specs.Table.{entryAt, firstAwaiting}
 use Rattle.vioapic.specs.Calls.{Call, SetGsiLevel, AssertGsi, EndOfInterrupt, VectorForGsi, AddressRange, HandleRead, HandleWrite, outcome, next}
-use Rattle.vioapic.specs.declared.redirection.Entry.{Entry}
-use Rattle.vioapic.specs.declared.IoApicState.{IoApicState}
-use Rattle.vioapic.specs.declared.EmulatedIoApic.{EmulatedIoApic}
+use Rattle.vioapic_entry.specs.declared.Entry.{Entry}
+use Rattle.vioapic.specs.State.{IoApicState}
 use Rattle.vioapic_theorems.specs.Rules.{implies}
 use Rattle.vioapic_theorems.specs.Sends.{isEoi}
 
@@ -26,24 +25,24 @@ allTrue [] = true
 allTrue (b ∷ bs) = b && allTrue bs
 
 -- the low word of entry j, Remote IRR apart, is the same after the call
-abbrev pub keepsLow : EmulatedIoApic → Call → ℕ → Bool
-keepsLow m c j = eqb (lowPart (entryAt (next m c .state) j .word)) (lowPart (entryAt (m .state) j .word))
+abbrev pub keepsLow : IoApicState → Call → ℕ → Bool
+keepsLow m c j = eqb (lowPart (entryAt (next m c) j .word)) (lowPart (entryAt m j .word))
 
 -- no lower entry in flight with v has its low word changed
-abbrev pub lowerKept : Vector → ℕ → EmulatedIoApic → Call → Bool
-lowerKept v g m c = allBelow g (λ j. implies (awaits v (entryAt (m .state) j)) (keepsLow m c j))
+abbrev pub lowerKept : Vector → ℕ → IoApicState → Call → Bool
+lowerKept v g m c = allBelow g (λ j. implies (awaits v (entryAt m j)) (keepsLow m c j))
 
 -- ---- in the demand's own words
 
 -- the test holds before the call and after it
-abbrev pub always : (IoApicState → Bool) → EmulatedIoApic → Call → Bool
-always p m c = p (m .state) && p (next m c .state)
+abbrev pub always : (IoApicState → Bool) → IoApicState → Call → Bool
+always p m c = p m && p (next m c)
 
 -- the line of entry g is up
 abbrev pub lineUp : ℕ → IoApicState → Bool
 lineUp g s = entryAt s g .«input_level»
 
--- no lower entry in flight with v has its line up; none is put off
+-- no lower entry in flight with v has its line up; none is deferred
 abbrev pub lowerDown : Vector → ℕ → IoApicState → Bool
 lowerDown v g s = allBelow g (λ j. implies (awaits v (entryAt s j)) (not (entryAt s j .«input_level»)))
 
@@ -62,19 +61,19 @@ lowerUnasserted v g s (HandleWrite a w x) = true
 
 -- the line stays up and the low word the same; and what is said of the lower entries. The demand's further premise, that no lower level entry of v is
 -- raised, is superfluous and left out: raising one either puts it in flight with its line up, which `lowerDown` forbids, or sends nothing
-abbrev pub demanded : Vector → ℕ → EmulatedIoApic → Call → List Bool
+abbrev pub demanded : Vector → ℕ → IoApicState → Call → List Bool
 demanded v g m c =
     always (lineUp g) m c
     ∷ keepsLow m c g
     ∷ always (lowerDown v g) m c
     ∷ always (lowerUndeferred v g) m c
     ∷ lowerKept v g m c
-    ∷ lowerUnasserted v g (m .state) c
+    ∷ lowerUnasserted v g m c
     ∷ []
 
 -- ---- what is needed
 
--- the entry asks to be sent again at its EOI: its line is up, or an interrupt was put off
+-- the entry asks to be sent again at its EOI: its line is up, or an interrupt was deferred
 abbrev pub asks : Entry → Bool
 asks e = cond (e .«input_level») true (e .«pending_level»)
 
@@ -104,11 +103,11 @@ lowerUnsent v g AddressRange r = true
 lowerUnsent v g (HandleRead a w) r = true
 lowerUnsent v g (HandleWrite a w x) r = true
 
-abbrev pub held : Vector → ℕ → EmulatedIoApic → Call → List Bool
+abbrev pub held : Vector → ℕ → IoApicState → Call → List Bool
 held v g m c =
-    ownAsks v g (m .state) c
+    ownAsks v g m c
     ∷ keepsLow m c g
-    ∷ lowerRests v g (m .state) c
+    ∷ lowerRests v g m c
     ∷ lowerKept v g m c
     ∷ lowerUnsent v g c (outcome m c .reply)
     ∷ []
@@ -116,6 +115,6 @@ held v g m c =
 -- ---- over a run
 
 -- the premises hold at every call of the run
-unfoldable pub throughout : (EmulatedIoApic → Call → List Bool) → EmulatedIoApic → List Call → Bool
+unfoldable pub throughout : (IoApicState → Call → List Bool) → IoApicState → List Call → Bool
 throughout premises m [] = true
 throughout premises m (c ∷ cs) = allTrue (premises m c) && throughout premises (next m c) cs

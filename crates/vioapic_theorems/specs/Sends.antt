@@ -9,11 +9,10 @@ use Rattle.utils.specs.Set.{bit}
 use Rattle.types.specs.declared.Vector.{Vector}
 use Rattle.types.specs.declared.Reply.{Reply}
 use Rattle.types.specs.declared.Reply.the-variants.{Refused, Nothing, One, Two, Three}
-use Rattle.vioapic.specs.Redirection.{awaits}
+use Rattle.vioapic_entry.specs.Redirection.{awaits}
 use Rattle.vioapic.specs.Table.{entryAt}
 use Rattle.vioapic.specs.Calls.{Call, SetGsiLevel, AssertGsi, EndOfInterrupt, VectorForGsi, AddressRange, HandleRead, HandleWrite, outcome, next}
-use Rattle.vioapic.specs.declared.IoApicState.{IoApicState}
-use Rattle.vioapic.specs.declared.EmulatedIoApic.{EmulatedIoApic}
+use Rattle.vioapic.specs.State.{IoApicState}
 
 -- a reply that carries a line's interrupt
 abbrev pub routes : Reply → ℕ
@@ -42,7 +41,7 @@ sent g (HandleRead a w) r = 0
 sent g (HandleWrite a w x) r = resends g r
 
 -- how often a run sends entry g
-unfoldable pub sends : ℕ → EmulatedIoApic → List Call → ℕ
+unfoldable pub sends : ℕ → IoApicState → List Call → ℕ
 sends g m [] = 0
 sends g m (c ∷ cs) = sent g c (outcome m c .reply) + sends g (next m c) cs
 

@@ -13,7 +13,7 @@ use Rattle.vlapic.specs.declared.ReadAnswer.the-variants as read
 use Rattle.vlapic.specs.declared.WriteAnswer.{WriteAnswer}
 use Rattle.vlapic.specs.declared.WriteAnswer.the-variants as write
 use Rattle.vlapic.specs.declared.Written.{Written}
-use Rattle.vlapic.specs.Answers.{eoiReply, readReply, writeReply, regsOutcome, eoiOutcome, writeOutcome}
+use Rattle.vlapic.specs.Answers.{eoiReply, readReply, writeReply, eoiOutcome, writeOutcome, done}
 
 abbrev eoiOf : Reply → EoiAnswer
 eoiOf (reply.Refused why) = eoi.Nothing
@@ -65,8 +65,8 @@ stateOf o = o .state
 abbrev replyOf : Outcome VirtualApicRegs → Reply
 replyOf o = o .reply
 
-pub regs-outcome-same : (a b : VirtualApicRegs) → regsOutcome a ≡ regsOutcome b → a ≡ b
-regs-outcome-same a b e = ap stateOf e
+pub done-same : (a b : VirtualApicRegs) → done a ≡ done b → a ≡ b
+done-same a b e = ap stateOf e
 
 pub eoi-outcome-same : (a b : EoiStep) → eoiOutcome a ≡ eoiOutcome b → a ≡ b
 eoi-outcome-same a b e =

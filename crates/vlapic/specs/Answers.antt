@@ -30,17 +30,13 @@ writeReply write.Done = reply.Nothing
 writeReply (write.Ipi kind vector mask) = reply.Three kind (vector .0) mask
 writeReply (write.Refused why) = reply.Refused why
 
--- of a call that answers nothing
-abbrev pub regsOutcome : VirtualApicRegs → Outcome VirtualApicRegs
-regsOutcome r = record { state = r; reply = reply.Nothing }
-
 abbrev pub eoiOutcome : EoiStep → Outcome VirtualApicRegs
 eoiOutcome r = record { state = r .regs; reply = eoiReply (r .answer) }
 
 abbrev pub writeOutcome : Written → Outcome VirtualApicRegs
 writeOutcome r = record { state = r .regs; reply = writeReply (r .answer) }
 
--- the outcomes that a definition gives: done, an IPI sent, refused
+-- the outcomes that a definition gives: done (so is that of a call that answers nothing), an IPI sent, refused
 abbrev pub done : VirtualApicRegs → Outcome VirtualApicRegs
 done s = record { state = s; reply = reply.Nothing }
 

@@ -1,25 +1,26 @@
 -- The calls that can be refused: setup and the write of a register. (Acceptance and EOI stand in Priority, the read in Registers.)
 -- Intel SDM volume 3, the APIC chapter: local APIC register address map; ICR in xAPIC and in x2APIC mode; SELF IPI register.
-use Prim.Native.Nat.{ℕ, _/_, _%_}
-use mathlib.Core.Bool.{Bool, true, not, cond}
+use Prim.Native.Nat.{ℕ, _%_}
+use mathlib.Core.Bool.{Bool, cond, _||_}
 use lib.Dec.{eqb, ltb}
 use Rattle.types.specs.declared.VcpuId.{VcpuId}
 use Rattle.types.specs.declared.Refusal.the-variants.{InvalidRegister, OutOfRange}
 use Rattle.types.specs.Reply.{Outcome}
+use Rattle.vlapic_regs.specs.Register.{illegalNoted}
 use Rattle.vlapic_icr.specs.declared.InterruptCommand.{InterruptCommand}
 use Rattle.vlapic_icr.specs.declared.IcrAnswer.{IcrAnswer}
 use Rattle.vlapic_icr.specs.declared.IcrAnswer.the-variants.{Nothing, SendIllegalVector, Ipi, Refused}
-use Rattle.vlapic_icr.specs.Fields.{idle}
+use Rattle.vlapic_icr.specs.Fields.{idle, icrWidth, icrHigh}
 use Rattle.vlapic_icr.specs.Icr.{command, selfIpi}
 use Rattle.vlapic.specs.declared.VirtualApicRegs.{VirtualApicRegs}
-use Rattle.vlapic.specs.Regs.{start, withError, withCommand}
+use Rattle.vlapic.specs.Regs.{start, withPending, withCommand}
 use Rattle.vlapic.specs.Answers.{done, sent, refused}
 use Rattle.vlapic.specs.Priority.{handleEoi}
 use Rattle.vlapic.specs.Registers.{writeStored}
 
 -- more vCPUs than a mask has bits, or an own id that no mask can hold
 abbrev pub outOfRange : ℕ → ℕ → Bool
-outOfRange num id = cond (ltb 64 num) true (ltb 63 id)
+outOfRange num id = ltb 64 num || ltb 63 id
 
 -- a new local APIC in the place of s
 unfoldable pub setup : VirtualApicRegs → Bool → VcpuId → ℕ → Outcome VirtualApicRegs
@@ -38,10 +39,9 @@ commandOf s = record {
   «icr_hi» = s .«icr_hi»;
 }
 
--- an illegal vector sets error bit 5, send illegal vector
 abbrev pub answered : VirtualApicRegs → IcrAnswer → Outcome VirtualApicRegs
 answered s Nothing = done s
-answered s SendIllegalVector = done (withError s 5)
+answered s SendIllegalVector = done (withPending s (illegalNoted (s .«esr_pending»)))
 answered s (Ipi kind vector mask) = sent s kind (vector .0) mask
 answered s (Refused why) = refused s why
 
@@ -49,18 +49,11 @@ answered s (Refused why) = refused s why
 unfoldable pub writeIcr : VirtualApicRegs → ℕ → ℕ → ℕ → ℕ → Outcome VirtualApicRegs
 writeIcr s lo hi num active = answered (withCommand s (idle lo) hi) (command (commandOf (withCommand s (idle lo) hi)) num active)
 
--- the ICR is written whole, by 8 bytes, in x2APIC mode, and never by 8 bytes in xAPIC mode, where its high word has its own offset
-abbrev pub icrWidth : Bool → ℕ → Bool
-icrWidth x2apic width = cond x2apic (eqb width 8) (not (eqb width 8))
-
-abbrev pub icrHigh : Bool → ℕ → ℕ → ℕ
-icrHigh x2apic val hi = cond x2apic (val / 0x100000000) hi
-
 unfoldable pub writeIcrLow : VirtualApicRegs → ℕ → ℕ → ℕ → ℕ → Outcome VirtualApicRegs
 writeIcrLow s val width num active =
-    cond (s .x2apic)
-    (cond (eqb width 8) (writeIcr s (val % 0x100000000) (val / 0x100000000) num active) (refused s InvalidRegister))
-    (cond (eqb width 8) (refused s InvalidRegister) (writeIcr s (val % 0x100000000) (s .«icr_hi») num active))
+    cond (icrWidth (s .x2apic) width)
+    (writeIcr s (val % 0x100000000) (icrHigh (s .x2apic) val (s .«icr_hi»)) num active)
+    (refused s InvalidRegister)
 
 -- the self-IPI register is there in x2APIC mode alone; the low byte is the vector
 unfoldable pub writeSelfIpi : VirtualApicRegs → ℕ → Outcome VirtualApicRegs

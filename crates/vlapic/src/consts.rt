@@ -49,6 +49,3 @@ pub const SELF_IPI: u64 = 0x3f0;
 pub const RESET_LVT_REG: u32 = 0x10000;
 
 pub const RESET_SPURIOUS_INTERRUPT_VECTOR: u32 = 0xff;
-
-// The error status register's bit "send illegal vector".
-pub const SEND_ILLEGAL_VECTOR: u32 = 5;

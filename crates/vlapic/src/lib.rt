@@ -8,15 +8,15 @@
 // APIC base register were left out, `setup` was added, and each function has its contract.
 
 ghost use mathlib.Core.Path.{_≡_};
-ghost use mathlib.Core.Bool.{false, not, cond};
+ghost use mathlib.Core.Bool.{false};
 ghost use Prim.Native.Nat.{_<_, _≤_};
-ghost use Rattle.types.specs.declared.Refusal.the-variants.{InvalidRegister};
 ghost use Rattle.types.specs.declared.Reply.the-variants.{One};
-ghost use Rattle.vlapic.specs.Regs.{start, servicing, withError};
-ghost use Rattle.vlapic.specs.Answers.{eoiReply, readReply, writeReply, regsOutcome, eoiOutcome, writeOutcome, done, refused};
-ghost use Rattle.vlapic.specs.Priority.{findIsrv, priority, updatePpr, acceptInterrupt, broadcast, broadcasts, handleEoi};
-ghost use Rattle.vlapic.specs.Registers.{idWord, readable, wordAt, eightFrom, eightAt, handleRead, lvtEntries, listed, stored, writeStored};
-ghost use Rattle.vlapic.specs.Calls.{outOfRange, setup, answered, icrWidth, icrHigh, writeIcr, writeIcrLow, writeSelfIpi, handleWrite};
+ghost use Rattle.vlapic.specs.Regs.{start, withIsr, withTmr, withTpr, withLdr, withDfr, withSvr, withErrors, withPending, withIcrHi};
+ghost use Rattle.vlapic.specs.Answers.{eoiReply, readReply, writeReply, eoiOutcome, writeOutcome, done, refused};
+ghost use Rattle.vlapic_regs.specs.Register.{lowByte, topByte, modelBits, errorsShown, illegalNoted};
+ghost use Rattle.vlapic.specs.Priority.{findIsrv, updatePpr, acceptInterrupt, broadcasts, handleEoi};
+ghost use Rattle.vlapic.specs.Registers.{readable, wordAt, eightFrom, eightAt, handleRead, inXapic, lvtStored, outcomeAt, writeStored};
+ghost use Rattle.vlapic.specs.Calls.{outOfRange, setup, answered, writeIcr, writeIcrLow, writeSelfIpi, handleWrite};
 
 pub mod consts;
 
@@ -27,6 +27,7 @@ use types::Vector;
 use vlapic_icr::IcrAnswer;
 use vlapic_icr::InterruptCommand;
 use vlapic_regs::lvt;
+use vlapic_regs::register;
 use vlapic_regs::vectors;
 
 // The registers of one vCPU's local APIC.
@@ -166,7 +167,7 @@ fn reset(x2apic: bool, vapic_id: u32) -> VirtualApicRegs
 impl VirtualApicRegs {
     // The local APIC of vCPU 0 in xAPIC mode.
     pub fn new() -> VirtualApicRegs
-        ensures { λ r. ⌜ regsOutcome r ≡ done (start false 0) ⌝ }
+        ensures { λ r. ⌜ r ≡ start false 0 ⌝ }
     {
         reset(false, 0)
     }
@@ -212,13 +213,13 @@ impl VirtualApicRegs {
         ensures { λ r. ⌜ r ≡ updatePpr self ⌝ }
     {
         let isrv = self.find_isrv();
-        self.ppr = ppr_of(self.tpr, isrv);
+        self.ppr = register::ppr(self.tpr, isrv);
         self
     }
 
     // Puts the vectors that are in service and those that are level-triggered.
     fn service(mut self, isr: [u32; 8], tmr: [u32; 8]) -> VirtualApicRegs
-        ensures { λ r. ⌜ r ≡ updatePpr (servicing self (self .ppr) isr tmr) ⌝ }
+        ensures { λ r. ⌜ r ≡ updatePpr (withTmr (withIsr self isr) tmr) ⌝ }
     {
         self.isr = isr;
         self.tmr = tmr;
@@ -227,7 +228,7 @@ impl VirtualApicRegs {
 
     // Records that the processor accepted an interrupt.
     pub fn accept_interrupt(self, vector: Vector, level_triggered: bool) -> VirtualApicRegs
-        ensures { λ r. ⌜ regsOutcome r ≡ acceptInterrupt self vector «level_triggered» ⌝ }
+        ensures { λ r. ⌜ done r ≡ acceptInterrupt self vector «level_triggered» ⌝ }
     {
         let isr = self.isr;
         let tmr = self.tmr;
@@ -242,7 +243,7 @@ impl VirtualApicRegs {
         ensures { λ r. ⌜ r ≡ broadcasts self (vector .0) ⌝ }
     {
         let tmr = self.tmr;
-        is_broadcast(vectors::has(tmr, vector), self.svr)
+        register::is_eoi_broadcast(vectors::has(tmr, vector), self.svr)
     }
 
     fn process_eoi(self) -> EoiStep
@@ -278,47 +279,6 @@ impl VirtualApicRegs {
     }
 }
 
-// Whether the end of a vector is broadcast, by its trigger mode: SVR bit 12 suppresses it.
-pub fn is_broadcast(level_triggered: bool, svr: u32) -> bool
-    ensures { λ r. ⌜ r ≡ broadcast «level_triggered» svr ⌝ }
-{
-    if level_triggered {
-        return svr / 4096 % 2 != 1;
-    }
-    false
-}
-
-// PPR by TPR and the highest vector in service.
-pub fn ppr_of(tpr: u32, isrv: Vector) -> u32
-    ensures { λ r. ⌜ r ≡ priority tpr (isrv .0) ⌝ }
-{
-    let class = utils::prio(isrv.0 as u32);
-    if utils::prio(tpr) >= class {
-        return tpr;
-    }
-    class * 16
-}
-
-// The ICR is written whole, by 8 bytes, in x2APIC mode, and never by 8 bytes in xAPIC mode.
-pub fn is_icr_width(x2apic: bool, width: u8) -> bool
-    ensures { λ r. ⌜ r ≡ icrWidth x2apic width ⌝ }
-{
-    if x2apic {
-        return width == 8;
-    }
-    width != 8
-}
-
-// The ICR's high word after that: the value's in x2APIC mode, else the one that stands there.
-pub fn icr_high(x2apic: bool, val: u64, icr_hi: u32) -> u32
-    ensures { λ r. ⌜ r ≡ icrHigh x2apic val «icr_hi» ⌝ }
-{
-    if x2apic {
-        return (val / 0x100000000) as u32;
-    }
-    icr_hi
-}
-
 // One of eight words that stand 0x10 apart.
 fn is_eight_from(base: u64, offset: u64) -> bool
     requires { ⌜ base < 0x1000 ⌝ }
@@ -340,16 +300,6 @@ fn word_at(words: [u32; 8], offset: u64) -> ReadAnswer
 }
 
 impl VirtualApicRegs {
-    // The ID register's word.
-    fn id_word(self) -> u32
-        ensures { λ r. ⌜ r ≡ idWord self ⌝ }
-    {
-        if self.x2apic {
-            return self.vapic_id;
-        }
-        self.vapic_id % 256 * 0x1000000
-    }
-
     // Reads the register at an offset: the word that is stored.
     pub fn handle_read(self, offset: u64) -> ReadAnswer
         ensures { λ r. ⌜ readReply r ≡ handleRead self offset ⌝ }
@@ -370,7 +320,7 @@ impl VirtualApicRegs {
         ensures { λ r. ⌜ readReply r ≡ wordAt (readable self) offset ⌝ }
     {
         match offset {
-            consts::ID => ReadAnswer::Value(self.id_word()),
+            consts::ID => ReadAnswer::Value(register::id(self.x2apic, self.vapic_id)),
             consts::TPR => ReadAnswer::Value(self.tpr),
             consts::PPR => ReadAnswer::Value(self.ppr),
             consts::LDR => ReadAnswer::Value(self.ldr),
@@ -393,52 +343,53 @@ impl VirtualApicRegs {
 
 impl VirtualApicRegs {
     fn write_tpr(mut self, val: u32) -> VirtualApicRegs
-        ensures { λ r. ⌜ r ≡ stored self 0x80 val ⌝ }
+        ensures { λ r. ⌜ r ≡ withTpr self (lowByte val) ⌝ }
     {
-        self.tpr = val % 0x100;
+        self.tpr = register::tpr(val);
         self
     }
 
     fn write_ldr(mut self, val: u32) -> VirtualApicRegs
-        ensures { λ r. ⌜ r ≡ stored self 0xd0 val ⌝ }
+        ensures { λ r. ⌜ r ≡ withLdr self (topByte val) ⌝ }
     {
-        self.ldr = val / 0x1000000 * 0x1000000;
+        self.ldr = register::ldr(val);
         self
     }
 
     fn write_dfr(mut self, val: u32) -> VirtualApicRegs
-        ensures { λ r. ⌜ r ≡ stored self 0xe0 val ⌝ }
+        ensures { λ r. ⌜ r ≡ withDfr self (modelBits val) ⌝ }
     {
-        self.dfr = val / 0x10000000 * 0x10000000 + 0xfffffff;
+        self.dfr = register::dfr(val);
         self
     }
 
     fn write_svr(mut self, val: u32) -> VirtualApicRegs
-        ensures { λ r. ⌜ r ≡ stored self 0xf0 val ⌝ }
+        ensures { λ r. ⌜ r ≡ withSvr self val ⌝ }
     {
-        self.svr = val;
+        self.svr = register::svr(val);
         self
     }
 
     // Shows the errors since the last write.
-    fn write_esr(mut self, val: u32) -> VirtualApicRegs
-        ensures { λ r. ⌜ r ≡ stored self 0x280 val ⌝ }
+    fn write_esr(mut self) -> VirtualApicRegs
+        ensures { λ r. ⌜ r ≡ withErrors self (errorsShown (self .«esr_pending»)) ⌝ }
     {
-        self.esr = self.esr_pending;
-        self.esr_pending = 0;
+        let errors = register::esr(self.esr_pending);
+        self.esr = errors.esr;
+        self.esr_pending = errors.esr_pending;
         self
     }
 
     fn write_icr_hi(mut self, val: u32) -> VirtualApicRegs
-        ensures { λ r. ⌜ r ≡ stored self 0x310 val ⌝ }
+        ensures { λ r. ⌜ r ≡ withIcrHi self (topByte val) ⌝ }
     {
-        self.icr_hi = val / 0x1000000 * 0x1000000;
+        self.icr_hi = register::icr_hi(val);
         self
     }
 
     // Writes an entry of the local vector table; another offset is refused.
     fn write_lvt(mut self, offset: u64, val: u32) -> Written
-        ensures { λ r. ⌜ writeOutcome r ≡ cond (listed offset lvtEntries) (done (stored self offset val)) (refused self InvalidRegister) ⌝ }
+        ensures { λ r. ⌜ writeOutcome r ≡ outcomeAt self (lvtStored self val) offset ⌝ }
     {
         match offset {
             consts::LVT_CMCI => {
@@ -475,12 +426,12 @@ impl VirtualApicRegs {
 
     // What a register that only xAPIC mode has leaves after its write.
     fn in_xapic(self, next: VirtualApicRegs) -> Written
-        ensures { λ r. ⌜ writeOutcome r ≡ cond (not (self .x2apic)) (done next) (refused self InvalidRegister) ⌝ }
+        ensures { λ r. ⌜ writeOutcome r ≡ inXapic self next ⌝ }
     {
-        if !self.x2apic {
-            return next.ok();
+        if self.x2apic {
+            return self.refuse(Refusal::InvalidRegister);
         }
-        self.refuse(Refusal::InvalidRegister)
+        next.ok()
     }
 
     // Writes a register that only stores the value.
@@ -494,18 +445,17 @@ impl VirtualApicRegs {
             consts::LDR => self.in_xapic(self.write_ldr(val)),
             consts::DFR => self.in_xapic(self.write_dfr(val)),
             consts::SIVR => self.write_svr(val).ok(),
-            consts::ESR => self.write_esr(val).ok(),
+            consts::ESR => self.write_esr().ok(),
             consts::ICR_HI => self.in_xapic(self.write_icr_hi(val)),
             _ => self.write_lvt(offset, val),
         }
     }
 
-    // Keeps an error until ESR is written.
-    fn set_err(mut self, error: u32) -> VirtualApicRegs
-        requires { ⌜ error < 32 ⌝ }
-        ensures { λ r. ⌜ r ≡ withError self error ⌝ }
+    // Keeps the error until ESR is written: a vector below 16 was to be sent.
+    fn set_err(mut self) -> VirtualApicRegs
+        ensures { λ r. ⌜ r ≡ withPending self (illegalNoted (self .«esr_pending»)) ⌝ }
     {
-        self.esr_pending = utils::set32::with(self.esr_pending, error);
+        self.esr_pending = register::illegal_noted(self.esr_pending);
         self
     }
 
@@ -515,7 +465,7 @@ impl VirtualApicRegs {
     {
         match answer {
             IcrAnswer::Nothing => self.ok(),
-            IcrAnswer::SendIllegalVector => self.set_err(consts::SEND_ILLEGAL_VECTOR).ok(),
+            IcrAnswer::SendIllegalVector => self.set_err().ok(),
             IcrAnswer::Ipi { kind, vector, mask } => Written {
                 regs: self,
                 answer: WriteAnswer::Ipi { kind, vector, mask },
@@ -539,7 +489,7 @@ impl VirtualApicRegs {
             icr_lo: self.icr_lo,
             icr_hi: hi,
         };
-        self.answer(command.write_icr(vcpu_num, active_vcpus))
+        self.answer(command.carry_out(vcpu_num, active_vcpus))
     }
 
     // A write of the ICR's low word; in x2APIC mode of both words.
@@ -547,9 +497,9 @@ impl VirtualApicRegs {
         requires { ⌜ («vcpu_num» ≤ 64) × (self .«vapic_id» ≤ 63) ⌝ }
         ensures { λ r. ⌜ writeOutcome r ≡ writeIcrLow self val width «vcpu_num» «active_vcpus» ⌝ }
     {
-        if is_icr_width(self.x2apic, width) {
+        if vlapic_icr::fields::is_icr_width(self.x2apic, width) {
             let lo = (val % 0x100000000) as u32;
-            let hi = icr_high(self.x2apic, val, self.icr_hi);
+            let hi = vlapic_icr::fields::icr_high(self.x2apic, val, self.icr_hi);
             return self.write_icr(lo, hi, vcpu_num, active_vcpus);
         }
         self.refuse(Refusal::InvalidRegister)

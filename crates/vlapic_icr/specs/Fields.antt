@@ -1,8 +1,8 @@
--- The fields of the interrupt command's low word.
+-- The words of an interrupt command and the fields of the low one.
 -- Intel SDM volume 3, the APIC chapter: interrupt command register (ICR), with its table of valid combinations of shorthand and delivery mode; error handling
 -- (send illegal vector).
 use Prim.Native.Nat.{ℕ, _/_, _%_, _*_, _+_}
-use mathlib.Core.Bool.{Bool, true, false, cond}
+use mathlib.Core.Bool.{Bool, true, false, not, cond}
 use lib.Dec.{eqb, ltb, leb}
 use Rattle.utils.specs.Set.{bit}
 
@@ -23,6 +23,14 @@ shorthand lo = lo / 262144 % 4
 -- bit 12, the delivery status, reads 0: the command is sent at once
 abbrev pub idle : ℕ → ℕ
 idle lo = lo / 8192 * 8192 + lo % 4096
+
+-- the ICR is written whole, by 8 bytes, in x2APIC mode, and never by 8 bytes in xAPIC mode, where its high word has its own offset
+abbrev pub icrWidth : Bool → ℕ → Bool
+icrWidth x2apic width = cond x2apic (eqb width 8) (not (eqb width 8))
+
+-- its high word after that: the value's in x2APIC mode, else the one that stands there
+abbrev pub icrHigh : Bool → ℕ → ℕ → ℕ
+icrHigh x2apic val hi = cond x2apic (val / 0x100000000) hi
 
 abbrev pub isReservedMode : ℕ → Bool
 isReservedMode lo = cond (eqb (deliveryMode lo) 3) true (eqb (deliveryMode lo) 7)

@@ -26,23 +26,23 @@ destField s = cond (s .x2apic) (s .«icr_hi») (s .«icr_hi» / 0x1000000)
 abbrev pub isBroadcast : InterruptCommand → Bool
 isBroadcast s = eqb (destField s) (cond (s .x2apic) 0xffffffff 0xff)
 
--- two sets have a member in common below w
-abbrev pub share : ℕ → ℕ → ℕ → Bool
-share w a b = ltb (first w (λ k. bit a k && bit b k)) w
+-- two sets of up to eight have a member in common
+abbrev pub share : ℕ → ℕ → Bool
+share a b = ltb (first 8 (λ k. bit a k && bit b k)) 8
 
 abbrev pub matching : Bool → DestMatch
 matching same = cond same Matched Unmatched
 
 -- the cluster model: the same cluster, bits 4-7, and a bit in common with bits 0-3
 abbrev pub inCluster : ℕ → ℕ → Bool
-inCluster ldr d = cond (eqb (ldr / 0x10000000) (d / 16 % 16)) (share 4 (ldr / 0x1000000 % 16) (d % 16)) false
+inCluster ldr d = cond (eqb (ldr / 0x10000000) (d / 16 % 16)) (share (ldr / 0x1000000 % 16) (d % 16)) false
 
 -- the logical destination d against this APIC's own LDR and DFR: in the flat model (15) a bit in common with the logical id,
 -- in the cluster model (0) as above
 unfoldable pub destFieldMatched : InterruptCommand → ℕ → DestMatch
 destFieldMatched s d =
     cond (s .x2apic) Matched  -- D-66: in x2APIC mode cluster and member bits are compared
-    (cond (eqb (s .dfr / 0x10000000) 15) (matching (share 8 (s .ldr / 0x1000000) (d % 256)))
+    (cond (eqb (s .dfr / 0x10000000) 15) (matching (share (s .ldr / 0x1000000) (d % 256)))
     (cond (eqb (s .dfr / 0x10000000) 0) (matching (inCluster (s .ldr) d)) ReservedModel))
 
 -- every active vCPU, or none: D-65: each APIC has to be matched by its own LDR and DFR

@@ -3,12 +3,12 @@
 // Licensed under the Apache License, Version 2.0 (the text stands in NOTICE).
 //
 // Changed: ported to Rattle from regs/icr.rs of the Rust crate x86_vlapic 0.5.4: the fields of the interrupt command's low word, which the Rust
-// declares for tock_registers, as functions of the word, and the tests that `write_icr` makes of them.
+// declares for tock_registers, as functions of the word, the tests that `write_icr` makes of them, and by which width the words are written.
 
 ghost use mathlib.Core.Path.{_≡_};
 ghost use lib.Dec.{eqb};
 ghost use mathlib.Core.Bool.{true, cond};
-ghost use Rattle.vlapic_icr.specs.Fields.{vectorField, deliveryMode, isLogical, shorthand, idle, isReservedMode, isIllegalVector, isInvalidShorthand, isUnsent};
+ghost use Rattle.vlapic_icr.specs.Fields.{vectorField, deliveryMode, isLogical, shorthand, idle, icrWidth, icrHigh, isReservedMode, isIllegalVector, isInvalidShorthand, isUnsent};
 
 pub fn vector(lo: u32) -> u8
     ensures { λ r. ⌜ r ≡ vectorField lo ⌝ }
@@ -41,6 +41,26 @@ pub fn idle(lo: u32) -> u32
     ensures { λ r. ⌜ r ≡ idle lo ⌝ }
 {
     lo / 8192 * 8192 + lo % 4096
+}
+
+// The ICR is written whole, by 8 bytes, in x2APIC mode, and never by 8 bytes in xAPIC mode.
+pub fn is_icr_width(x2apic: bool, width: u8) -> bool
+    ensures { λ r. ⌜ r ≡ icrWidth x2apic width ⌝ }
+{
+    if x2apic {
+        return width == 8;
+    }
+    width != 8
+}
+
+// The ICR's high word after that: the value's in x2APIC mode, else the one that stands there.
+pub fn icr_high(x2apic: bool, val: u64, icr_hi: u32) -> u32
+    ensures { λ r. ⌜ r ≡ icrHigh x2apic val «icr_hi» ⌝ }
+{
+    if x2apic {
+        return (val / 0x100000000) as u32;
+    }
+    icr_hi
 }
 
 pub fn is_reserved_mode(lo: u32) -> bool

@@ -62,7 +62,7 @@ impl InterruptCommand {
         }
         let model = self.dfr / 0x10000000;
         if model == 15 {
-            return matching(share8(self.ldr / 0x1000000, dest % 256));
+            return matching(share(self.ldr / 0x1000000, dest % 256));
         }
         if model == 0 {
             return matching(self.is_in_cluster(dest));
@@ -75,7 +75,7 @@ impl InterruptCommand {
     {
         let cluster = dest / 16 % 16;
         if self.ldr / 0x10000000 == cluster {
-            return share4(self.ldr / 0x1000000 % 16, dest % 16);
+            return share(self.ldr / 0x1000000 % 16, dest % 16);
         }
         false
     }
@@ -127,7 +127,7 @@ impl InterruptCommand {
     }
 
     // Carries out the command that stands in the ICR.
-    pub fn write_icr(self, vcpu_num: usize, active_vcpus: u64) -> IcrAnswer
+    pub fn carry_out(self, vcpu_num: usize, active_vcpus: u64) -> IcrAnswer
         requires { ⌜ («vcpu_num» ≤ 64) × (self .«vapic_id» ≤ 63) ⌝ }
         ensures { λ r. ⌜ r ≡ command self «vcpu_num» «active_vcpus» ⌝ }
     {
@@ -187,16 +187,10 @@ pub fn handle_self_ipi(vcpu_id: VcpuId, vector: Vector) -> IcrAnswer
     }
 }
 
-fn share8(a: u32, b: u32) -> bool
-    requires { ⌜ (a < 256) × (b < 256) ⌝ }
-    ensures { λ r. ⌜ r ≡ share 8 a b ⌝ }
-{
-    a & b != 0
-}
-
-fn share4(a: u32, b: u32) -> bool
-    requires { ⌜ (a < 16) × (b < 16) ⌝ }
-    ensures { λ r. ⌜ r ≡ share 4 a b ⌝ }
+// Whether two sets of up to eight have a member in common.
+fn share(a: u32, b: u32) -> bool
+    requires { ⌜ a < 256 ⌝ }
+    ensures { λ r. ⌜ r ≡ share a b ⌝ }
 {
     a & b != 0
 }

@@ -1,2 +1,3 @@
 pub mod Lvt
+pub mod Register
 pub mod Vectors

@@ -8,12 +8,14 @@ use lib.Dec.{eqb, ltb}
 use lib.Pow.{pow-pos, field, mod-mod-pow}
 use borrow.Author.Tests.{ltb-true, ltb-false}
 use Rattle.utils.specs.Set.{bit, below}
+use Rattle.utils.proofs.Bools.{either}
 use Rattle.utils.proofs.Laws.{bit-above}
 use Rattle.types.specs.declared.Refusal.{Refusal}
 use Rattle.types.specs.declared.Refusal.the-variants.{InvalidRegister, OutOfRange}
 use Rattle.types.specs.declared.Reply.the-variants.{Three}
 use Rattle.types.specs.declared.Vector.{Vector}
 use Rattle.types.specs.Reply.{Outcome}
+use Rattle.vlapic_regs.specs.Register.{illegalNoted}
 use Rattle.vlapic_icr.specs.declared.InterruptCommand.{InterruptCommand}
 use Rattle.vlapic_icr.specs.declared.IcrAnswer.{IcrAnswer}
 use Rattle.vlapic_icr.specs.declared.IcrAnswer.the-variants.{Nothing, SendIllegalVector, Ipi, Refused}
@@ -21,13 +23,12 @@ use Rattle.vlapic_icr.specs.declared.Dest.{Dest}
 use Rattle.vlapic_icr.specs.declared.Dest.the-variants.{Mask, NoMask}
 use Rattle.vlapic_icr.specs.declared.DestMatch.{DestMatch}
 use Rattle.vlapic_icr.specs.declared.DestMatch.the-variants.{Matched, Unmatched, ReservedModel}
-use Rattle.vlapic_icr.specs.Fields.{idle, shorthand, isLogical, isReservedMode, isIllegalVector, isInvalidShorthand, isUnsent}
+use Rattle.vlapic_icr.specs.Fields.{idle, icrWidth, icrHigh, shorthand, isLogical, isReservedMode, isIllegalVector, isInvalidShorthand, isUnsent}
 use Rattle.vlapic_icr.specs.Icr.{destField, isBroadcast, destFieldMatched, logicalDest, destNoShorthand, calculateDest, deliver, command}
 use Rattle.vlapic.specs.declared.VirtualApicRegs.{VirtualApicRegs}
 use Rattle.vlapic.specs.Answers.{done, refused}
-use Rattle.vlapic.specs.Regs.{withError, withCommand}
+use Rattle.vlapic.specs.Regs.{withPending, withCommand}
 use Rattle.vlapic.specs.Calls.{outOfRange, answered, commandOf, writeIcr, writeIcrLow, handleWrite}
-use Rattle.vlapic_theorems.proofs.Cond.{either}
 use Rattle.vlapic_theorems.specs.Deliveries.{Reaches, Commands}
 
 -- ---- the mask is cut to the count
@@ -122,7 +123,7 @@ module _ (num active : ℕ) where
 
   answers : (s : VirtualApicRegs) (a : IcrAnswer) → Goes num active (s .«icr_lo») a → Sound num active (answered s a)
   answers s Nothing g = quiet s
-  answers s SendIllegalVector g = quiet (withError s 5)
+  answers s SendIllegalVector g = quiet (withPending s (illegalNoted (s .«esr_pending»)))
   answers s (Ipi kind vector mask) g = record {
     sound = λ k v m e. let q : mask ≡ m = cc in subst (λ (n : ℕ). Reaches num active (s .«icr_lo») n) q (g .reaches kind vector mask refl);
   }
@@ -137,9 +138,8 @@ module _ (num active : ℕ) where
   unfolding handleWrite writeIcrLow
   write-sound s val width =
       either (Sound num active) (outOfRange num (s .«vapic_id»)) _ _ (λ e. refusing s OutOfRange)
-      (λ e. either (Sound num active) (s .x2apic) _ _
-      (λ e. either (Sound num active) (eqb width 8) _ _ (λ e. icr-sound s (val % 0x100000000) (val / 0x100000000)) (λ e. refusing s InvalidRegister))
-      (λ e. either (Sound num active) (eqb width 8) _ _ (λ e. refusing s InvalidRegister) (λ e. icr-sound s (val % 0x100000000) (s .«icr_hi»))))
+      (λ e. either (Sound num active) (icrWidth (s .x2apic) width) _ _
+      (λ e. icr-sound s (val % 0x100000000) (icrHigh (s .x2apic) val (s .«icr_hi»))) (λ e. refusing s InvalidRegister))
 
 pub commands : Commands
 commands s val width num active kind vector mask e = write-sound num active s val width .sound kind vector mask e

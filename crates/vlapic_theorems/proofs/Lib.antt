@@ -1,4 +1,3 @@
-pub mod Cond
 pub mod Service
 pub mod Refusals
 pub mod Deliveries

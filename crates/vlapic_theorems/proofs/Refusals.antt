@@ -1,16 +1,19 @@
 -- A refused call hands the state back, but for a refused interrupt command's words. Assumes nothing.
 use mathlib.Core.Path.{_≡_, refl, sym, _∙_}
 use mathlib.Core.Bool.{Bool, true, false, cond, true≢false}
+use mathlib.Core.List.{List, [], _∷_}
 use mathlib.Core.Logic.{_⊎_, inl, inr}
-use Prim.Native.Nat.{ℕ, _/_, _%_, _^_}
+use Prim.Native.Nat.{ℕ, _%_, _^_}
 use native.Mathlib.Omega.{arith}
 use lib.Dec.{eqb, ltb}
 use borrow.Author.Tests.{eqb-true}
 use Rattle.utils.specs.Set.{below}
+use Rattle.utils.proofs.Bools.{either}
 use Rattle.types.specs.declared.Refusal.{Refusal}
 use Rattle.types.specs.declared.Refusal.the-variants.{InvalidRegister, OutOfRange}
 use Rattle.types.specs.declared.Vector.{Vector}
 use Rattle.types.specs.Reply.{Outcome, replyNumber, refusalNumber}
+use Rattle.vlapic_regs.specs.Register.{illegalNoted}
 use Rattle.vlapic_icr.specs.declared.InterruptCommand.{InterruptCommand}
 use Rattle.vlapic_icr.specs.declared.IcrAnswer.{IcrAnswer}
 use Rattle.vlapic_icr.specs.declared.IcrAnswer.the-variants.{Nothing, SendIllegalVector, Ipi, Refused}
@@ -18,15 +21,14 @@ use Rattle.vlapic_icr.specs.declared.Dest.{Dest}
 use Rattle.vlapic_icr.specs.declared.Dest.the-variants.{Mask, NoMask}
 use Rattle.vlapic_icr.specs.declared.DestMatch.{DestMatch}
 use Rattle.vlapic_icr.specs.declared.DestMatch.the-variants.{Matched, Unmatched, ReservedModel}
-use Rattle.vlapic_icr.specs.Fields.{idle, shorthand, isLogical, isReservedMode, isIllegalVector, isInvalidShorthand, isUnsent}
+use Rattle.vlapic_icr.specs.Fields.{idle, icrWidth, icrHigh, shorthand, isLogical, isReservedMode, isIllegalVector, isInvalidShorthand, isUnsent}
 use Rattle.vlapic_icr.specs.Icr.{destField, isBroadcast, destFieldMatched, logicalDest, physicalDest, destNoShorthand, calculateDest, deliver, command, selfIpi}
 use Rattle.vlapic.specs.declared.VirtualApicRegs.{VirtualApicRegs}
 use Rattle.vlapic.specs.Answers.{done, refused}
-use Rattle.vlapic.specs.Regs.{start, withError, withCommand}
+use Rattle.vlapic.specs.Regs.{start, withPending, withCommand}
 use Rattle.vlapic.specs.Priority.{handleEoi}
-use Rattle.vlapic.specs.Registers.{isStored, stored, writeStored}
+use Rattle.vlapic.specs.Registers.{inXapic, stored, outcomeAt, writeStored}
 use Rattle.vlapic.specs.Calls.{outOfRange, setup, answered, commandOf, writeIcr, writeIcrLow, writeSelfIpi, handleWrite}
-use Rattle.vlapic_theorems.proofs.Cond.{either}
 use Rattle.vlapic_theorems.specs.Refusals.{IsRefused, Kept, Writes, Setups, Ranges}
 
 -- ---- a command is refused with 3 or 5
@@ -98,13 +100,27 @@ module _ (s : VirtualApicRegs) (offset num : ℕ) where
   self-holds val =
       either (Holds s offset num) (s .x2apic) _ _
       (λ e. either (λ (a : IcrAnswer). Holds s offset num (answered s a)) (ltb (val % 256) 16) SendIllegalVector (Ipi 0 (record { 0 = val % 256 }) (2 ^ (s .«vapic_id»)))
-      (λ e. is-done (withError s 5))
+      (λ e. is-done (withPending s (illegalNoted (s .«esr_pending»))))
       (λ e. record { kept = λ n. absurd (n refl) }))
       (λ e. unchanged InvalidRegister (inl refl))
 
+  in-xapic : (next : VirtualApicRegs) → Holds s offset num (inXapic s next)
+  in-xapic next = either (Holds s offset num) (s .x2apic) _ _ (λ e. unchanged InvalidRegister (inl refl)) (λ e. is-done next)
+
+  -- a table of what registers leave
+  abbrev All : List (ℕ × Outcome VirtualApicRegs) → Type 0
+  All [] = Unit
+  All (r ∷ rs) = Holds s offset num (r .1) × All rs
+
+  rows : (rs : List (ℕ × Outcome VirtualApicRegs)) → All rs → Holds s offset num (outcomeAt s rs offset)
+  rows [] h = unchanged InvalidRegister (inl refl)
+  rows (r ∷ rs) h = either (Holds s offset num) (eqb offset (r .0)) _ _ (λ e. h .0) (λ e. rows rs (h .1))
+
   stored-holds : (v : ℕ) → Holds s offset num (writeStored s offset v)
-  unfolding writeStored
-  stored-holds v = either (Holds s offset num) (isStored s offset) _ _ (λ e. is-done (stored s offset v)) (λ e. unchanged InvalidRegister (inl refl))
+  unfolding writeStored stored
+  stored-holds v =
+      rows (stored s v)
+      (is-done _, (is-done _, (in-xapic _, (in-xapic _, (is-done _, (is-done _, (in-xapic _, (is-done _, (is-done _, (is-done _, (is-done _, (is-done _, (is-done _, (is-done _, tt))))))))))))))
 
   module _ (at : offset ≡ 0x300) (inside : outOfRange num (s .«vapic_id») ≡ false) where
     stays : (lo hi : ℕ) (a : IcrAnswer) → Answers a → Holds s offset num (answered (withCommand s lo hi) a)
@@ -128,9 +144,8 @@ module _ (s : VirtualApicRegs) (offset num : ℕ) where
     icr-low-holds : (val width active : ℕ) → Holds s offset num (writeIcrLow s val width num active)
     unfolding writeIcrLow
     icr-low-holds val width active =
-        either (Holds s offset num) (s .x2apic) _ _
-        (λ e. either (Holds s offset num) (eqb width 8) _ _ (λ e. icr-holds (val % 0x100000000) (val / 0x100000000) active) (λ e. unchanged InvalidRegister (inl refl)))
-        (λ e. either (Holds s offset num) (eqb width 8) _ _ (λ e. unchanged InvalidRegister (inl refl)) (λ e. icr-holds (val % 0x100000000) (s .«icr_hi») active))
+        either (Holds s offset num) (icrWidth (s .x2apic) width) _ _
+        (λ e. icr-holds (val % 0x100000000) (icrHigh (s .x2apic) val (s .«icr_hi»)) active) (λ e. unchanged InvalidRegister (inl refl))
 
 write-holds : (s : VirtualApicRegs) (offset val width num active : ℕ) → Holds s offset num (handleWrite s offset val width num active)
 unfolding handleWrite

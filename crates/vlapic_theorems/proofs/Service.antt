@@ -9,12 +9,13 @@ use lib.ListN.{getD, length, List·getD-eq-default}
 use lib.Seq.{getD-set-same, getD-set-other}
 use borrow.Author.Tests.{le-leb, leb-true, eqb-true, eqb-false, ne-eqb, ltb-true, ltb-false}
 use Rattle.utils.specs.Set.{bit, last, without}
+use Rattle.utils.proofs.Bools.{and-true, and-false, and-one}
 use Rattle.utils.proofs.Search.{last-after, last-is, last-none, last-lt}
 use Rattle.utils.proofs.Laws.{bit-above, bit-without-same, bit-without-other}
 use Rattle.vlapic.specs.declared.VirtualApicRegs.{VirtualApicRegs}
 use Rattle.vlapic_regs.specs.Vectors.{inWords, withoutVector, highestFrom}
 use Rattle.vlapic.specs.Answers.{done}
-use Rattle.vlapic.specs.Regs.{servicing}
+use Rattle.vlapic.specs.Regs.{withIsr, withPpr}
 use Rattle.vlapic.specs.Priority.{findIsrv, updatePpr, handleEoi, endOf}
 use Rattle.vlapic_theorems.specs.Service.{Highest, Idle, SearchFinds, Searches, Eois}
 
@@ -22,14 +23,6 @@ use Rattle.vlapic_theorems.specs.Service.{Highest, Idle, SearchFinds, Se
 
 abbrev searched : ℕ → List ℕ → ℕ → Bool
 searched lowest words v = leb lowest v && inWords words v
-
-and-true : (a b : Bool) → (a && b) ≡ true → (a ≡ true) × (b ≡ true)
-and-true true b e = (refl, e)
-and-true false b e = absurd (true≢false (sym e))
-
-and-none : (b : Bool) → (b && false) ≡ false
-and-none true = refl
-and-none false = refl
 
 last-nonzero : (w : ℕ) (p : ℕ → Bool) → (last w p ≡ 0 → ⊥) → p (last w p) ≡ true
 last-nonzero zero p h = absurd (h refl)
@@ -65,7 +58,7 @@ searches lowest h words = record {
   none = λ e u l b. unseen lowest words u (omega (arith, sym (is-last lowest words) ∙ e)) l b;
   complete = λ v q.
       is-last lowest words
-      ∙ last-is 256 (searched lowest words) v (q .vector) (rw (le-leb lowest v (q .from)) (q .served)) (λ j l b. rw (q .above j l b) (and-none (leb lowest j)));
+      ∙ last-is 256 (searched lowest words) v (q .vector) (rw (le-leb lowest v (q .from)) (q .served)) (λ j l b. rw (q .above j l b) (and-false (leb lowest j)));
   complete-none = λ i. is-last lowest words ∙ last-none 256 (searched lowest words) (λ j b. low-or lowest words i j b (leb lowest j) refl);
 }
 
@@ -104,10 +97,6 @@ ended-isr : (s : VirtualApicRegs) (v : ℕ) → findIsrv s ≡ v → (v ≡ 0 �
 unfolding handleEoi updatePpr
 ended-isr s v e n = rw (e, ne-eqb v 0 n)
 
-and-one : (b : Bool) → b ≡ (b && true)
-and-one true = refl
-and-one false = refl
-
 in-service : (s : VirtualApicRegs) → SearchFinds 32 (s .isr)
 in-service s = searches 32 (omega arith) (s .isr)
 
@@ -116,7 +105,6 @@ unfolding handleEoi updatePpr
 eois s = record {
   ended = λ v h u b. one v h u (eqb u v) refl;
   rest = rest (eqb (findIsrv s) 0);
-  triggers = triggers (eqb (findIsrv s) 0);
   nothing = λ i. rw (in-service s .complete-none i);
 }
   where
@@ -127,14 +115,10 @@ eois s = record {
     one v h u true e =
         ap (λ (words : List ℕ). inWords words u) (isr v h)
         ∙ subst (λ (x : ℕ). inWords (withoutVector (s .isr) v) x ≡ false) (sym (eqb-true u v e)) (gone (s .isr) v (h .served))
-        ∙ sym (and-none (inWords (s .isr) u))
+        ∙ sym (and-false (inWords (s .isr) u))
     one v h u false e =
-        ap (λ (words : List ℕ). inWords words u) (isr v h) ∙ others (s .isr) v u (h .served) (eqb-false u v e) ∙ and-one (inWords (s .isr) u)
+        ap (λ (words : List ℕ). inWords words u) (isr v h) ∙ others (s .isr) v u (h .served) (eqb-false u v e) ∙ sym (and-one (inWords (s .isr) u))
 
-    rest : (b : Bool) → servicing (cond b (done s) (endOf s (findIsrv s)) .state) (s .ppr) (s .isr) (s .tmr) ≡ s
+    rest : (b : Bool) → withPpr (withIsr (cond b (done s) (endOf s (findIsrv s)) .state) (s .isr)) (s .ppr) ≡ s
     rest true = refl
     rest false = refl
-
-    triggers : (b : Bool) → cond b (done s) (endOf s (findIsrv s)) .state .tmr ≡ s .tmr
-    triggers true = refl
-    triggers false = refl

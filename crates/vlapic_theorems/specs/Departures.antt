@@ -13,7 +13,8 @@ use Rattle.vlapic_regs.specs.Vectors.{highestFrom}
 use Rattle.vlapic_icr.specs.Icr.{destFieldMatched, destNoShorthand, calculateDest, command, selfIpi}
 use Rattle.vlapic.specs.declared.VirtualApicRegs.{VirtualApicRegs}
 use Rattle.vlapic.specs.Regs.{start}
-use Rattle.vlapic.specs.Priority.{priority, updatePpr, acceptInterrupt, handleEoi}
+use Rattle.vlapic_regs.specs.Register.{priority}
+use Rattle.vlapic.specs.Priority.{updatePpr, acceptInterrupt, handleEoi}
 use Rattle.vlapic.specs.Registers.{handleRead, stored, writeStored}
 use Rattle.vlapic.specs.Calls.{writeIcr, writeIcrLow, writeSelfIpi, handleWrite}
 

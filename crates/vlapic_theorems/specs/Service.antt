@@ -6,7 +6,7 @@ use mathlib.Core.List.{List}
 use lib.Dec.{eqb}
 use Rattle.vlapic.specs.declared.VirtualApicRegs.{VirtualApicRegs}
 use Rattle.vlapic_regs.specs.Vectors.{inWords, highestFrom}
-use Rattle.vlapic.specs.Regs.{servicing}
+use Rattle.vlapic.specs.Regs.{withIsr, withPpr}
 use Rattle.vlapic.specs.Priority.{handleEoi}
 
 -- ---- the search, for any lowest vector but 0
@@ -37,8 +37,7 @@ Searches = (lowest : ℕ) → 1 ≤ lowest → (words : List ℕ) → SearchFind
 -- an EOI ends the highest vector in service, of those from 32 up, and no other, below 32 too, and changes nothing besides but PPR
 pub record EoiEnds (s : VirtualApicRegs) : Type 0 where
   pub ended : (v : ℕ) → Highest 32 (s .isr) v → (u : ℕ) → u < 256 → inWords (handleEoi s .state .isr) u ≡ (inWords (s .isr) u && not (eqb u v))
-  pub rest : servicing (handleEoi s .state) (s .ppr) (s .isr) (s .tmr) ≡ s
-  pub triggers : handleEoi s .state .tmr ≡ s .tmr
+  pub rest : withPpr (withIsr (handleEoi s .state) (s .isr)) (s .ppr) ≡ s
   pub nothing : Idle 32 (s .isr) → handleEoi s .state ≡ s
 
 abbrev pub Eois : Type 0

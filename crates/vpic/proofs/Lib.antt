@@ -1,3 +1,4 @@
-pub mod ChipLaws
-pub mod PairLaws
-pub mod Lowest
+pub mod Codes
+pub mod Ready
+pub mod Settled
+pub mod Laws

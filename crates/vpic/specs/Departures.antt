@@ -7,17 +7,16 @@ use Rattle.utils.specs.Set.{with, without, lowest}
 use Rattle.types.specs.declared.PicLine.{PicLine}
 use Rattle.types.specs.Reply.{flag, replyValues}
 use Rattle.types.specs.Departure.{Departure, Shown}
-use Rattle.vpic.specs.declared.chip.PicChip.{PicChip}
-use Rattle.vpic.specs.declared.pair.PicState.{PicState}
-use Rattle.vpic.specs.Chip.{chip, opened, commanded, fed, commandRead, pulsed, counts, pendingLine, pendingIrq, acknowledged, acknowledge, pendingReply}
+use Rattle.vpic_chip.specs.Registers.{Chip, chip}
+use Rattle.vpic_chip.specs.Chip.{opened, commanded, fed, commandRead, pulsed, counts, pendingLine, pendingIrq, acknowledged, acknowledge, pendingReply, vectorReply}
+use Rattle.vpic.specs.Words.{PicState}
 use Rattle.vpic.specs.Pair.{newState, settled, latched, masterClaim, slaveClaim, claimPending, claimIrq, portWritten, writtenAt, claimReply, claimVector}
-use Rattle.vpic.specs.Chip.{vectorReply}
 
 abbrev pub line : ℕ → PicLine
 line k = record { 0 = k }
 
 -- a chip at base 0 with these requests, mask, and lines in service, and initialized
-abbrev pub at : ℕ → ℕ → ℕ → PicChip
+abbrev pub at : ℕ → ℕ → ℕ → Chip
 at irr imr isr = chip 0 imr irr isr 0 false false false false
 
 -- the pair of a rule with its masks open

@@ -1,3 +1,4 @@
-pub mod Chip
-pub mod Departures
+pub mod Words
 pub mod Pair
+pub mod Claim
+pub mod Departures

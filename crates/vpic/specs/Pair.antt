@@ -1,9 +1,11 @@
 -- The PC's two 8259A chips. Cascade mode: the slave hangs on the master's line 2, and an acknowledgement of that line is answered by the slave. The interrupt
 -- sequence; the four ports. Departures from the data sheet are marked D-nn and stand in docs/DIFFERENCES.md. Rule 1 (document 02, T-02) is the data sheet's
 -- cascade, rule 0 the Rust's.
-use Prim.Native.Nat.{ℕ, _+_, _*_, _%_}
-use mathlib.Core.Bool.{Bool, true, false, cond}
+use Prim.Native.Nat.{ℕ, _+_, _*_, _/_, _%_, _^_}
+use mathlib.Core.Bool.{Bool, true, false, cond, _||_}
+use mathlib.Core.Path.{_≡_}
 use lib.Dec.{ltb, eqb}
+use Rattle.utils.specs.Set.{bit}
 use Rattle.types.specs.declared.PicLine.{PicLine}
 use Rattle.types.specs.declared.PicPlace.{PicPlace}
 use Rattle.types.specs.declared.PicPlace.the-variants.{Master, Slave, Nowhere}
@@ -14,35 +16,29 @@ use Rattle.types.specs.declared.Reply.{Reply}
 use Rattle.types.specs.declared.Reply.the-variants as reply
 use Rattle.types.specs.Counters.{placeOf, lineVector}
 use Rattle.types.specs.Reply.{Outcome, flag}
-use Rattle.vpic.specs.declared.chip.PicChip.{PicChip}
-use Rattle.vpic.specs.declared.chip.PendingIrq.{PendingIrq}
-use Rattle.vpic.specs.declared.chip.PendingIrq.the-variants.{Irq, Nothing}
-use Rattle.vpic.specs.declared.chip.PicVector.{PicVector}
-use Rattle.vpic.specs.declared.chip.PicVector.the-variants.{Given, Nothing as NoVector}
-use Rattle.vpic.specs.declared.pair.PicState.{PicState}
-use Rattle.vpic.specs.declared.pair.EmulatedPic.{EmulatedPic}
-use Rattle.vpic.specs.declared.pair.PicInterruptClaim.{PicInterruptClaim}
-use Rattle.vpic.specs.declared.pair.PicClaim.{PicClaim}
-use Rattle.vpic.specs.declared.pair.PicClaim.the-variants.{Claimed, Nothing as NoClaim}
-use Rattle.vpic.specs.declared.pair.StateClaim.{StateClaim}
-use Rattle.vpic.specs.declared.pair.PicClaimed.{PicClaimed}
-use Rattle.vpic.specs.declared.pair.PicVectored.{PicVectored}
-use Rattle.vpic.specs.declared.pair.PicDone.{PicDone}
-use Rattle.vpic.specs.declared.pair.PicDone.the-variants.{Done, Refused}
-use Rattle.vpic.specs.declared.pair.PicWritten.{PicWritten}
-use Rattle.vpic.specs.declared.pair.PicValue.{PicValue}
-use Rattle.vpic.specs.declared.pair.PicValue.the-variants.{Value, Refused as NotRead}
-use Rattle.vpic.specs.declared.pair.PicRead.{PicRead}
-use Rattle.vpic.specs.declared.pair.PortRanges.{PortRanges}
-use Rattle.vpic.specs.Chip.{opened, commanded, fed, commandRead, pulsed, asks, driven, pendingIrq, acknowledged, unacknowledged, vectorReply}
+use Rattle.vpic_chip.specs.declared.PendingIrq.{PendingIrq}
+use Rattle.vpic_chip.specs.declared.PendingIrq.the-variants.{Irq, Nothing}
+use Rattle.vpic_chip.specs.declared.PicVector.{PicVector}
+use Rattle.vpic_chip.specs.declared.PicVector.the-variants.{Given, Nothing as NoVector}
+use Rattle.vpic_chip.specs.Registers.{Chip}
+use Rattle.vpic_chip.specs.Chip.{opened, commanded, fed, commandRead, pulsed, asks, driven, pendingIrq, acknowledged, unacknowledged, vectorReply}
+use Rattle.vpic.specs.declared.PicInterruptClaim.{PicInterruptClaim}
+use Rattle.vpic.specs.declared.PicClaim.{PicClaim}
+use Rattle.vpic.specs.declared.PicClaim.the-variants.{Claimed, Nothing as NoClaim}
+use Rattle.vpic.specs.declared.PicDone.{PicDone}
+use Rattle.vpic.specs.declared.PicDone.the-variants.{Done, Refused}
+use Rattle.vpic.specs.declared.PicValue.{PicValue}
+use Rattle.vpic.specs.declared.PicValue.the-variants.{Value, Refused as NotRead}
+use Rattle.vpic.specs.declared.PortRanges.{PortRanges}
+use Rattle.vpic.specs.Words.{PicState}
 
 -- p with these chips in it
-abbrev pub chips : PicState → PicChip → PicChip → PicState
-chips p m s = record { rule = p .rule; master = m; slave = s }
+abbrev pub chips : PicState → Chip → Chip → PicState
+chips p m s = record { rule = p .rule; master = m; slave = s; spare = p .spare }
 
 -- a new pair of either rule, with the bases of the PC's first BIOS
 unfoldable pub newState : ℕ → PicState
-newState rule = record { rule = rule; master = opened 0x08; slave = opened 0x70 }
+newState rule = record { rule = rule; master = opened 0x08; slave = opened 0x70; spare = 0 }
 
 -- rule 1; any other number is rule 0
 abbrev pub isCascade : PicState → Bool
@@ -57,20 +53,42 @@ cascadeIrq = record { 0 = 2 }
 unfoldable pub settled : PicState → PicState
 settled p = cond (isCascade p) (chips p (driven (p .master) 2 (asks (p .slave))) (p .slave)) p
 
+-- what that leaves: by the cascade rule, the master's request 2 set exactly when some slave request counts
+abbrev pub Keeps : PicState → Type 0
+Keeps p = isCascade p ≡ true → bit (p .master .request) 2 ≡ asks (p .slave)
+
 -- ---- an edge on a line of the pair
+
+abbrev pub isPlace : PicPlace → Bool
+isPlace (Master k) = true
+isPlace (Slave k) = true
+isPlace Nowhere = false
 
 abbrev pub latchedAt : PicState → PicPlace → PicState
 latchedAt p (Master k) = chips p (pulsed (p .master) k) (p .slave)
 latchedAt p (Slave k) = chips p (pulsed (p .master) cascadeIrq) (pulsed (p .slave) k)
 latchedAt p Nowhere = p
 
+-- q is p after the edge, and the answer whether the pair has that line
+pub record Latched (p q : PicState) (place : PicPlace) (answer : Bool) : Type 0 where
+  pub state : q ≡ latchedAt p place
+  pub known : answer ≡ isPlace place
+
 unfoldable pub latched : PicState → PicLine → PicState
 latched p l = settled (latchedAt p (placeOf l))
 
 -- ---- the interrupt sequence
 
+-- the pair after a claim, and the claim
+pub record StateClaim : Type 0 where
+  pub state : PicState
+  pub claim : PicClaim
+
+abbrev pub stateClaim : PicState → PicClaim → StateClaim
+stateClaim p c = record { state = p; claim = c }
+
 -- a claim says what it did: the vector, the line, and which chip's in-service set grew by it
-abbrev pub grew : PicChip → PicChip → Bool
+abbrev pub grew : Chip → Chip → Bool
 grew before after = ltb (before .«in_service») (after .«in_service»)
 
 -- the claim of line l with vector v that turned p into q
@@ -144,7 +162,7 @@ portRead p port =
     (NotRead Unsupported))))
 
 abbrev pub isPort : ℕ → Bool
-isPort port = cond (eqb port 0x20) true (cond (eqb port 0x21) true (cond (eqb port 0xa0) true (eqb port 0xa1)))
+isPort port = eqb port 0x20 || eqb port 0x21 || eqb port 0xa0 || eqb port 0xa1
 
 unfoldable pub writtenAt : PicState → ℕ → ℕ → PicState
 writtenAt p port byte =
@@ -153,6 +171,11 @@ writtenAt p port byte =
     (cond (eqb port 0xa0) (chips p (p .master) (commanded (p .slave) byte))
     (cond (eqb port 0xa1) (chips p (p .master) (fed (p .slave) byte))
     p)))
+
+-- q is p after the write, and the answer whether the pair has that port
+pub record Written (p q : PicState) (port byte : ℕ) (answer : Bool) : Type 0 where
+  pub state : q ≡ writtenAt p port byte
+  pub known : answer ≡ isPort port
 
 unfoldable pub portWritten : PicState → ℕ → ℕ → PicState
 portWritten p port byte = settled (writtenAt p port byte)
@@ -172,6 +195,11 @@ abbrev pub claimVector : PicClaim → PicVector
 claimVector (Claimed c) = Given (c .vector)
 claimVector NoClaim = NoVector
 
+-- the claim of a line by the vector that its chip gave
+abbrev pub claimOf : PicVector → PicLine → Bool → Bool → PicClaim
+claimOf (Given v) l m s = Claimed (record { vector = v; irq = l; «master_in_service» = m; «slave_in_service» = s })
+claimOf NoVector l m s = NoClaim
+
 abbrev pub doneReply : PicDone → Reply
 doneReply Done = reply.Nothing
 doneReply (Refused why) = reply.Refused why
@@ -182,54 +210,47 @@ valueReply (NotRead why) = reply.Refused why
 
 -- ---- what each public call leaves: the whole pair, and the reply
 
-abbrev pub pic : PicState → EmulatedPic
-pic p = record { state = p }
+abbrev pub claimOutcome : PicState → PicClaim → Outcome PicState
+claimOutcome p c = record { state = p; reply = claimReply c }
 
-abbrev pub claimOutcome : PicClaimed → Outcome EmulatedPic
-claimOutcome r = record { state = r .pic; reply = claimReply (r .claim) }
+abbrev pub vectorOutcome : PicState → PicVector → Outcome PicState
+vectorOutcome p v = record { state = p; reply = vectorReply v }
 
-abbrev pub vectorOutcome : PicVectored → Outcome EmulatedPic
-vectorOutcome r = record { state = r .pic; reply = vectorReply (r .vector) }
+abbrev pub doneOutcome : PicState → PicDone → Outcome PicState
+doneOutcome p d = record { state = p; reply = doneReply d }
 
-abbrev pub writeOutcome : PicWritten → Outcome EmulatedPic
-writeOutcome r = record { state = r .pic; reply = doneReply (r .done) }
+abbrev pub valueOutcome : PicState → PicValue → Outcome PicState
+valueOutcome p v = record { state = p; reply = valueReply v }
 
-abbrev pub readOutcome : PicRead → Outcome EmulatedPic
-readOutcome r = record { state = r .pic; reply = valueReply (r .value) }
-
-abbrev pub refused : EmulatedPic → Refusal → Outcome EmulatedPic
+abbrev pub refused : PicState → Refusal → Outcome PicState
 refused p why = record { state = p; reply = reply.Refused why }
-
--- `new`: rule 0
-unfoldable pub newPic : EmulatedPic
-newPic = pic (newState 0)
 
 -- there are two rules
 abbrev pub isRule : ℕ → Bool
-isRule rule = cond (eqb rule 0) true (eqb rule 1)
+isRule rule = eqb rule 0 || eqb rule 1
 
--- `new_rule`: for another number nothing is created, and a pair of rule 0 stands beside the refusal
-abbrev pub newRule : ℕ → Outcome EmulatedPic
-newRule rule = cond (isRule rule) (record { state = pic (newState rule); reply = reply.Nothing }) (refused newPic Unsupported)
+-- `new_rule`, in the place of p: for another number nothing is created. By value p is then a pair of rule 0
+abbrev pub newRule : PicState → ℕ → Outcome PicState
+newRule p rule = cond (isRule rule) (record { state = newState rule; reply = reply.Nothing }) (refused p Unsupported)
 
 abbrev pub portRanges : PortRanges
 portRanges = record { master = record { start = 0x20; end = 0x21 }; slave = record { start = 0xa0; end = 0xa1 } }
 
-abbrev pub withClaim : StateClaim → Outcome EmulatedPic
-withClaim r = record { state = pic (r .state); reply = claimReply (r .claim) }
+abbrev pub withClaim : StateClaim → Outcome PicState
+withClaim r = record { state = r .state; reply = claimReply (r .claim) }
 
-abbrev pub withVector : StateClaim → Outcome EmulatedPic
-withVector r = record { state = pic (r .state); reply = vectorReply (claimVector (r .claim)) }
+abbrev pub withVector : StateClaim → Outcome PicState
+withVector r = record { state = r .state; reply = vectorReply (claimVector (r .claim)) }
 
-abbrev pub restoreInterrupt : EmulatedPic → PicInterruptClaim → Outcome EmulatedPic
-restoreInterrupt p c = cond (ltb (c .irq .0) 16) (record { state = pic (restored (p .state) c); reply = reply.Nothing }) (refused p OutOfRange)
+abbrev pub restoreInterrupt : PicState → PicInterruptClaim → Outcome PicState
+restoreInterrupt p c = cond (ltb (c .irq .0) 16) (record { state = restored p c; reply = reply.Nothing }) (refused p OutOfRange)
 
 -- width before port
-abbrev pub handleRead : EmulatedPic → ℕ → ℕ → Outcome EmulatedPic
-handleRead p port width = cond (eqb width 1) (record { state = p; reply = valueReply (portRead (p .state) port) }) (refused p Unsupported)
+abbrev pub handleRead : PicState → ℕ → ℕ → Outcome PicState
+handleRead p port width = cond (eqb width 1) (record { state = p; reply = valueReply (portRead p port) }) (refused p Unsupported)
 
-abbrev pub handleWrite : EmulatedPic → ℕ → ℕ → ℕ → Outcome EmulatedPic
+abbrev pub handleWrite : PicState → ℕ → ℕ → ℕ → Outcome PicState
 handleWrite p port width value =
     cond (eqb width 1)
-    (cond (isPort port) (record { state = pic (portWritten (p .state) port (value % 256)); reply = reply.Nothing }) (refused p Unsupported))
+    (cond (isPort port) (record { state = portWritten p port (value % 256); reply = reply.Nothing }) (refused p Unsupported))
     (refused p Unsupported)

@@ -1,6 +1,656 @@
-// Ported to Rattle from vpic.rs of the Rust crate x86_vlapic 0.5.4, licensed under the Apache License, Version 2.0 (the text stands in
-// NOTICE). Changed: the file became two modules, `chip` and `pair`; `&mut self` and the lock became state in and out by value; `Option`
-// and `Result` became enums; each function has its contract.
+// Ported to Rattle from vpic.rs of the Rust crate x86_vlapic 0.5.4 (Apache License, Version 2.0; the text stands in NOTICE).
+//
+// Changed: the pair's state is four words that the caller lends, `specs/Words.antt`; each call works in place on them, and `EmulatedPic` lends its own: state in and out by
+// value, and no lock. Lines and vectors are `PicLine` and `Vector`; `Option` and `Result` became enums, and panics and logs went; the rule that T-02 asks for was added;
+// each function has its contract.
 
-pub mod chip;
-pub mod pair;
+ghost use mathlib.Core.Path.{_≡_};
+ghost use mathlib.Core.Bool.{not};
+ghost use Rattle.types.specs.Counters.{placeOf};
+ghost use Rattle.types.specs.declared.PicPlace.the-variants as place;
+ghost use Rattle.vpic_chip.specs.Registers.{chipIn};
+ghost use Rattle.vpic.specs.Words.{view};
+ghost use Rattle.vpic.specs.Claim.{claimIn, masterTaken, slaveTaken, takenAt};
+ghost use Rattle.vpic.specs.Pair.{chips, isCascade, settled, Latched, stateClaim, claimOf, slaveClaim, pendingPlace, claimPending, claimIrq, restoredAt, portRead, Written, claimFlags, claimReply, claimVector, doneReply, valueReply, withClaim, withVector, claimOutcome, vectorOutcome, doneOutcome, valueOutcome, newState, newRule, portRanges, restoreInterrupt, handleRead, handleWrite};
+use types::PicLine;
+use types::PicPlace;
+use types::Refusal;
+use types::Reply;
+use types::Vector;
+use vpic_chip::CASCADE_IRQ;
+use vpic_chip::PendingIrq;
+use vpic_chip::PicChip;
+use vpic_chip::PicVector;
+use vpic_chip::digit;
+
+pub const MASTER_COMMAND: u16 = 0x20;
+
+pub const MASTER_DATA: u16 = 0x21;
+
+pub const SLAVE_COMMAND: u16 = 0xa0;
+
+pub const SLAVE_DATA: u16 = 0xa1;
+
+// The slave's output drives no line of the master: the Rust's rule. So does any number but 1.
+pub const RULE_LATCH: u8 = 0;
+
+// It drives the master's line 2: the 8259A's.
+pub const RULE_CASCADE: u8 = 1;
+
+// A pending legacy PIC interrupt removed from the requests for delivery. It can be restored where its vector couldn't be published.
+pub struct PicInterruptClaim {
+    pub vector: Vector,
+    pub irq: PicLine,
+    pub master_in_service: bool,
+    pub slave_in_service: bool,
+}
+
+// The Rust's `Option<PicInterruptClaim>`.
+pub enum PicClaim {
+    Claimed(PicInterruptClaim),
+    Nothing,
+}
+
+// The Rust's `X86VlapicResult`: done, or why not.
+pub enum PicDone {
+    Done,
+    Refused(Refusal),
+}
+
+// The Rust's `X86VlapicResult<usize>`.
+pub enum PicValue {
+    Value(u8),
+    Refused(Refusal),
+}
+
+// The first and the last port of a range.
+pub struct PortRange {
+    pub start: u16,
+    pub end: u16,
+}
+
+pub struct PortRanges {
+    pub master: PortRange,
+    pub slave: PortRange,
+}
+
+// ---- Answers in the numbers of document 01.
+
+impl PicInterruptClaim {
+    // The vector that the guest programmed for this claim.
+    pub fn vector(self) -> Vector
+        ensures { λ r. ⌜ r ≡ self .vector ⌝ }
+    {
+        self.vector
+    }
+
+    // Which in-service bits the claim set: 1 the master's, 2 the slave's.
+    pub fn flags(self) -> u64
+        ensures { λ r. ⌜ r ≡ claimFlags self ⌝ }
+    {
+        if self.master_in_service {
+            if self.slave_in_service {
+                return 3;
+            }
+            return 1;
+        }
+        if self.slave_in_service {
+            return 2;
+        }
+        0
+    }
+}
+
+impl PicClaim {
+    pub fn reply(self) -> Reply
+        ensures { λ r. ⌜ r ≡ claimReply self ⌝ }
+    {
+        match self {
+            PicClaim::Claimed(c) => {
+                let vector = c.vector;
+                let irq = c.irq;
+                Reply::Three(vector.0 as u64, irq.0 as u64, c.flags())
+            }
+            PicClaim::Nothing => Reply::Nothing,
+        }
+    }
+
+    fn vector(self) -> PicVector
+        ensures { λ r. ⌜ r ≡ claimVector self ⌝ }
+    {
+        match self {
+            PicClaim::Claimed(c) => {
+                let vector = c.vector;
+                PicVector::Given(vector)
+            }
+            PicClaim::Nothing => PicVector::Nothing,
+        }
+    }
+}
+
+impl PicDone {
+    pub fn reply(self) -> Reply
+        ensures { λ r. ⌜ r ≡ doneReply self ⌝ }
+    {
+        match self {
+            PicDone::Done => Reply::Nothing,
+            PicDone::Refused(why) => Reply::Refused(why),
+        }
+    }
+}
+
+impl PicValue {
+    pub fn reply(self) -> Reply
+        ensures { λ r. ⌜ r ≡ valueReply self ⌝ }
+    {
+        match self {
+            PicValue::Value(byte) => Reply::One(byte as u64),
+            PicValue::Refused(why) => Reply::Refused(why),
+        }
+    }
+}
+
+// ---- A claim on its way through the private functions: one number, so that it stays in a register. 0 is none; `specs/Words.antt` has its bits.
+
+struct Claim(u64);
+
+// A claim of a line with its vector, and which in-service bits it set; without a vector none was taken.
+fn claimed(
+    vector: PicVector,
+    irq: PicLine,
+    master_in_service: bool,
+    slave_in_service: bool,
+) -> Claim
+    ensures { λ r. ⌜ claimIn (r .0) ≡ claimOf vector irq «master_in_service» «slave_in_service» ⌝ }
+{
+    match vector {
+        PicVector::Given(v) => Claim(
+            0x3_0000_0000_0000
+                + digit(slave_in_service) * 0x2_0000_0000
+                + digit(master_in_service) * 0x1_0000_0000
+                + irq.0 as u64 * 0x1_0000
+                + v.0 as u64,
+        ),
+        PicVector::Nothing => Claim(0),
+    }
+}
+
+impl Claim {
+    fn claim(self) -> PicClaim
+        ensures { λ r. ⌜ r ≡ claimIn (self .0) ⌝ }
+    {
+        if self.0 == 0 {
+            return PicClaim::Nothing;
+        }
+        PicClaim::Claimed(PicInterruptClaim {
+            vector: Vector((self.0 % 0x100) as u8),
+            irq: PicLine((self.0 / 0x1_0000 % 0x100) as u8),
+            master_in_service: self.0 / 0x1_0000_0000 % 2 == 1,
+            slave_in_service: self.0 / 0x2_0000_0000 % 2 == 1,
+        })
+    }
+}
+
+// ---- The words. Nothing below looks into them.
+
+fn is_cascade(words: &[u64; 4]) -> bool
+    ensures { λ r. ⌜ r ≡ isCascade (view (now (words .entry))) ⌝ }
+{
+    words[2] == RULE_CASCADE as u64
+}
+
+fn master(words: &[u64; 4]) -> PicChip
+    ensures { λ r. ⌜ chipIn (r .0) ≡ view (now (words .entry)) .master ⌝ }
+{
+    PicChip(words[0])
+}
+
+fn slave(words: &[u64; 4]) -> PicChip
+    ensures { λ r. ⌜ chipIn (r .0) ≡ view (now (words .entry)) .slave ⌝ }
+{
+    PicChip(words[1])
+}
+
+// Nothing: lent as a slice, the words are known to be four.
+fn seen(words: &[u64]) {}
+
+fn set_master(words: &mut [u64; 4], chip: PicChip)
+    ensures { λ _. ⌜ view (now (words .exit)) ≡ chips (view (now (words .entry))) (chipIn (chip .0)) (view (now (words .entry)) .slave) ⌝ }
+{
+    seen(&*words);
+    words[0] = chip.0;
+}
+
+fn set_slave(words: &mut [u64; 4], chip: PicChip)
+    ensures { λ _. ⌜ view (now (words .exit)) ≡ chips (view (now (words .entry))) (view (now (words .entry)) .master) (chipIn (chip .0)) ⌝ }
+{
+    seen(&*words);
+    words[1] = chip.0;
+}
+
+// ---- A new pair.
+
+pub fn new_rule(words: &mut [u64; 4], rule: u64) -> PicDone
+    ensures { λ r. ⌜ doneOutcome (view (now (words .exit))) r ≡ newRule (view (now (words .entry))) rule ⌝ }
+{
+    if rule > RULE_CASCADE as u64 {
+        return PicDone::Refused(Refusal::Unsupported);
+    }
+    seen(&*words);
+    let first = PicChip::new(0x08);
+    let second = PicChip::new(0x70);
+    words[0] = first.0;
+    words[1] = second.0;
+    words[2] = rule;
+    words[3] = 0;
+    PicDone::Done
+}
+
+pub fn new(words: &mut [u64; 4])
+    ensures { λ _. ⌜ view (now (words .exit)) ≡ newState 0 ⌝ }
+{
+    let done = new_rule(&mut *words, RULE_LATCH as u64);
+}
+
+// The two command and data port ranges.
+pub fn port_ranges() -> PortRanges
+    ensures { λ r. ⌜ r ≡ portRanges ⌝ }
+{
+    PortRanges {
+        master: PortRange {
+            start: MASTER_COMMAND,
+            end: MASTER_DATA,
+        },
+        slave: PortRange {
+            start: SLAVE_COMMAND,
+            end: SLAVE_DATA,
+        },
+    }
+}
+
+// ---- Lines and claims.
+
+// What every call does last: by the cascade rule the master's request 2 follows the slave's output.
+fn settle(words: &mut [u64; 4])
+    ensures { λ _. ⌜ view (now (words .exit)) ≡ settled (view (now (words .entry))) ⌝ }
+{
+    if !is_cascade(&*words) {
+        return;
+    }
+    let up = slave(&*words).asks();
+    let driven = master(&*words).drive_cascade(up);
+    set_master(&mut *words, driven);
+}
+
+// An edge on a line of one of the chips; whether the pair has that line.
+fn latch(words: &mut [u64; 4], place: PicPlace) -> bool
+    ensures { λ r. ⌜ Latched (view (now (words .entry))) (view (now (words .exit))) place r ⌝ }
+{
+    match place {
+        PicPlace::Master(k) => {
+            let edge = master(&*words).pulse(k);
+            set_master(&mut *words, edge);
+            true
+        }
+        PicPlace::Slave(k) => {
+            let cascade = master(&*words).pulse(PicLine(CASCADE_IRQ));
+            set_master(&mut *words, cascade);
+            let edge = slave(&*words).pulse(k);
+            set_slave(&mut *words, edge);
+            true
+        }
+        PicPlace::Nowhere => false,
+    }
+}
+
+// Whose line a claim takes: one of the master's, or one of the slave's through the master's line 2.
+fn pending_place(words: &[u64; 4]) -> PicPlace
+    ensures { λ r. ⌜ r ≡ pendingPlace (view (now (words .entry))) ⌝ }
+{
+    let PendingIrq::Irq(master_irq) = master(words).pending_irq() else {
+        return PicPlace::Nowhere;
+    };
+    if master_irq.0 != CASCADE_IRQ {
+        return PicPlace::Master(master_irq);
+    }
+    let PendingIrq::Irq(slave_irq) = slave(words).pending_irq() else {
+        return PicPlace::Master(PicLine(CASCADE_IRQ));
+    };
+    PicPlace::Slave(slave_irq)
+}
+
+// The master answers for one of its lines; the pair isn't settled yet.
+fn take_master(words: &mut [u64; 4], irq: PicLine) -> Claim
+    requires { ⌜ pendingPlace (view (now words)) ≡ place.Master irq ⌝ }
+    ensures { λ r. ⌜ stateClaim (view (now (words .exit))) (claimIn (r .0)) ≡ masterTaken (view (now (words .entry))) irq ⌝ }
+{
+    let first = master(&*words);
+    let taken = first.acknowledge(irq);
+    set_master(&mut *words, taken.chip);
+    let vector = taken.vector;
+    claimed(vector, irq, !first.auto_eoi(), false)
+}
+
+// The slave answers for one of its lines, through the master's line 2.
+fn take_slave(words: &mut [u64; 4], irq: PicLine) -> Claim
+    requires { ⌜ pendingPlace (view (now words)) ≡ place.Slave irq ⌝ }
+    ensures { λ r. ⌜ stateClaim (view (now (words .exit))) (claimIn (r .0)) ≡ slaveTaken (view (now (words .entry))) irq ⌝ }
+{
+    let first = master(&*words);
+    let second = slave(&*words);
+    let cascade = first.acknowledge(PicLine(CASCADE_IRQ));
+    let taken = second.acknowledge(irq);
+    set_master(&mut *words, cascade.chip);
+    set_slave(&mut *words, taken.chip);
+    let vector = taken.vector;
+    claimed(
+        vector,
+        PicLine(irq.0 + 8),
+        !first.auto_eoi(),
+        !second.auto_eoi(),
+    )
+}
+
+// The same with the usual mode apart, in which a line taken is in service: the compiler then knows the claim's flags.
+fn claim_master(words: &mut [u64; 4], irq: PicLine) -> Claim
+    requires { ⌜ pendingPlace (view (now words)) ≡ place.Master irq ⌝ }
+    ensures { λ r. ⌜ stateClaim (view (now (words .exit))) (claimIn (r .0)) ≡ masterTaken (view (now (words .entry))) irq ⌝ }
+{
+    if master(&*words).auto_eoi() {
+        return take_master(&mut *words, irq);
+    }
+    take_master(&mut *words, irq)
+}
+
+// A slave's line that goes into service leaves nothing to settle: no other of the slave's lines counts then.
+fn claim_slave(words: &mut [u64; 4], irq: PicLine) -> Claim
+    requires { ⌜ pendingPlace (view (now words)) ≡ place.Slave irq ⌝ }
+    ensures { λ r. ⌜ stateClaim (view (now (words .exit))) (claimIn (r .0)) ≡ slaveClaim (view (now (words .entry))) irq ⌝ }
+{
+    if slave(&*words).auto_eoi() {
+        let taken = take_slave(&mut *words, irq);
+        settle(&mut *words);
+        return taken;
+    }
+    if master(&*words).auto_eoi() {
+        return take_slave(&mut *words, irq);
+    }
+    take_slave(&mut *words, irq)
+}
+
+// What can be delivered is taken. A master's line is taken without settling the pair.
+fn take(words: &mut [u64; 4]) -> Claim
+    ensures { λ r. ⌜ stateClaim (view (now (words .exit))) (claimIn (r .0)) ≡ takenAt (view (now (words .entry))) (pendingPlace (view (now (words .entry)))) ⌝ }
+{
+    match pending_place(&*words) {
+        PicPlace::Master(k) => claim_master(&mut *words, k),
+        PicPlace::Slave(k) => claim_slave(&mut *words, k),
+        PicPlace::Nowhere => Claim(0),
+    }
+}
+
+// What can be delivered is claimed.
+fn claim_pending(words: &mut [u64; 4]) -> Claim
+    ensures { λ r. ⌜ stateClaim (view (now (words .exit))) (claimIn (r .0)) ≡ claimPending (view (now (words .entry))) ⌝ }
+{
+    // As mostly, and found at once.
+    if !master(&*words).asks() {
+        return Claim(0);
+    }
+    let taken = take(&mut *words);
+    settle(&mut *words);
+    taken
+}
+
+// A line is latched, and what can be delivered is claimed: from a settled pair, which a claim of the master's line leaves settled.
+fn claim_line(words: &mut [u64; 4], irq: PicLine) -> Claim
+    ensures { λ r. ⌜ stateClaim (view (now (words .exit))) (claimIn (r .0)) ≡ claimIrq (view (now (words .entry))) irq ⌝ }
+{
+    if !latch(&mut *words, irq.place()) {
+        return Claim(0);
+    }
+    settle(&mut *words);
+    take(&mut *words)
+}
+
+// Latches an edge on one line and claims what can be delivered at once.
+pub fn claim_irq(words: &mut [u64; 4], irq: PicLine) -> PicClaim
+    ensures { λ r. ⌜ claimOutcome (view (now (words .exit))) r ≡ withClaim (claimIrq (view (now (words .entry))) irq) ⌝ }
+{
+    claim_line(&mut *words, irq).claim()
+}
+
+// Claims a request that became deliverable after the guest changed the chips.
+pub fn claim_pending_interrupt(words: &mut [u64; 4]) -> PicClaim
+    ensures { λ r. ⌜ claimOutcome (view (now (words .exit))) r ≡ withClaim (claimPending (view (now (words .entry)))) ⌝ }
+{
+    claim_pending(&mut *words).claim()
+}
+
+// Latches an edge and answers the vector alone: such a claim can't be restored.
+pub fn pulse_irq(words: &mut [u64; 4], irq: PicLine) -> PicVector
+    ensures { λ r. ⌜ vectorOutcome (view (now (words .exit))) r ≡ withVector (claimIrq (view (now (words .entry))) irq) ⌝ }
+{
+    claim_line(&mut *words, irq).claim().vector()
+}
+
+pub fn next_interrupt(words: &mut [u64; 4]) -> PicVector
+    ensures { λ r. ⌜ vectorOutcome (view (now (words .exit))) r ≡ withVector (claimPending (view (now (words .entry)))) ⌝ }
+{
+    claim_pending(&mut *words).claim().vector()
+}
+
+// A claim taken back at its place.
+fn restore_at(
+    words: &mut [u64; 4],
+    place: PicPlace,
+    master_in_service: bool,
+    slave_in_service: bool,
+)
+    ensures { λ _. ⌜ view (now (words .exit)) ≡ restoredAt (view (now (words .entry))) place «master_in_service» «slave_in_service» ⌝ }
+{
+    match place {
+        PicPlace::Master(k) => {
+            let back = master(&*words).unacknowledge(k, master_in_service);
+            set_master(&mut *words, back);
+        }
+        PicPlace::Slave(k) => {
+            let cascade = master(&*words).unacknowledge(PicLine(CASCADE_IRQ), master_in_service);
+            set_master(&mut *words, cascade);
+            let back = slave(&*words).unacknowledge(k, slave_in_service);
+            set_slave(&mut *words, back);
+        }
+        PicPlace::Nowhere => {}
+    }
+}
+
+// Restores a claim whose vector couldn't be published.
+pub fn restore_interrupt(words: &mut [u64; 4], claim: PicInterruptClaim) -> PicDone
+    ensures { λ r. ⌜ doneOutcome (view (now (words .exit))) r ≡ restoreInterrupt (view (now (words .entry))) claim ⌝ }
+{
+    let irq = claim.irq;
+    if irq.0 >= 16 {
+        return PicDone::Refused(Refusal::OutOfRange);
+    }
+    restore_at(
+        &mut *words,
+        irq.place(),
+        claim.master_in_service,
+        claim.slave_in_service,
+    );
+    settle(&mut *words);
+    PicDone::Done
+}
+
+// ---- The ports.
+
+// What a byte read of a port shows.
+fn read_port(words: &[u64; 4], port: u64) -> PicValue
+    ensures { λ r. ⌜ r ≡ portRead (view (now (words .entry))) port ⌝ }
+{
+    if port == MASTER_COMMAND as u64 {
+        return PicValue::Value(master(words).read_command());
+    }
+    if port == MASTER_DATA as u64 {
+        return PicValue::Value(master(words).mask());
+    }
+    if port == SLAVE_COMMAND as u64 {
+        return PicValue::Value(slave(words).read_command());
+    }
+    if port == SLAVE_DATA as u64 {
+        return PicValue::Value(slave(words).mask());
+    }
+    PicValue::Refused(Refusal::Unsupported)
+}
+
+// A read of a port, `width` bytes wide. Numbers come in at their full width.
+pub fn handle_read(words: &[u64; 4], port: u64, width: u64) -> PicValue
+    ensures { λ r. ⌜ valueOutcome (view (now (words .entry))) r ≡ handleRead (view (now (words .entry))) port width ⌝ }
+{
+    if width != 1 {
+        return PicValue::Refused(Refusal::Unsupported);
+    }
+    read_port(words, port)
+}
+
+// A byte is written to a port; whether the pair has that port.
+fn write_at(words: &mut [u64; 4], port: u64, byte: u8) -> bool
+    ensures { λ r. ⌜ Written (view (now (words .entry))) (view (now (words .exit))) port byte r ⌝ }
+{
+    if port == MASTER_COMMAND as u64 {
+        let written = master(&*words).command(byte);
+        set_master(&mut *words, written);
+        return true;
+    }
+    if port == MASTER_DATA as u64 {
+        let written = master(&*words).data(byte);
+        set_master(&mut *words, written);
+        return true;
+    }
+    if port == SLAVE_COMMAND as u64 {
+        let written = slave(&*words).command(byte);
+        set_slave(&mut *words, written);
+        return true;
+    }
+    if port == SLAVE_DATA as u64 {
+        let written = slave(&*words).data(byte);
+        set_slave(&mut *words, written);
+        return true;
+    }
+    false
+}
+
+// A write to a port, `width` bytes wide.
+pub fn handle_write(words: &mut [u64; 4], port: u64, width: u64, value: u64) -> PicDone
+    ensures { λ r. ⌜ doneOutcome (view (now (words .exit))) r ≡ handleWrite (view (now (words .entry))) port width value ⌝ }
+{
+    if width != 1 {
+        return PicDone::Refused(Refusal::Unsupported);
+    }
+    if !write_at(&mut *words, port, (value % 256) as u8) {
+        return PicDone::Refused(Refusal::Unsupported);
+    }
+    settle(&mut *words);
+    PicDone::Done
+}
+
+// ---- The same by value: a pair lends its words, and is handed back.
+
+// The guest's pair of legacy 8259-compatible interrupt controllers.
+pub struct EmulatedPic {
+    pub words: [u64; 4],
+}
+
+pub struct PicClaimed {
+    pub pic: EmulatedPic,
+    pub claim: PicClaim,
+}
+
+pub struct PicVectored {
+    pub pic: EmulatedPic,
+    pub vector: PicVector,
+}
+
+pub struct PicWritten {
+    pub pic: EmulatedPic,
+    pub done: PicDone,
+}
+
+pub struct PicRead {
+    pub pic: EmulatedPic,
+    pub value: PicValue,
+}
+
+impl EmulatedPic {
+    pub fn new() -> Self
+        ensures { λ r. ⌜ view (r .words) ≡ newState 0 ⌝ }
+    {
+        let mut words = [0; 4];
+        new(&mut words);
+        EmulatedPic { words }
+    }
+
+    // A new pair of either rule. For another number nothing is created, and a pair of rule 0 stands beside the refusal.
+    pub fn new_rule(rule: u8) -> PicWritten
+        ensures { λ r. ⌜ doneOutcome (view (r .pic .words)) (r .done) ≡ newRule (newState 0) rule ⌝ }
+    {
+        let mut pic = EmulatedPic::new();
+        let done = new_rule(&mut pic.words, rule as u64);
+        PicWritten { pic, done }
+    }
+
+    pub fn port_ranges() -> PortRanges
+        ensures { λ r. ⌜ r ≡ portRanges ⌝ }
+    {
+        port_ranges()
+    }
+
+    pub fn claim_irq(mut self, irq: PicLine) -> PicClaimed
+        ensures { λ r. ⌜ claimOutcome (view (r .pic .words)) (r .claim) ≡ withClaim (claimIrq (view (self .words)) irq) ⌝ }
+    {
+        let claim = claim_irq(&mut self.words, irq);
+        PicClaimed { pic: self, claim }
+    }
+
+    pub fn claim_pending_interrupt(mut self) -> PicClaimed
+        ensures { λ r. ⌜ claimOutcome (view (r .pic .words)) (r .claim) ≡ withClaim (claimPending (view (self .words))) ⌝ }
+    {
+        let claim = claim_pending_interrupt(&mut self.words);
+        PicClaimed { pic: self, claim }
+    }
+
+    pub fn pulse_irq(mut self, irq: PicLine) -> PicVectored
+        ensures { λ r. ⌜ vectorOutcome (view (r .pic .words)) (r .vector) ≡ withVector (claimIrq (view (self .words)) irq) ⌝ }
+    {
+        let vector = pulse_irq(&mut self.words, irq);
+        PicVectored { pic: self, vector }
+    }
+
+    pub fn next_interrupt(mut self) -> PicVectored
+        ensures { λ r. ⌜ vectorOutcome (view (r .pic .words)) (r .vector) ≡ withVector (claimPending (view (self .words))) ⌝ }
+    {
+        let vector = next_interrupt(&mut self.words);
+        PicVectored { pic: self, vector }
+    }
+
+    pub fn restore_interrupt(mut self, claim: PicInterruptClaim) -> PicWritten
+        ensures { λ r. ⌜ doneOutcome (view (r .pic .words)) (r .done) ≡ restoreInterrupt (view (self .words)) claim ⌝ }
+    {
+        let done = restore_interrupt(&mut self.words, claim);
+        PicWritten { pic: self, done }
+    }
+
+    pub fn handle_read(self, port: u16, width: u8) -> PicRead
+        ensures { λ r. ⌜ valueOutcome (view (r .pic .words)) (r .value) ≡ handleRead (view (self .words)) port width ⌝ }
+    {
+        let value = handle_read(&self.words, port as u64, width as u64);
+        PicRead { pic: self, value }
+    }
+
+    pub fn handle_write(mut self, port: u16, width: u8, value: u64) -> PicWritten
+        ensures { λ r. ⌜ doneOutcome (view (r .pic .words)) (r .done) ≡ handleWrite (view (self .words)) port width value ⌝ }
+    {
+        let done = handle_write(&mut self.words, port as u64, width as u64, value);
+        PicWritten { pic: self, done }
+    }
+}

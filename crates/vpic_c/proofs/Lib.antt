@@ -1,6 +1,3 @@
-pub mod InPlace
-pub mod Kept
-pub mod Packing
-pub mod Quiet
-pub mod Ways
-pub mod View
+pub mod Claims
+pub mod Laws
+pub mod Same

@@ -1,63 +1,45 @@
--- Each call of the pair on lent words: what it leaves in them, and its code. All but the making of a new pair are the core's outcome of the pair that the words stand for.
-use Prim.Native.Nat.{ℕ, _^_, _/_, _%_}
+-- Each call of the pair over lent words is the core's call on the pair that they stand for (`Rattle.vpic.specs.Words`), its reply as a code.
+-- The pair's view takes in every bit of the four words, so that an equation of what is shown is one of the words too.
+use Prim.Native.Nat.{ℕ, _/_, _%_, _^_}
 use mathlib.Core.Bool.{Bool, cond, _&&_}
 use mathlib.Core.List.{List}
 use lib.Dec.{ltb, eqb}
 use lib.ListN.{set}
+use Rattle.utils.specs.Set.{bit}
 use Rattle.types.specs.declared.PicLine.{PicLine}
-use Rattle.types.specs.declared.Refusal.the-variants.{Unsupported, OutOfRange}
+use Rattle.types.specs.declared.Refusal.the-variants.{OutOfRange}
 use Rattle.types.specs.declared.Reply.the-variants.{Nothing}
 use Rattle.types.specs.Reply.{Outcome}
-use Rattle.vpic.specs.declared.pair.EmulatedPic.{EmulatedPic}
-use Rattle.vpic.specs.declared.pair.PicInterruptClaim.{PicInterruptClaim}
-use Rattle.vpic.specs.Chip.{acknowledged}
-use Rattle.vpic.specs.Pair.{newState, isRule, portRanges, chips, masterClaim, slaveClaim, claimReply, claimIrq, claimPending, withClaim, withVector, restoreInterrupt, handleRead, handleWrite}
-use Rattle.reply_code.specs.Lent.{Lent, replyCode, refusing, answering}
-use Rattle.vpic_c.specs.Words.{wordOf, view, put}
+use Rattle.reply_code.specs.Lent.{Lent, replyCode}
+use Rattle.vpic.specs.declared.PicInterruptClaim.{PicInterruptClaim}
+use Rattle.vpic.specs.Words.{PicState}
+use Rattle.vpic.specs.Pair.{portRanges, refused, restoreInterrupt}
 
+-- the pair that the words stand for after a call, and the call's code
+pub record Coded : Type 0 where
+  pub state : PicState
+  pub code : ℕ
+
+abbrev pub shown : PicState → ℕ → Coded
+shown p c = record { state = p; code = c }
+
+abbrev pub coded : Outcome PicState → Coded
+coded o = record { state = o .state; code = replyCode (o .reply) }
+
+-- the first and the last port of each chip
 abbrev pub lent : List ℕ → ℕ → Lent
 lent l c = record { words = l; code = c }
 
-abbrev pub line : ℕ → PicLine
-line k = record { 0 = k }
-
--- both chips of an outcome are put back, and its reply is the code
-abbrev pub after : List ℕ → Outcome EmulatedPic → Lent
-after l o = lent (put l (o .state .state)) (replyCode (o .reply))
-
--- a new pair of a rule: two new chips, the rule, 0
-abbrev pub newPair : List ℕ → ℕ → List ℕ
-newPair l rule = set (set (set (set l 0 (wordOf (newState rule .master))) 1 (wordOf (newState rule .slave))) 2 rule) 3 0
-
--- new_rule, and new with 0: refused, the words stay as they were
-unfoldable pub newWords : List ℕ → ℕ → Lent
-newWords l rule = cond (isRule rule) (answering (newPair l rule) Nothing) (refusing l Unsupported)
-
--- the first and the last port of each chip
 abbrev pub rangeWords : List ℕ → Lent
 rangeWords l =
     lent (set (set (set (set l 0 (portRanges .master .start)) 1 (portRanges .master .end)) 2 (portRanges .slave .start)) 3 (portRanges .slave .end)) (replyCode Nothing)
 
-unfoldable pub claimIrqWords : List ℕ → ℕ → Lent
-claimIrqWords l irq = after l (withClaim (claimIrq (view l .state) (line irq)))
+abbrev pub line : ℕ → PicLine
+line k = record { 0 = k }
 
--- a line of the master, and one of the slave, is taken, and the pair isn't settled yet
-unfoldable pub masterTaken : List ℕ → PicLine → Lent
-masterTaken l k =
-    lent (put l (chips (view l .state) (acknowledged (view l .state .master) (k .0)) (view l .state .slave))) (replyCode (claimReply (masterClaim (view l .state) k .claim)))
-
-unfoldable pub slaveTaken : List ℕ → PicLine → Lent
-slaveTaken l k =
-    lent (put l (chips (view l .state) (acknowledged (view l .state .master) 2) (acknowledged (view l .state .slave) (k .0)))) (replyCode (claimReply (slaveClaim (view l .state) k .claim)))
-
-unfoldable pub claimPendingWords : List ℕ → Lent
-claimPendingWords l = after l (withClaim (claimPending (view l .state)))
-
-unfoldable pub pulseIrqWords : List ℕ → ℕ → Lent
-pulseIrqWords l irq = after l (withVector (claimIrq (view l .state) (line irq)))
-
-unfoldable pub nextInterruptWords : List ℕ → Lent
-nextInterruptWords l = after l (withVector (claimPending (view l .state)))
+-- any number from 16 up is taken for line 16, which the pair hasn't
+abbrev pub lineOf : ℕ → PicLine
+lineOf irq = cond (ltb irq 16) (line irq) (line 16)
 
 -- the claim of these three values
 abbrev pub claimWith : ℕ → ℕ → ℕ → PicInterruptClaim
@@ -72,13 +54,13 @@ claimWith vector irq flags = record {
 abbrev pub isClaim : ℕ → Bool
 isClaim c = eqb (c / 2 ^ 48) 3 && (ltb (c % 2 ^ 16) 256 && (ltb (c / 2 ^ 16 % 2 ^ 16) 16 && ltb (c / 2 ^ 32 % 2 ^ 16) 4))
 
+-- how it is taken apart: any other number is taken for a claim of line 16
+abbrev pub claimedLine : ℕ → PicLine
+claimedLine c = cond (isClaim c) (line (c / 2 ^ 16 % 2 ^ 4)) (line 16)
+
+abbrev pub claimOf : ℕ → PicInterruptClaim
+claimOf c = record { vector = record { 0 = c % 2 ^ 8 }; irq = claimedLine c; «master_in_service» = bit c 32; «slave_in_service» = bit c 33 }
+
 -- restore_interrupt takes the code that a claim answered, and no other number
-unfoldable pub restoreWords : List ℕ → ℕ → Lent
-restoreWords l c =
-    cond (isClaim c) (after l (restoreInterrupt (view l) (claimWith (c % 2 ^ 16) (c / 2 ^ 16 % 2 ^ 16) (c / 2 ^ 32 % 2 ^ 16)))) (refusing l OutOfRange)
-
-unfoldable pub readWords : List ℕ → ℕ → ℕ → Lent
-readWords l port width = answering l (handleRead (view l) port width .reply)
-
-unfoldable pub writeWords : List ℕ → ℕ → ℕ → ℕ → Lent
-writeWords l port width value = after l (handleWrite (view l) port width value)
+abbrev pub restoreCode : PicState → ℕ → Outcome PicState
+restoreCode p c = cond (isClaim c) (restoreInterrupt p (claimWith (c % 2 ^ 16) (c / 2 ^ 16 % 2 ^ 16) (c / 2 ^ 32 % 2 ^ 16))) (refused p OutOfRange)

@@ -1,9 +1,9 @@
 // Examples 7, 8 and 9 of document 01 on the pair, and 7 and 8 again by the cascade rule (document 02, T-02): each line is what was asked, the number, and the values.
 use types::PicLine;
-use vpic::pair::EmulatedPic;
-use vpic::pair::PicClaim;
-use vpic::pair::RULE_CASCADE;
-use vpic::pair::RULE_LATCH;
+use vpic::EmulatedPic;
+use vpic::PicClaim;
+use vpic::RULE_CASCADE;
+use vpic::RULE_LATCH;
 
 const MASTER_COMMAND: u16 = 0x20;
 

@@ -1,5 +1,5 @@
 -- A refused call hands back the pair that it was given, whatever it was called with. Assumes nothing.
-use mathlib.Core.Path.{_≡_, refl, sym, ap}
+use mathlib.Core.Path.{_≡_, refl, _∙_}
 use mathlib.Core.Bool.{Bool, true, false, cond}
 use Prim.Native.Nat.{ℕ, _%_}
 use lib.Dec.{ltb, eqb}
@@ -7,12 +7,13 @@ use Rattle.types.specs.declared.Refusal.{Refusal}
 use Rattle.types.specs.declared.Refusal.the-variants.{Unsupported, OutOfRange}
 use Rattle.types.specs.declared.Reply.the-variants as reply
 use Rattle.types.specs.Reply.{Outcome, replyNumber}
-use Rattle.vpic.specs.declared.pair.EmulatedPic.{EmulatedPic}
-use Rattle.vpic.specs.declared.pair.PicClaim.{PicClaim}
-use Rattle.vpic.specs.declared.pair.PicClaim.the-variants.{Claimed, Nothing as NoClaim}
-use Rattle.vpic.specs.Chip.{vectorReply}
-use Rattle.vpic.specs.Pair.{isPort, claimReply, claimVector, claimIrq, claimPending, withClaim, withVector, refused}
-use Rattle.vpic_theorems.specs.Statements.{Call, claim-irq, claim-pending-interrupt, pulse-irq, next-interrupt, restore-interrupt, handle-read, handle-write, outcome, RefusedUnchanged}
+use Rattle.vpic.specs.Words.{PicState, view}
+use Rattle.vpic.specs.declared.PicClaim.{PicClaim}
+use Rattle.vpic.specs.declared.PicClaim.the-variants.{Claimed, Nothing as NoClaim}
+use Rattle.vpic_chip.specs.Chip.{vectorReply}
+use Rattle.vpic.specs.Pair.{isPort, isRule, claimReply, claimVector, claimIrq, claimPending, withClaim, withVector, refused}
+use Rattle.vpic.proofs.Codes.{words-same}
+use Rattle.vpic_theorems.specs.Statements.{Call, claim-irq, claim-pending-interrupt, pulse-irq, next-interrupt, restore-interrupt, handle-read, handle-write, outcome, RefusedUnchanged, RefusedKeepsWords, RefusedNewKeepsWords}
 
 -- a claim is never refused, and neither is its vector
 claim-done : (c : PicClaim) → replyNumber (claimReply c) ≡ 0
@@ -24,17 +25,23 @@ vector-done (Claimed c) = refl
 vector-done NoClaim = refl
 
 -- a test between an outcome that is done and a refusal: where the number isn't 0, it is the refusal
-or-refused : (p : EmulatedPic) (why : Refusal) (b : Bool) (o : Outcome EmulatedPic) → ((replyNumber (o .reply) ≡ 0 → ⊥) → o .state ≡ p)
+or-refused : (p : PicState) (why : Refusal) (b : Bool) (o : Outcome PicState) → ((replyNumber (o .reply) ≡ 0 → ⊥) → o .state ≡ p)
     → (replyNumber (cond b o (refused p why) .reply) ≡ 0 → ⊥) → cond b o (refused p why) .state ≡ p
 or-refused p why true o h n = h n
 or-refused p why false o h n = refl
 
 pub refused-unchanged : RefusedUnchanged
 unfolding outcome
-refused-unchanged p (claim-irq l) n = absurd (n (claim-done (claimIrq (p .state) l .claim)))
-refused-unchanged p claim-pending-interrupt n = absurd (n (claim-done (claimPending (p .state) .claim)))
-refused-unchanged p (pulse-irq l) n = absurd (n (vector-done (claimIrq (p .state) l .claim)))
-refused-unchanged p next-interrupt n = absurd (n (vector-done (claimPending (p .state) .claim)))
+refused-unchanged p (claim-irq l) n = absurd (n (claim-done (claimIrq p l .claim)))
+refused-unchanged p claim-pending-interrupt n = absurd (n (claim-done (claimPending p .claim)))
+refused-unchanged p (pulse-irq l) n = absurd (n (vector-done (claimIrq p l .claim)))
+refused-unchanged p next-interrupt n = absurd (n (vector-done (claimPending p .claim)))
 refused-unchanged p (restore-interrupt c) n = or-refused p OutOfRange (ltb (c .irq .0) 16) _ (λ m. absurd (m refl)) n
 refused-unchanged p (handle-read port width) n = or-refused p Unsupported (eqb width 1) _ (λ m. refl) n
 refused-unchanged p (handle-write port width value) n = or-refused p Unsupported (eqb width 1) _ (or-refused p Unsupported (isPort port) _ (λ m. absurd (m refl))) n
+
+pub refused-keeps-words : RefusedKeepsWords
+refused-keeps-words l m c h k e n = words-same m l k h (e ∙ refused-unchanged (view l) c n)
+
+pub refused-new-keeps-words : RefusedNewKeepsWords
+refused-new-keeps-words l m rule h k e n = words-same m l k h (e ∙ or-refused (view l) Unsupported (isRule rule) _ (λ d. absurd (d refl)) n)

@@ -13,20 +13,20 @@ use Rattle.types.specs.declared.Vector.{Vector}
 use Rattle.types.specs.declared.PicPlace.the-variants.{Master, Slave}
 use Rattle.types.specs.declared.Reply.the-variants as reply
 use Rattle.types.specs.Counters.{placeOf, lineVector}
-use Rattle.vpic.specs.declared.chip.PicChip.{PicChip}
-use Rattle.vpic.specs.declared.chip.PendingIrq.{PendingIrq}
-use Rattle.vpic.specs.declared.chip.PendingIrq.the-variants.{Irq, Nothing}
-use Rattle.vpic.specs.declared.pair.PicState.{PicState}
-use Rattle.vpic.specs.declared.pair.PicInterruptClaim.{PicInterruptClaim}
-use Rattle.vpic.specs.declared.pair.PicClaim.{PicClaim}
-use Rattle.vpic.specs.declared.pair.PicClaim.the-variants.{Claimed, Nothing as NoClaim}
-use Rattle.vpic.specs.declared.pair.StateClaim.{StateClaim}
-use Rattle.vpic.specs.Chip.{opened, commanded, fed, pulsed, counts, pendingLine, pendingIrq, acknowledged, unacknowledged, withRequest, withInService, specificEoi}
-use Rattle.vpic.specs.Pair.{chips, pic, grew, newState, settled, latchedAt, latched, cascadeIrq, claimed, masterClaim, slaveClaim, cascadePlace, placeFrom, claimAt, claimPending, claimIrq, portWritten, writtenAt, restored, restoreInterrupt}
-use Rattle.vpic.proofs.ChipLaws.{Pending, pended}
+use Rattle.vpic_chip.specs.Registers.{Chip, withRequest, withInService}
+use Rattle.vpic_chip.specs.declared.PendingIrq.{PendingIrq}
+use Rattle.vpic_chip.specs.declared.PendingIrq.the-variants.{Irq, Nothing}
+use Rattle.vpic.specs.Words.{PicState}
+use Rattle.vpic.specs.declared.PicInterruptClaim.{PicInterruptClaim}
+use Rattle.vpic.specs.declared.PicClaim.{PicClaim}
+use Rattle.vpic.specs.declared.PicClaim.the-variants.{Claimed, Nothing as NoClaim}
+use Rattle.vpic_chip.specs.Chip.{opened, commanded, fed, pulsed, counts, pendingLine, pendingIrq, acknowledged, unacknowledged, specificEoi}
+use Rattle.vpic.specs.Pair.{StateClaim, Keeps, chips, grew, newState, settled, latchedAt, latched, cascadeIrq, claimed, masterClaim, slaveClaim, cascadePlace, placeFrom, claimAt, claimPending, claimIrq, portWritten, writtenAt, restored, restoreInterrupt}
+use Rattle.vpic_chip.proofs.Laws.{Pending, pended}
 use Rattle.vpic_theorems.specs.Rule.{LatchedKeeps}
-use Rattle.vpic_theorems.proofs.Settled.{settled-between, settled-kept, settled-keeps}
-use Rattle.vpic_theorems.specs.Statements.{Keeps, RestoredAtOnce, RestoredAfterRaise, Served, ServedBy, HighestServed, SecondCallerUnheard}
+use Rattle.vpic_theorems.proofs.Settled.{settled-between}
+use Rattle.vpic.proofs.Settled.{settled-kept, settled-keeps}
+use Rattle.vpic_theorems.specs.Statements.{RestoredAtOnce, RestoredAfterRaise, Served, ServedBy, HighestServed, SecondCallerUnheard}
 
 -- ---- one chip: acknowledged, and taken back
 
@@ -35,7 +35,7 @@ grew-with : (n k : ℕ) → bit n k ≡ false → ltb n (with n k) ≡ true
 unfolding with
 grew-with n k h = rw h (lt-ltb n (n + 2 ^ k) (omega (arith, pow-pos k)))
 
-chip-back : (c : PicChip) (k : PicLine) → Pending c (k .0) → unacknowledged (acknowledged c (k .0)) k (grew c (acknowledged c (k .0))) ≡ c
+chip-back : (c : Chip) (k : PicLine) → Pending c (k .0) → unacknowledged (acknowledged c (k .0)) k (grew c (acknowledged c (k .0))) ≡ c
 unfolding unacknowledged acknowledged pulsed
 chip-back c k h = go (c .«auto_eoi»)
   where
@@ -68,7 +68,7 @@ master-back p k c keeps h e =
     let f : c ≡ the-claim p q (lineVector (p .master .«vector_base») k) k = cc in
     rw (f, place-low k (h .low))
     (settled-between q k (grew (p .master) (q .master)) (λ s. s) (h .low)
-    ∙ ap (λ (m : PicChip). settled (chips p m (p .slave))) (chip-back (p .master) k h)
+    ∙ ap (λ (m : Chip). settled (chips p m (p .slave))) (chip-back (p .master) k h)
     ∙ settled-kept p keeps)
 
 slave-back : (p : PicState) (k : PicLine) (c : PicInterruptClaim) → Keeps p → Pending (p .master) 2 → Pending (p .slave) (k .0) → slaveClaim p k .claim ≡ Claimed c
@@ -79,7 +79,7 @@ slave-back p k c keeps m h e =
     let f : c ≡ the-claim p q (lineVector (p .slave .«vector_base») k) (record { 0 = k .0 + 8 }) = cc in
     rw (f, place-high k (h .low))
     (settled-between q cascadeIrq (grew (p .master) (q .master)) (λ s. unacknowledged s k (grew (p .slave) (q .slave))) (m .low)
-    ∙ ap₂ (λ (a b : PicChip). settled (chips p a b)) (chip-back (p .master) cascadeIrq m) (chip-back (p .slave) k h)
+    ∙ ap₂ (λ (a b : Chip). settled (chips p a b)) (chip-back (p .master) cascadeIrq m) (chip-back (p .slave) k h)
     ∙ settled-kept p keeps)
 
 -- ---- any claim is one of the two
@@ -134,13 +134,13 @@ unfolding claimIrq
 restored-after-raise p l c e = go (ltb (l .0) 16) e
   where
     go : (b : Bool) → cond b (claimPending (latched p l)) (record { state = p; claim = NoClaim }) .claim ≡ Claimed c
-        → restoreInterrupt (pic (cond b (claimPending (latched p l)) (record { state = p; claim = NoClaim }) .state)) c ≡ record { state = pic (latched p l); reply = reply.Nothing }
+        → restoreInterrupt (cond b (claimPending (latched p l)) (record { state = p; claim = NoClaim }) .state) c ≡ record { state = latched p l; reply = reply.Nothing }
     go true f = restored-at-once (latched p l) c (latched-keeps p l) f
     go false f = let z : _≡_ {A = ℕ} 0 1 = cc in absurd (omega arith)
 
 -- ---- the highest request is served
 
-serves : (c : PicChip) (k : ℕ) → Pending c k → Served c (acknowledged c k) k
+serves : (c : Chip) (k : ℕ) → Pending c k → Served c (acknowledged c k) k
 serves c k h = record { counted = h .counted; highest = h .highest; done = refl }
 
 master-serves : (p : PicState) (k : PicLine) → Pending (p .master) (k .0) → ServedBy p (masterClaim p k .state) (k .0)

@@ -8,29 +8,13 @@ use borrow.Author.Tests.{lt-ltb, eqb-true, eqb-false}
 use Rattle.utils.specs.Set.{bit, with, without}
 use Rattle.utils.proofs.Laws.{bit-with-same, bit-with-other, bit-without-same, bit-without-other, bit-at-least, with-without, without-with, with-member, without-member}
 use Rattle.types.specs.declared.PicLine.{PicLine}
-use Rattle.vpic.specs.declared.chip.PicChip.{PicChip}
-use Rattle.vpic.specs.declared.pair.PicState.{PicState}
-use Rattle.vpic.specs.Chip.{asks, driven, pulsed, unacknowledged, withRequest, specificEoi}
+use Rattle.vpic_chip.specs.Registers.{Chip, withRequest}
+use Rattle.vpic.specs.Words.{PicState}
+use Rattle.vpic_chip.specs.Chip.{asks, driven, pulsed, unacknowledged, specificEoi}
 use Rattle.vpic.specs.Pair.{isCascade, settled, chips}
-use Rattle.vpic_theorems.specs.Statements.{Keeps}
+use Rattle.vpic.proofs.Settled.{drive}
 
 -- ---- a set with k put in or taken out
-
-abbrev drive : Bool → ℕ → ℕ → ℕ
-drive up n k = cond up (with n k) (without n k)
-
--- k is in it exactly if it was put in
-bit-drive : (up : Bool) (n k : ℕ) → bit (drive up n k) k ≡ up
-bit-drive true n k = bit-with-same n k
-bit-drive false n k = bit-without-same n k
-
--- to put it where it was changes nothing
-drive-same : (n k : ℕ) → drive (bit n k) n k ≡ n
-drive-same n k = go (bit n k) refl
-  where
-    go : (b : Bool) → bit n k ≡ b → drive b n k ≡ n
-    go true e = with-member n k e
-    go false e = without-member n k e
 
 -- what was put in or taken out before doesn't matter
 drive-with : (up : Bool) (n k : ℕ) → drive up (with n k) k ≡ drive up n k
@@ -90,23 +74,19 @@ drive-last up before n k j = go (eqb j k) refl
 
 -- ---- one chip
 
-pub driven-same : (c : PicChip) (k : ℕ) → driven c k (bit (c .request) k) ≡ c
-unfolding driven
-driven-same c k = ap (withRequest c) (drive-same (c .request) k)
-
-pub driven-with : (c : PicChip) (k : ℕ) (up : Bool) → driven (withRequest c (with (c .request) k)) k up ≡ driven c k up
+pub driven-with : (c : Chip) (k : ℕ) (up : Bool) → driven (withRequest c (with (c .request) k)) k up ≡ driven c k up
 unfolding driven
 driven-with c k up = ap (withRequest c) (drive-with up (c .request) k)
 
 -- an acknowledgement that is taken back between two drives is as one before the last
-pub driven-last : (c : PicChip) (l : PicLine) (f up before : Bool) → l .0 < 8 → driven (unacknowledged (driven c 2 before) l f) 2 up ≡ driven (unacknowledged c l f) 2 up
+pub driven-last : (c : Chip) (l : PicLine) (f up before : Bool) → l .0 < 8 → driven (unacknowledged (driven c 2 before) l f) 2 up ≡ driven (unacknowledged c l f) 2 up
 unfolding driven unacknowledged pulsed
 driven-last c l f up before h = rw (lt-ltb (l .0) 8 h) (go f)
   where
     same : drive up (with (drive before (c .request) 2) (l .0)) 2 ≡ drive up (with (c .request) (l .0)) 2
     same = drive-last up before (c .request) 2 (l .0)
 
-    again : Bool → PicChip → PicChip
+    again : Bool → Chip → Chip
     again f d = cond f (specificEoi d (l .0)) d
 
     go : (f : Bool)
@@ -126,35 +106,8 @@ pub settled-cascade : (p : PicState) → isCascade p ≡ true → settled p ≡ 
 unfolding settled
 settled-cascade p e = rw e
 
--- the rule's number stays
-pub settled-number : (p : PicState) → settled p .rule ≡ p .rule
-unfolding settled
-settled-number p = go (isCascade p)
-  where
-    go : (b : Bool) → cond b (chips p (driven (p .master) 2 (asks (p .slave))) (p .slave)) p .rule ≡ p .rule
-    go true = refl
-    go false = refl
-
--- a settled pair keeps the rule
-pub settled-keeps : (p : PicState) → Keeps (settled p)
-unfolding settled driven
-settled-keeps p = go (isCascade p) refl
-  where
-    go : (b : Bool) → isCascade p ≡ b → Keeps (cond b (chips p (driven (p .master) 2 (asks (p .slave))) (p .slave)) p)
-    go true e = λ i. bit-drive (asks (p .slave)) (p .master .request) 2
-    go false e = λ i. let z : _≡_ {A = Bool} true false = sym i ∙ e in cc
-
--- and settling changes nothing on a pair that keeps it
-pub settled-kept : (p : PicState) → Keeps p → settled p ≡ p
-unfolding settled
-settled-kept p keeps = go (isCascade p) refl
-  where
-    go : (b : Bool) → isCascade p ≡ b → cond b (chips p (driven (p .master) 2 (asks (p .slave))) (p .slave)) p ≡ p
-    go true e = ap (λ (m : PicChip). chips p m (p .slave)) (ap (driven (p .master) 2) (sym (keeps e)) ∙ driven-same (p .master) 2)
-    go false e = refl
-
 -- a pair that is settled between a claim and its restore is as one that is settled after both
-pub settled-between : (q : PicState) (l : PicLine) (f : Bool) (g : PicChip → PicChip) → l .0 < 8
+pub settled-between : (q : PicState) (l : PicLine) (f : Bool) (g : Chip → Chip) → l .0 < 8
     → settled (chips (settled q) (unacknowledged (settled q .master) l f) (g (settled q .slave))) ≡ settled (chips q (unacknowledged (q .master) l f) (g (q .slave)))
 settled-between q l f g h = go (isCascade q) refl
   where
@@ -164,5 +117,5 @@ settled-between q l f g h = go (isCascade q) refl
     go true e =
         ap (λ (x : PicState). settled (chips x (unacknowledged (x .master) l f) (g (x .slave)))) (settled-cascade q e)
         ∙ settled-cascade (chips q (unacknowledged (driven (q .master) 2 (asks (q .slave))) l f) (g (q .slave))) e
-        ∙ ap (λ (m : PicChip). chips q m (g (q .slave))) (driven-last (q .master) l f (asks (g (q .slave))) (asks (q .slave)) h)
+        ∙ ap (λ (m : Chip). chips q m (g (q .slave))) (driven-last (q .master) l f (asks (g (q .slave))) (asks (q .slave)) h)
         ∙ sym (settled-cascade (chips q (unacknowledged (q .master) l f) (g (q .slave))) e)

@@ -8,35 +8,34 @@ use Rattle.utils.specs.Set.{bit}
 use Rattle.types.specs.declared.Reply.the-variants as reply
 use Rattle.types.specs.declared.PicLine.{PicLine}
 use Rattle.types.specs.Counters.{lineVector}
-use Rattle.vpic.specs.declared.chip.PicChip.{PicChip}
-use Rattle.vpic.specs.declared.pair.PicState.{PicState}
-use Rattle.vpic.specs.declared.pair.EmulatedPic.{EmulatedPic}
-use Rattle.vpic.specs.declared.pair.PicInterruptClaim.{PicInterruptClaim}
-use Rattle.vpic.specs.declared.pair.PicClaim.the-variants.{Claimed}
-use Rattle.vpic.specs.Chip.{asks, counts, pendingLine}
-use Rattle.vpic.specs.Pair.{pic, newState, isCascade, slaveClaim, claimPending, claimIrq, latched, claimReply, restoreInterrupt, handleRead}
+use Rattle.vpic_chip.specs.Registers.{Chip}
+use Rattle.vpic.specs.Words.{PicState}
+use Rattle.vpic.specs.declared.PicInterruptClaim.{PicInterruptClaim}
+use Rattle.vpic.specs.declared.PicClaim.the-variants.{Claimed}
+use Rattle.vpic_chip.specs.Chip.{asks, counts, pendingLine}
+use Rattle.vpic.specs.Pair.{newState, isCascade, Keeps, slaveClaim, claimPending, claimIrq, latched, claimReply, restoreInterrupt, handleRead}
 use Rattle.vpic.specs.Departures.{at, line, open', seventh}
-use Rattle.vpic_theorems.specs.Statements.{Call, outcome, Keeps}
+use Rattle.vpic_theorems.specs.Statements.{Call, outcome}
 
 -- ---- what the rule says
 
 -- a chip's output is up exactly when some request of it counts: where one does, it is up
 abbrev pub AsksIfCounts : Type 0
-AsksIfCounts = (c : PicChip) (k : ℕ) → counts c k ≡ true → asks c ≡ true
+AsksIfCounts = (c : Chip) (k : ℕ) → counts c k ≡ true → asks c ≡ true
 
 -- and where it is up, one does: the line that the search finds is the highest of them
-pub record Highest (c : PicChip) (k : ℕ) : Type 0 where
+pub record Highest (c : Chip) (k : ℕ) : Type 0 where
   pub low : k < 8
   pub counted : counts c k ≡ true
   pub above : (j : ℕ) → j < k → counts c j ≡ false
 
 abbrev pub CountsIfAsks : Type 0
-CountsIfAsks = (c : PicChip) → asks c ≡ true → Highest c (pendingLine c)
+CountsIfAsks = (c : Chip) → asks c ≡ true → Highest c (pendingLine c)
 
 -- ---- it is kept
 
 -- calls one after another
-abbrev pub run : EmulatedPic → List Call → EmulatedPic
+abbrev pub run : PicState → List Call → PicState
 run p [] = p
 run p (c ∷ l) = run (outcome p c .state) l
 
@@ -46,14 +45,14 @@ NewKeeps = (rule : ℕ) → Keeps (newState rule)
 
 -- so does every call, with any arguments, on a pair that keeps it; and the rule stays the one that was chosen
 abbrev pub CallsKeep : Type 0
-CallsKeep = (p : EmulatedPic) (c : Call) → Keeps (p .state) → Keeps (outcome p c .state .state)
+CallsKeep = (p : PicState) (c : Call) → Keeps p → Keeps (outcome p c .state)
 
 abbrev pub CallsKeepNumber : Type 0
-CallsKeepNumber = (p : EmulatedPic) (c : Call) → outcome p c .state .state .rule ≡ p .state .rule
+CallsKeepNumber = (p : PicState) (c : Call) → outcome p c .state .rule ≡ p .rule
 
 -- so any calls on a new pair do
 abbrev pub RunsKeep : Type 0
-RunsKeep = (rule : ℕ) (l : List Call) → Keeps (run (pic (newState rule)) l .state)
+RunsKeep = (rule : ℕ) (l : List Call) → Keeps (run (newState rule) l)
 
 -- a pair with a line latched, written to or restored keeps it, whatever it was before
 abbrev pub LatchedKeeps : Type 0
@@ -61,7 +60,7 @@ LatchedKeeps = (p : PicState) (l : PicLine) → Keeps (latched p l)
 
 -- a read changes nothing
 abbrev pub ReadsUnchanged : Type 0
-ReadsUnchanged = (p : EmulatedPic) (port width : ℕ) → handleRead p port width .state ≡ p
+ReadsUnchanged = (p : PicState) (port width : ℕ) → handleRead p port width .state ≡ p
 
 -- line 2 raised by hand latches nothing
 abbrev pub LineTwoLatchesNothing : Type 0
@@ -70,7 +69,7 @@ LineTwoLatchesNothing = (p : PicState) → isCascade p ≡ true → Keeps p → 
 -- ---- no slave request that counts goes unheard
 
 -- nothing on the master stands before its line 2: it is unmasked, nothing at or above it is in service, and no unmasked request 0 or 1 waits
-pub record Clear (m : PicChip) : Type 0 where
+pub record Clear (m : Chip) : Type 0 where
   pub unmasked : bit (m .mask) 2 ≡ false
   pub idle : (k : ℕ) → k ≤ 2 → bit (m .«in_service») k ≡ false
   pub quiet : (k : ℕ) → k < 2 → bit (m .request) k ≡ true → bit (m .mask) k ≡ true
@@ -96,7 +95,7 @@ LineTwoUnanswered = claimReply (claimIrq (open' 1) (line 2) .claim) ≡ reply.No
 -- why a claim restored at once asks for a pair that keeps the rule: of the two chips of base 0 with nothing masked and nothing in service, the master's request 2 stands and
 -- no request of the slave's. The claim of line 2 is restored, and the request is gone: the rule holds then
 abbrev pub unkept : PicState
-unkept = record { rule = 1; master = at 4 0 0; slave = at 0 0 0 }
+unkept = record { rule = 1; master = at 4 0 0; slave = at 0 0 0; spare = 0 }
 
 abbrev pub lineTwo : PicInterruptClaim
 lineTwo = record { vector = record { 0 = 2 }; irq = line 2; «master_in_service» = true; «slave_in_service» = false }
@@ -104,5 +103,5 @@ lineTwo = record { vector = record { 0 = 2 }; irq = line 2; «master_in_service�
 abbrev pub UnkeptNotRestored : Type 0
 UnkeptNotRestored =
     (claimPending unkept .claim ≡ Claimed lineTwo)
-    × (restoreInterrupt (pic (claimPending unkept .state)) lineTwo .state .state .master .request ≡ 0)
+    × (restoreInterrupt (claimPending unkept .state) lineTwo .state .master .request ≡ 0)
     × (unkept .master .request ≡ 4)

@@ -1,19 +1,18 @@
 -- Theorems about the pair that belong to no one call: a refusal changes nothing, a claim can be taken back, and the highest request is served.
-use Prim.Native.Nat.{ℕ, _-_, _<_, _≤_}
+use Prim.Native.Nat.{ℕ, _-_, _/_, _^_, _<_, _≤_}
 use mathlib.Core.Path.{_≡_}
 use mathlib.Core.Bool.{Bool, true, false}
 use mathlib.Core.List.{List, [], _∷_}
-use Rattle.utils.specs.Set.{bit}
+use lib.ListN.{getD, length}
 use Rattle.types.specs.declared.PicLine.{PicLine}
 use Rattle.types.specs.declared.Reply.the-variants as reply
 use Rattle.types.specs.Reply.{Outcome, replyNumber}
-use Rattle.vpic.specs.declared.chip.PicChip.{PicChip}
-use Rattle.vpic.specs.declared.pair.PicState.{PicState}
-use Rattle.vpic.specs.declared.pair.EmulatedPic.{EmulatedPic}
-use Rattle.vpic.specs.declared.pair.PicInterruptClaim.{PicInterruptClaim}
-use Rattle.vpic.specs.declared.pair.PicClaim.the-variants.{Claimed, Nothing as NoClaim}
-use Rattle.vpic.specs.Chip.{asks, counts, acknowledged}
-use Rattle.vpic.specs.Pair.{chips, pic, isCascade, settled, claimPending, claimIrq, latched, restoreInterrupt, withClaim, withVector, handleRead, handleWrite}
+use Rattle.vpic_chip.specs.Registers.{Chip}
+use Rattle.vpic.specs.Words.{PicState, view}
+use Rattle.vpic.specs.declared.PicInterruptClaim.{PicInterruptClaim}
+use Rattle.vpic.specs.declared.PicClaim.the-variants.{Claimed, Nothing as NoClaim}
+use Rattle.vpic_chip.specs.Chip.{counts, acknowledged}
+use Rattle.vpic.specs.Pair.{newRule, chips, settled, Keeps, claimPending, claimIrq, latched, restoreInterrupt, withClaim, withVector, handleRead, handleWrite}
 use Rattle.vpic.specs.Departures.{seventh}
 
 -- every public call of the pair, with any arguments
@@ -27,45 +26,60 @@ pub data Call : Type 0 where
   handle-write : ℕ → ℕ → ℕ → Call  -- port, width, value
 
 -- what the call leaves: what its promise says
-unfoldable pub outcome : EmulatedPic → Call → Outcome EmulatedPic
-outcome p (claim-irq l) = withClaim (claimIrq (p .state) l)
-outcome p claim-pending-interrupt = withClaim (claimPending (p .state))
-outcome p (pulse-irq l) = withVector (claimIrq (p .state) l)
-outcome p next-interrupt = withVector (claimPending (p .state))
+unfoldable pub outcome : PicState → Call → Outcome PicState
+outcome p (claim-irq l) = withClaim (claimIrq p l)
+outcome p claim-pending-interrupt = withClaim (claimPending p)
+outcome p (pulse-irq l) = withVector (claimIrq p l)
+outcome p next-interrupt = withVector (claimPending p)
 outcome p (restore-interrupt c) = restoreInterrupt p c
 outcome p (handle-read port width) = handleRead p port width
 outcome p (handle-write port width value) = handleWrite p port width value
 
 -- a refused call hands back the pair that it was given
 abbrev pub RefusedUnchanged : Type 0
-RefusedUnchanged = (p : EmulatedPic) (c : Call) → (replyNumber (outcome p c .reply) ≡ 0 → ⊥) → outcome p c .state ≡ p
+RefusedUnchanged = (p : PicState) (c : Call) → (replyNumber (outcome p c .reply) ≡ 0 → ⊥) → outcome p c .state ≡ p
 
--- what a pair must keep for a claim on it to be taken back whole: by the cascade rule, the master's request 2 set exactly when some slave request counts
-abbrev pub Keeps : PicState → Type 0
-Keeps p = isCascade p ≡ true → bit (p .master .request) 2 ≡ asks (p .slave)
+-- over lent words: l before the call, and m what it leaves. A refused call leaves every word as it was, and so does a new pair's that is refused
+abbrev pub RefusedKeepsWords : Type 0
+RefusedKeepsWords =
+    (l m : List ℕ) (c : Call) → length l ≡ 4 → length m ≡ 4 → view m ≡ outcome (view l) c .state → (replyNumber (outcome (view l) c .reply) ≡ 0 → ⊥) → m ≡ l
 
--- a claim that is restored at once gives the pair back as it was
+abbrev pub RefusedNewKeepsWords : Type 0
+RefusedNewKeepsWords =
+    (l m : List ℕ) (rule : ℕ) → length l ≡ 4 → length m ≡ 4 → view m ≡ newRule (view l) rule .state → (replyNumber (newRule (view l) rule .reply) ≡ 0 → ⊥) → m ≡ l
+
+-- every call keeps what stands for nothing, bits 63 to 44 of a chip's word and the last word, and the rule's word as it was
+pub record Kept (l m : List ℕ) : Type 0 where
+  pub master : getD m 0 0 / 2 ^ 44 ≡ getD l 0 0 / 2 ^ 44
+  pub slave : getD m 1 0 / 2 ^ 44 ≡ getD l 1 0 / 2 ^ 44
+  pub rule : getD m 2 0 ≡ getD l 2 0
+  pub last : getD m 3 0 ≡ getD l 3 0
+
+abbrev pub CallsKeepRest : Type 0
+CallsKeepRest = (l m : List ℕ) (c : Call) → view m ≡ outcome (view l) c .state → Kept l m
+
+-- a claim that is restored at once gives the pair back as it was, if the pair kept its rule
 abbrev pub RestoredAtOnce : Type 0
 RestoredAtOnce =
     (p : PicState) (c : PicInterruptClaim) → Keeps p → claimPending p .claim ≡ Claimed c
-    → restoreInterrupt (pic (claimPending p .state)) c ≡ record { state = pic p; reply = reply.Nothing }
+    → restoreInterrupt (claimPending p .state) c ≡ record { state = p; reply = reply.Nothing }
 
 -- the same after a line was raised: the pair as it was, with that line latched; a pair with a line latched keeps its rule, whatever it was
 abbrev pub RestoredAfterRaise : Type 0
 RestoredAfterRaise =
     (p : PicState) (l : PicLine) (c : PicInterruptClaim) → claimIrq p l .claim ≡ Claimed c
-    → restoreInterrupt (pic (claimIrq p l .state)) c ≡ record { state = pic (latched p l); reply = reply.Nothing }
+    → restoreInterrupt (claimIrq p l .state) c ≡ record { state = latched p l; reply = reply.Nothing }
 
 -- line k of a chip was acknowledged: its request counted, and none that counted on that chip was above it
-pub record Served (before after : PicChip) (k : ℕ) : Type 0 where
+pub record Served (before after : Chip) (k : ℕ) : Type 0 where
   pub counted : counts before k ≡ true
   pub highest : (j : ℕ) → j < k → counts before j ≡ false
   pub done : after ≡ acknowledged before k
 
 -- a claim of line k below 8 served the master's line; from 8 up it served the master's line 2 and the slave's line k - 8. The pair was settled then
 pub record ServedBy (p q : PicState) (k : ℕ) : Type 0 where
-  pub m : PicChip
-  pub s : PicChip
+  pub m : Chip
+  pub s : Chip
   pub settles : q ≡ settled (chips p m s)
   pub master : k < 8 → Served (p .master) m k
   pub alone : k < 8 → s ≡ p .slave

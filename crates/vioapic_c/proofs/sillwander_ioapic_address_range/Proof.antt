@@ -1,42 +1,37 @@
-use Rattle.utils.specs.Cases.{so}
-use Rattle.vioapic_c.proofs.WordLaws.{fits-sum, range-fits, range-refused}
+use Rattle.vioapic_c.proofs.Ways.{range-between, range-none}
 use borrow.Author.Needs.{needs}
 use Rattle.vioapic_c.proofs.sillwander_ioapic_address_range.Statement.{statement}
 use Rattle.vioapic_c.proofs.sillwander_ioapic_address_range.Tie as tie
 
-element-copy-out-base : tie.Need-element-copy-out-base
-element-copy-out-base c = search needs
+address-range-requires : tie.Need-address-range-requires
+address-range-requires c κs = search needs
 
-element-copy-out-size : tie.Need-element-copy-out-size
-element-copy-out-size c = search needs
-
-fits-requires : tie.Need-fits-requires
-fits-requires c κs = search needs
-
-add-t11 : tie.Need-add-t11
-add-t11 c = search (fits-sum, so)
+enum-known-base : tie.Need-enum-known-base
+enum-known-base c = search needs
 
 code-requires : tie.Need-code-requires
 code-requires c κs = search needs
 
-returns : tie.Need-returns
-returns c = search (range-fits, so)
+enum-known-why : tie.Need-enum-known-why
+enum-known-why c = search needs
 
 code-requires-2 : tie.Need-code-requires-2
 code-requires-2 c κs = search needs
 
+returns : tie.Need-returns
+returns c = search range-between
+
 returns-2 : tie.Need-returns-2
-returns-2 c = search (range-refused, so)
+returns-2 c = search range-none
 
 pub sillwander-ioapic-address-range-spec : {M : Type 1} → statement M
 sillwander-ioapic-address-range-spec =
     tie.close
     (tie.spec
-    element-copy-out-base
-    element-copy-out-size
-    fits-requires
-    add-t11
+    address-range-requires
+    enum-known-base
     code-requires
-    returns
+    enum-known-why
     code-requires-2
+    returns
     returns-2)

@@ -1,20 +1,20 @@
-use Rattle.vioapic_c.proofs.WordLaws.{assert-in, assert-out}
+use Rattle.vioapic_c.proofs.Ways.{coded}
 use borrow.Author.Needs.{needs}
 use Rattle.vioapic_c.proofs.sillwander_ioapic_assert_gsi.Statement.{statement}
 use Rattle.vioapic_c.proofs.sillwander_ioapic_assert_gsi.Tie as tie
 
-sent-requires : tie.Need-sent-requires
-sent-requires c κs = search needs
+assert-gsi-requires : tie.Need-assert-gsi-requires
+assert-gsi-requires c κs = search needs
 
-returns : tie.Need-returns
-returns c = search (assert-in)
+reply-requires : tie.Need-reply-requires
+reply-requires c κs = search needs
 
 code-requires : tie.Need-code-requires
 code-requires c κs = search needs
 
-returns-2 : tie.Need-returns-2
-returns-2 c = search (assert-out)
+returns : tie.Need-returns
+returns c = search coded
 
 pub sillwander-ioapic-assert-gsi-spec : {M : Type 1} → statement M
 sillwander-ioapic-assert-gsi-spec =
-    tie.close (tie.spec sent-requires returns code-requires returns-2)
+    tie.close (tie.spec assert-gsi-requires reply-requires code-requires returns)

@@ -1,5 +1,4 @@
-use Rattle.utils.specs.Cases.{so}
-use Rattle.vioapic_c.proofs.WordLaws.{level-in, level-out}
+use Rattle.vioapic_c.proofs.Ways.{level-coded}
 use borrow.Author.Needs.{needs}
 use Rattle.vioapic_c.proofs.sillwander_ioapic_set_gsi_level.Statement.{statement}
 use Rattle.vioapic_c.proofs.sillwander_ioapic_set_gsi_level.Tie as tie
@@ -7,32 +6,18 @@ use Rattle.vioapic_c.proofs.sillwander_ioapic_set_gsi_level.Tie as tie
 is-up-requires : tie.Need-is-up-requires
 is-up-requires c κs = search needs
 
-moved-requires : tie.Need-moved-requires
-moved-requires c κs = search needs
+set-gsi-level-requires : tie.Need-set-gsi-level-requires
+set-gsi-level-requires c κs = search needs
 
-returns : tie.Need-returns
-returns c = search (level-in, so)
-
-moved-requires-2 : tie.Need-moved-requires-2
-moved-requires-2 c κs = search needs
-
-returns-2 : tie.Need-returns-2
-returns-2 c = search (level-in, so)
+reply-requires : tie.Need-reply-requires
+reply-requires c κs = search needs
 
 code-requires : tie.Need-code-requires
 code-requires c κs = search needs
 
-returns-3 : tie.Need-returns-3
-returns-3 c = search (level-out)
+returns : tie.Need-returns
+returns c = search level-coded
 
 pub sillwander-ioapic-set-gsi-level-spec : {M : Type 1} → statement M
 sillwander-ioapic-set-gsi-level-spec =
-    tie.close
-    (tie.spec
-    is-up-requires
-    moved-requires
-    returns
-    moved-requires-2
-    returns-2
-    code-requires
-    returns-3)
+    tie.close (tie.spec is-up-requires set-gsi-level-requires reply-requires code-requires returns)

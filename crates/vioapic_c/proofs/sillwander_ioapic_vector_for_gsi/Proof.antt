@@ -1,16 +1,10 @@
-use Rattle.vioapic_c.proofs.WordLaws.{vector-in, vector-out}
+use Rattle.vioapic_c.proofs.Ways.{told}
 use borrow.Author.Needs.{needs}
 use Rattle.vioapic_c.proofs.sillwander_ioapic_vector_for_gsi.Statement.{statement}
 use Rattle.vioapic_c.proofs.sillwander_ioapic_vector_for_gsi.Tie as tie
 
-mul-vector-of-entry : tie.Need-mul-vector-of-entry
-mul-vector-of-entry c = search needs
-
-element-copy-out-vector-of-entry : tie.Need-element-copy-out-vector-of-entry
-element-copy-out-vector-of-entry c = search needs
-
-vector-of-entry-requires : tie.Need-vector-of-entry-requires
-vector-of-entry-requires c κs = search needs
+vector-for-gsi-requires : tie.Need-vector-for-gsi-requires
+vector-for-gsi-requires c κs = search needs
 
 reply-requires : tie.Need-reply-requires
 reply-requires c κs = search needs
@@ -19,23 +13,8 @@ code-requires : tie.Need-code-requires
 code-requires c κs = search needs
 
 returns : tie.Need-returns
-returns c = search (vector-in)
-
-code-requires-2 : tie.Need-code-requires-2
-code-requires-2 c κs = search needs
-
-returns-2 : tie.Need-returns-2
-returns-2 c = search (vector-out)
+returns c = search told
 
 pub sillwander-ioapic-vector-for-gsi-spec : {M : Type 1} → statement M
 sillwander-ioapic-vector-for-gsi-spec =
-    tie.close
-    (tie.spec
-    mul-vector-of-entry
-    element-copy-out-vector-of-entry
-    vector-of-entry-requires
-    reply-requires
-    code-requires
-    returns
-    code-requires-2
-    returns-2)
+    tie.close (tie.spec vector-for-gsi-requires reply-requires code-requires returns)

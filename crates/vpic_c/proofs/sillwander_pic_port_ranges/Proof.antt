@@ -1,4 +1,4 @@
-use Rattle.vpic_c.proofs.Ways.{range-way}
+use Rattle.vpic_c.proofs.Laws.{range-way}
 use borrow.Author.Needs.{needs}
 use Rattle.vpic_c.proofs.sillwander_pic_port_ranges.Statement.{statement}
 use Rattle.vpic_c.proofs.sillwander_pic_port_ranges.Tie as tie

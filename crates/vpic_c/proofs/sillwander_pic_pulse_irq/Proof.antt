@@ -1,21 +1,23 @@
-use Rattle.vpic_c.proofs.Ways.{pulse-way}
+use Rattle.vpic_c.proofs.Laws.{pulse-code}
 use borrow.Author.Needs.{needs}
 use Rattle.vpic_c.proofs.sillwander_pic_pulse_irq.Statement.{statement}
 use Rattle.vpic_c.proofs.sillwander_pic_pulse_irq.Tie as tie
-use Rattle.vpic_c.proofs.sillwander_pic_pulse_irq.Reads as reads
-use Rattle.vpic_c.proofs.sillwander_pic_pulse_irq.Lts as lts
-use Rattle.vpic_c.proofs.claim_line.Reads as claim-line-reads
-use Rattle.vpic_c.proofs.vector_alone.Reads as vector-alone-reads
 
-claim-line-requires : tie.Need-claim-line-requires
-claim-line-requires c κs = search needs
+line-requires : tie.Need-line-requires
+line-requires c κs = search needs
 
-vector-alone-requires : tie.Need-vector-alone-requires
-vector-alone-requires c κs = search needs
+pulse-irq-requires : tie.Need-pulse-irq-requires
+pulse-irq-requires c κs = search needs
+
+reply-requires : tie.Need-reply-requires
+reply-requires c κs = search needs
+
+code-requires : tie.Need-code-requires
+code-requires c κs = search needs
 
 returns : tie.Need-returns
-returns c = search pulse-way
+returns c = search pulse-code
 
 pub sillwander-pic-pulse-irq-spec : {M : Type 1} → statement M
 sillwander-pic-pulse-irq-spec =
-    tie.close (tie.spec claim-line-requires vector-alone-requires returns)
+    tie.close (tie.spec line-requires pulse-irq-requires reply-requires code-requires returns)

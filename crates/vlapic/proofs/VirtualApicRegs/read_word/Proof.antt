@@ -1,18 +1,17 @@
-use Prim.Native.Nat.{ℕ}
-use mathlib.Core.List.{[], map}
+use mathlib.Core.List.{[]}
 use mathlib.Core.Path.{sym, ap}
 use Rattle.vlapic.specs.Registers.{readable}
-use Rattle.vlapic.proofs.Offsets.{onto, apart, no-word}
+use Rattle.vlapic.proofs.Offsets.{onto, apart, keys, no-word}
 use Rattle.types.specs.declared.Reply.the-variants.{One}
 use borrow.Author.Needs.{needs}
 use Rattle.vlapic.proofs.VirtualApicRegs.read_word.Statement.{statement}
 use Rattle.vlapic.proofs.VirtualApicRegs.read_word.Tie as tie
 
-id-word-requires : tie.Need-id-word-requires
-id-word-requires c κs = search needs
+id-requires : tie.Need-id-requires
+id-requires c κs = search needs
 
 returns : tie.Need-returns
-returns c = rw (c .before .match .keys1) (ap One (c .id-word .ensures))
+returns c = rw (c .before .match .keys1) (ap One (c .id .ensures))
 
 returns-2 : tie.Need-returns-2
 returns-2 c = rw (c .match .keys2)
@@ -63,13 +62,13 @@ returns-17 : tie.Need-returns-17
 returns-17 c =
     let o = c .before .args .offset in
     let l = readable (c .before .args .self) in
-    sym (no-word o l (apart o (onto (map (λ (r : ℕ × ℕ). r .0) l) []) [] (c .match .rest)))
+    sym (no-word o l (apart o (onto (keys l) []) [] (c .match .rest) tt))
 
 pub read-word-spec : {M : Type 1} → statement M
 read-word-spec =
     tie.close
     (tie.spec
-    id-word-requires
+    id-requires
     returns
     returns-2
     returns-3

@@ -1,5 +1,4 @@
-use mathlib.Core.Path.{sym, _∙_}
-use Rattle.vlapic.proofs.Width.{icr-right, icr-wrong}
+use Rattle.vlapic.specs.Calls.{writeIcrLow}
 use borrow.Author.Needs.{needs}
 use Rattle.vlapic.proofs.VirtualApicRegs.write_icr_low.Statement.{statement}
 use Rattle.vlapic.proofs.VirtualApicRegs.write_icr_low.Tie as tie
@@ -17,18 +16,15 @@ write-icr-requires : tie.Need-write-icr-requires
 write-icr-requires c κs = search needs
 
 returns : tie.Need-returns
-returns c =
-    let a = c .before .before .before .before .args in
-    rw (icr-right (a .self) (a .val) (a .width) (a .vcpu-num) (a .active-vcpus) (sym (c .before .before .before .is-icr-width .ensures) ∙ c .before .before .if1 .taken), ← c .before .icr-high .ensures)
-    (c .write-icr .ensures)
+unfolding writeIcrLow
+returns c = rw (← c .before .before .before .is-icr-width .ensures, c .before .before .if1 .taken, ← c .before .icr-high .ensures) (c .write-icr .ensures)
 
 refuse-requires : tie.Need-refuse-requires
 refuse-requires c κs = search needs
 
 returns-2 : tie.Need-returns-2
-returns-2 c =
-    let a = c .before .before .before .args in
-    rw (icr-wrong (a .self) (a .val) (a .width) (a .vcpu-num) (a .active-vcpus) (sym (c .before .before .is-icr-width .ensures) ∙ c .before .if1 .left)) (c .refuse .ensures)
+unfolding writeIcrLow
+returns-2 c = rw (← c .before .before .is-icr-width .ensures, c .before .if1 .left) (c .refuse .ensures)
 
 pub write-icr-low-spec : {M : Type 1} → statement M
 write-icr-low-spec = tie.close (tie.spec is-icr-width-requires cast-lo icr-high-requires write-icr-requires returns refuse-requires returns-2)

@@ -1,15 +1,12 @@
-use mathlib.Core.Path.{refl}
-use Rattle.vlapic.specs.Registers.{stored}
 use borrow.Author.Needs.{needs}
 use Rattle.vlapic.proofs.VirtualApicRegs.write_ldr.Statement.{statement}
 use Rattle.vlapic.proofs.VirtualApicRegs.write_ldr.Tie as tie
 
-mul-self : tie.Need-mul-self
-mul-self c = search needs
+ldr-requires : tie.Need-ldr-requires
+ldr-requires c κs = search needs
 
 returns : tie.Need-returns
-unfolding stored
-returns c = refl
+returns c = rw (c .ldr .ensures)
 
 pub write-ldr-spec : {M : Type 1} → statement M
-write-ldr-spec = tie.close (tie.spec mul-self returns)
+write-ldr-spec = tie.close (tie.spec ldr-requires returns)

@@ -1,6 +1,6 @@
 use mathlib.Core.List.{[]}
-use Rattle.vlapic.proofs.Offsets.{onto, apart}
-use Rattle.vlapic.specs.Registers.{lvtEntries, stored}
+use Rattle.vlapic.proofs.Offsets.{onto, apart, keys, no-register}
+use Rattle.vlapic.specs.Registers.{lvtStored}
 use borrow.Author.Needs.{needs}
 use Rattle.vlapic.proofs.VirtualApicRegs.write_lvt.Statement.{statement}
 use Rattle.vlapic.proofs.VirtualApicRegs.write_lvt.Tie as tie
@@ -51,35 +51,31 @@ refuse-requires : tie.Need-refuse-requires
 refuse-requires c κs = search needs
 
 returns : tie.Need-returns
-unfolding stored
 returns c = rw (c .before .before .match .keys1, c .ok .ensures, c .before .monitor .ensures)
 
 returns-2 : tie.Need-returns-2
-unfolding stored
 returns-2 c = rw (c .before .before .match .keys2, c .ok2 .ensures, c .before .timer .ensures)
 
 returns-3 : tie.Need-returns-3
-unfolding stored
 returns-3 c = rw (c .before .before .match .keys3, c .ok3 .ensures, c .before .monitor2 .ensures)
 
 returns-4 : tie.Need-returns-4
-unfolding stored
 returns-4 c = rw (c .before .before .match .keys4, c .ok4 .ensures, c .before .monitor3 .ensures)
 
 returns-5 : tie.Need-returns-5
-unfolding stored
 returns-5 c = rw (c .before .before .match .keys5, c .ok5 .ensures, c .before .pin .ensures)
 
 returns-6 : tie.Need-returns-6
-unfolding stored
 returns-6 c = rw (c .before .before .match .keys6, c .ok6 .ensures, c .before .pin2 .ensures)
 
 returns-7 : tie.Need-returns-7
-unfolding stored
 returns-7 c = rw (c .before .before .match .keys7, c .ok7 .ensures, c .before .error .ensures)
 
 returns-8 : tie.Need-returns-8
-returns-8 c = rw (apart (c .before .before .args .offset) (onto lvtEntries []) [] (c .before .match .rest)) (c .refuse .ensures)
+returns-8 c =
+    let a = c .before .before .args in
+    let rows = lvtStored (a .self) (a .val) in
+    rw (no-register (a .self) (a .offset) rows (apart (a .offset) (onto (keys rows) []) [] (c .before .match .rest) tt)) (c .refuse .ensures)
 
 pub write-lvt-spec : {M : Type 1} → statement M
 write-lvt-spec =

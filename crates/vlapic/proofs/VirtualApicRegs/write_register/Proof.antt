@@ -51,31 +51,31 @@ unfolding writeStored stored
 returns c = rw (c .before .match .keys1) (c .ok .ensures)
 
 returns-2 : tie.Need-returns-2
-unfolding writeStored
+unfolding writeStored stored
 returns-2 c = rw (c .before .before .match .keys2, ← c .before .write-tpr .ensures) (c .ok2 .ensures)
 
 returns-3 : tie.Need-returns-3
-unfolding writeStored
+unfolding writeStored stored
 returns-3 c = rw (c .before .before .match .keys3, ← c .before .write-ldr .ensures) (c .in-xapic .ensures)
 
 returns-4 : tie.Need-returns-4
-unfolding writeStored
+unfolding writeStored stored
 returns-4 c = rw (c .before .before .match .keys4, ← c .before .write-dfr .ensures) (c .in-xapic2 .ensures)
 
 returns-5 : tie.Need-returns-5
-unfolding writeStored
+unfolding writeStored stored
 returns-5 c = rw (c .before .before .match .keys5, ← c .before .write-svr .ensures) (c .ok3 .ensures)
 
 returns-6 : tie.Need-returns-6
-unfolding writeStored
+unfolding writeStored stored
 returns-6 c = rw (c .before .before .match .keys6, ← c .before .write-esr .ensures) (c .ok4 .ensures)
 
 returns-7 : tie.Need-returns-7
-unfolding writeStored
+unfolding writeStored stored
 returns-7 c = rw (c .before .before .match .keys7, ← c .before .write-icr-hi .ensures) (c .in-xapic3 .ensures)
 
 returns-8 : tie.Need-returns-8
-unfolding writeStored
+unfolding writeStored stored
 returns-8 c =
     let r = c .before .match .rest in
     rw (ne-eqb _ _ (r .1), ne-eqb _ _ (r .0 .1), ne-eqb _ _ (r .0 .0 .1), ne-eqb _ _ (r .0 .0 .0 .1), ne-eqb _ _ (r .0 .0 .0 .0 .1), ne-eqb _ _ (r .0 .0 .0 .0 .0 .1), ne-eqb _ _ (r .0 .0 .0 .0 .0 .0 .1)) (c .write-lvt .ensures)

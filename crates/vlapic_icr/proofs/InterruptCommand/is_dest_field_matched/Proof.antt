@@ -8,15 +8,15 @@ returns : tie.Need-returns
 unfolding destFieldMatched
 returns c = rw (c .if1 .taken)
 
-share8-requires : tie.Need-share8-requires
-share8-requires c κs = search needs
+share-requires : tie.Need-share-requires
+share-requires c κs = search needs
 
 matching-requires : tie.Need-matching-requires
 matching-requires c κs = search needs
 
 returns-2 : tie.Need-returns-2
 unfolding destFieldMatched
-returns-2 c = rw (c .before .before .before .before .before .if1 .left, eq-eqb _ _ (c .before .before .before .if2 .taken), ← c .before .share8 .ensures) (c .matching .ensures)
+returns-2 c = rw (c .before .before .before .before .before .if1 .left, eq-eqb _ _ (c .before .before .before .if2 .taken), ← c .before .share .ensures) (c .matching .ensures)
 
 is-in-cluster-requires : tie.Need-is-in-cluster-requires
 is-in-cluster-requires c κs = search needs
@@ -37,7 +37,7 @@ is-dest-field-matched-spec =
     tie.close
     (tie.spec
     returns
-    share8-requires
+    share-requires
     matching-requires
     returns-2
     is-in-cluster-requires

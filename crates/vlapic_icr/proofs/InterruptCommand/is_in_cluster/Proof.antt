@@ -3,8 +3,8 @@ use borrow.Author.Needs.{needs}
 use Rattle.vlapic_icr.proofs.InterruptCommand.is_in_cluster.Statement.{statement}
 use Rattle.vlapic_icr.proofs.InterruptCommand.is_in_cluster.Tie as tie
 
-share4-requires : tie.Need-share4-requires
-share4-requires c κs = search needs
+share-requires : tie.Need-share-requires
+share-requires c κs = search needs
 
 returns : tie.Need-returns
 returns c = search cases
@@ -13,4 +13,4 @@ returns-2 : tie.Need-returns-2
 returns-2 c = search cases
 
 pub is-in-cluster-spec : {M : Type 1} → statement M
-is-in-cluster-spec = tie.close (tie.spec share4-requires returns returns-2)
+is-in-cluster-spec = tie.close (tie.spec share-requires returns returns-2)

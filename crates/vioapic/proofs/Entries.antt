@@ -1,0 +1,295 @@
+-- What the code does to an entry in place, part by part, is the entry's rule: l are the words before, w those after. Assumes nothing.
+use Prim.Native.Nat.{ℕ, _%_, _^_, _<_}
+use native.Mathlib.Omega.{arith}
+use mathlib.Core.Bool.{Bool, true, false, not, _&&_, _||_}
+use mathlib.Core.List.{List}
+use mathlib.Core.Path.{_≡_, refl, sym, _∙_, ap, ap₂}
+use borrow.Author.Tests.{not-true, not-false}
+use lib.ListN.{length, getD, set, length-set}
+use lib.Seq.{getD-set-same, set-getD, set-set}
+use Rattle.utils.specs.Set.{marked}
+use Rattle.utils.specs.Cases.{or-left-yes, or-right-yes, or-no}
+use Rattle.utils.proofs.Bools.{and-true, and-false}
+use Rattle.vioapic_entry.specs.Redirection.{EntryStep, vectorOf, isFit, isLevel, isMasked, remoteIrr, sameLow, withRemoteIrr, withoutRemoteIrr, replaceLow, replaceHigh, withWord, withDeferred, withInput, quietly, sending, sendEntry, raiseEntry, lowerEntry, moveLine, endEntry, endEntry20, writeLow, writeHigh}
+use Rattle.vioapic_entry.proofs.EntryLaws.{send-unfit, send-edge, send-later, send-level, raise-again, raise-new, lower-is, end-up, end-deferred, end-quiet, end20-asks, end20-quiet, resend-fit, resend-unfit, low-masked, low-same, low-changed, high-is}
+use Rattle.vioapic_entry.proofs.Fields.{alike-with, same-level, irr-with, irr-without, irr-low, irr-high}
+use Rattle.vioapic_entry.specs.declared.Entry.{Entry}
+use Rattle.vioapic_entry.specs.declared.Routed.{Routed}
+use Rattle.vioapic_entry.specs.declared.Routed.the-variants.{NotRouted, Interrupt}
+use Rattle.vioapic.specs.State.{IoApicState, view}
+use Rattle.vioapic.specs.Table.{noEntry, routing, withFlight, noted, put, routeAt, entryAt}
+use Rattle.vioapic.specs.Inside.{Keeps, putFlag, parts}
+use Rattle.vioapic.proofs.Words.{view-long, word-at, word-is, deferred-is, input-is, flight-is, still, then, so-that}
+
+-- ---- an entry that is put
+
+noted-same : (n g : ℕ) (b : Bool) → noted n g b b ≡ n
+noted-same n g true = refl
+noted-same n g false = refl
+
+module _ (s : IoApicState) (g : ℕ) (f : Entry) where
+  -- where Remote IRR stays, and where it comes and goes
+  put-same : remoteIrr (f .word) ≡ remoteIrr (entryAt s g .word) → parts s g f ≡ put s g f
+  put-same h = ap (withFlight (parts s g f)) (sym (ap (noted (s .«in_flight») g (remoteIrr (entryAt s g .word))) h ∙ noted-same (s .«in_flight») g (remoteIrr (entryAt s g .word))))
+
+  put-up : remoteIrr (entryAt s g .word) ≡ false → remoteIrr (f .word) ≡ true → withFlight (parts s g f) (marked (s .«in_flight») g true) ≡ put s g f
+  put-up h k = rw (h, k)
+
+  put-down : remoteIrr (entryAt s g .word) ≡ true → remoteIrr (f .word) ≡ false → withFlight (parts s g f) (marked (s .«in_flight») g false) ≡ put s g f
+  put-down h k = rw (h, k)
+
+  -- the entry that is there
+  put-back : f ≡ entryAt s g → put s g f ≡ s
+  put-back q =
+      let i : noted (s .«in_flight») g (remoteIrr (entryAt s g .word)) (remoteIrr (f .word)) ≡ s .«in_flight» = rw q (noted-same (s .«in_flight») g (remoteIrr (entryAt s g .word))) in
+      let t : set (s .entries) g f ≡ s .entries = ap (set (s .entries) g) q ∙ set-getD (s .entries) g noEntry in
+      λ j. record { base = s .base; size = s .size; version = s .version; selector = s .selector; «in_flight» = i j; entries = t j }
+
+  module _ (long : length (s .entries) ≡ 24) (here : g < 24) where
+    pub at-put : entryAt (put s g f) g ≡ f
+    at-put = getD-set-same (s .entries) g f noEntry (omega arith)
+
+    -- and another one after it, which is in flight as this one is
+    put-put : (e : Entry) → remoteIrr (f .word) ≡ remoteIrr (entryAt s g .word) → put (put s g f) g e ≡ put s g e
+    put-put e h =
+        let i : noted (noted (s .«in_flight») g (remoteIrr (entryAt s g .word)) (remoteIrr (f .word))) g (remoteIrr (entryAt (put s g f) g .word)) (remoteIrr (e .word)) ≡ noted (s .«in_flight») g (remoteIrr (entryAt s g .word)) (remoteIrr (e .word)) =
+        rw (at-put, h, noted-same (s .«in_flight») g (remoteIrr (entryAt s g .word))) in
+        let t = set-set (s .entries) g f e in
+        λ j. record { base = s .base; size = s .size; version = s .version; selector = s .selector; «in_flight» = i j; entries = t j }
+
+-- a step that leaves the words as they are; one that puts the entry; and one on words in which a flag was moved
+stays : (l : List ℕ) (g : ℕ) (a : Routed) (x : EntryStep) → x ≡ record { entry = entryAt (view l) g; answer = a } → Keeps l l (routing (view l) a ≡ routeAt (view l) g x)
+stays l g a x q = still l (rw q (ap (λ (s : IoApicState). routing s a) (sym (put-back (view l) g (entryAt (view l) g) refl))))
+
+steps : (l w : List ℕ) (g : ℕ) (f : Entry) (a : Routed) (x : EntryStep) → Keeps l w (view w ≡ put (view l) g f) → x ≡ record { entry = f; answer = a }
+    → Keeps l w (routing (view w) a ≡ routeAt (view l) g x)
+steps l w g f a x k q = so-that k (λ p. rw q (ap (λ (s : IoApicState). routing s a) p))
+
+moves : (l u w : List ℕ) (g : ℕ) (f : Entry) (a : Routed) (x y : EntryStep) → g < 24 → remoteIrr (f .word) ≡ remoteIrr (entryAt (view l) g .word)
+    → Keeps l u (view u ≡ put (view l) g f) → Keeps u w (routing (view w) a ≡ routeAt (view u) g y) → x ≡ y → Keeps l w (routing (view w) a ≡ routeAt (view l) g x)
+moves l u w g f a x y h i b c q =
+    then b c
+    (λ p r. r ∙ rw q (ap (λ (s : IoApicState). routing (put s g (y .entry)) (y .answer)) p ∙ ap (λ (s : IoApicState). routing s (y .answer)) (put-put (view l) g f (view-long l) h (y .entry) i)))
+
+-- what is known of the register
+pub irr-of : (x y : ℕ) → x ≡ y → remoteIrr y ≡ true → remoteIrr x ≡ true
+irr-of x y q h = rw q h
+
+pub irr-low-of : (x w v : ℕ) → x ≡ replaceLow w v → remoteIrr x ≡ false
+irr-low-of x w v q = rw q (irr-low w v)
+
+pub level-of : (x y : ℕ) → x ≡ y → isLevel y ≡ true → isLevel x ≡ true
+level-of x y q h = rw q h
+
+-- ---- part by part
+
+module _ (l w : List ℕ) (g : ℕ) (long : length l ≡ 32) (here : g < 24) where
+  pub set-deferred-is : (b : Bool) → w ≡ putFlag l 24 g b → Keeps l w (view w ≡ put (view l) g (withDeferred (entryAt (view l) g) b))
+  set-deferred-is b q = rw q (so-that (deferred-is l g long here b) (λ p. p ∙ put-same (view l) g (withDeferred (entryAt (view l) g) b) refl))
+
+  pub set-input-is : (b : Bool) → w ≡ putFlag l 25 g b → Keeps l w (view w ≡ put (view l) g (withInput (entryAt (view l) g) b))
+  set-input-is b q = rw q (so-that (input-is l g long here b) (λ p. p ∙ put-same (view l) g (withInput (entryAt (view l) g) b) refl))
+
+  -- the register, and the bit of the lines in flight with it
+  register : (x : ℕ) (b : Bool) → w ≡ putFlag (set l g x) 30 g b → Keeps l w (view w ≡ withFlight (parts (view l) g (withWord (entryAt (view l) g) x)) (marked (view l .«in_flight») g b))
+  register x b q =
+      then (word-is l g long here x) (flight-is (set l g x) w g b (length-set l g x ∙ long) here q)
+      (λ p r. r ∙ ap (λ (s : IoApicState). withFlight s (marked (s .«in_flight») g b)) p)
+
+  module _ (word x : ℕ) (at : word ≡ entryAt (view l) g .word) where
+    pub fly-is : remoteIrr word ≡ false → x ≡ withRemoteIrr word → w ≡ putFlag (set l g x) 30 g true → Keeps l w (view w ≡ put (view l) g (withWord (entryAt (view l) g) (withRemoteIrr word)))
+    fly-is h q r =
+        rw (← q) (so-that (register x true r) (λ p. p ∙ put-up (view l) g (withWord (entryAt (view l) g) x) (rw (← at) h) (rw q (irr-with word))))
+
+    pub rest-is : remoteIrr word ≡ true → x ≡ withoutRemoteIrr word → w ≡ putFlag (set l g x) 30 g false → Keeps l w (view w ≡ put (view l) g (withWord (entryAt (view l) g) (withoutRemoteIrr word)))
+    rest-is h q r =
+        rw (← q) (so-that (register x false r) (λ p. p ∙ put-down (view l) g (withWord (entryAt (view l) g) x) (rw (← at) h) (rw q (irr-without word))))
+
+    pub ground-flying : remoteIrr word ≡ true → remoteIrr x ≡ false → w ≡ putFlag (set l g x) 30 g false → Keeps l w (view w ≡ put (view l) g (withWord (entryAt (view l) g) x))
+    ground-flying h k r = so-that (register x false r) (λ p. p ∙ put-down (view l) g (withWord (entryAt (view l) g) x) (rw (← at) h) k)
+
+    pub ground-still : remoteIrr word ≡ false → remoteIrr x ≡ false → w ≡ set l g x → Keeps l w (view w ≡ put (view l) g (withWord (entryAt (view l) g) x))
+    ground-still h k r = rw r (so-that (word-is l g long here x) (λ p. p ∙ put-same (view l) g (withWord (entryAt (view l) g) x) (rw (← at) (k ∙ sym h))))
+
+pub write-high-is : (l : List ℕ) (g x v : ℕ) → length l ≡ 32 → g < 24 → x ≡ replaceHigh (getD l g 0) v → Keeps l (set l g x) (view (set l g x) ≡ put (view l) g (writeHigh (entryAt (view l) g) v))
+write-high-is l g x v long here q =
+    let e : getD l g 0 ≡ entryAt (view l) g .word = word-at l g here in
+    let y : x ≡ replaceHigh (entryAt (view l) g .word) v = q ∙ ap (λ (w : ℕ). replaceHigh w v) e in
+    so-that (word-is l g long here x)
+    (λ p. p ∙ put-same (view l) g (withWord (entryAt (view l) g) x) (rw y (irr-high (entryAt (view l) g .word) v)) ∙ ap (put (view l) g) (ap (withWord (entryAt (view l) g)) y ∙ sym (high-is (entryAt (view l) g) v)))
+
+-- ---- sending
+
+module _ (l : List ℕ) (g word : ℕ) (at : word ≡ entryAt (view l) g .word) (a : Bool) (fit : a ≡ isFit word) where
+  fits : (b : Bool) → a ≡ b → isFit (entryAt (view l) g .word) ≡ b
+  fits b h = ap isFit (sym at) ∙ sym fit ∙ h
+
+  pub sent-unfit : not a ≡ true → Keeps l l (routing (view l) NotRouted ≡ routeAt (view l) g (sendEntry (entryAt (view l) g)))
+  sent-unfit h = stays l g NotRouted (sendEntry (entryAt (view l) g)) (send-unfit (entryAt (view l) g) (fits false (not-true a h)))
+
+  module _ (b : Bool) (is : not a ≡ false) (level : b ≡ isLevel word) where
+    levels : (c : Bool) → b ≡ c → isLevel (entryAt (view l) g .word) ≡ c
+    levels c h = ap isLevel (sym at) ∙ sym level ∙ h
+
+    pub sent-edge : (r : Routed) → not b ≡ true → r ≡ Interrupt (record { vector = vectorOf word; «level_triggered» = false })
+        → Keeps l l (routing (view l) r ≡ routeAt (view l) g (sendEntry (entryAt (view l) g)))
+    sent-edge r h q =
+        let k : isLevel (entryAt (view l) g .word) ≡ false = levels false (not-true b h) in
+        stays l g r (sendEntry (entryAt (view l) g)) (send-edge (entryAt (view l) g) (fits true (not-false a is)) k ∙ rw (q, k, at))
+
+    module _ (w : List ℕ) (c : Bool) (there : not b ≡ false) (flying : c ≡ remoteIrr word) where
+      pub sent-later : c ≡ true → Keeps l w (view w ≡ put (view l) g (withDeferred (entryAt (view l) g) true)) → Keeps l w (routing (view w) NotRouted ≡ routeAt (view l) g (sendEntry (entryAt (view l) g)))
+      sent-later h k =
+          steps l w g (withDeferred (entryAt (view l) g) true) NotRouted (sendEntry (entryAt (view l) g)) k
+          (send-later (entryAt (view l) g) (fits true (not-false a is)) (levels true (not-false b there)) (ap remoteIrr (sym at) ∙ sym flying ∙ h))
+
+      pub sent-level : (r : Routed) → c ≡ false → Keeps l w (view w ≡ put (view l) g (withWord (entryAt (view l) g) (withRemoteIrr word)))
+          → r ≡ Interrupt (record { vector = vectorOf word; «level_triggered» = true }) → Keeps l w (routing (view w) r ≡ routeAt (view l) g (sendEntry (entryAt (view l) g)))
+      sent-level r h k q =
+          let e : Entry = entryAt (view l) g in
+          let m : isLevel (withRemoteIrr (e .word)) ≡ true = same-level (alike-with (e .word)) ∙ levels true (not-false b there) in
+          let v : withRemoteIrr (e .word) % 2 ^ 8 ≡ e .word % 2 ^ 8 = alike-with (e .word) .vector in
+          steps l w g (withWord e (withRemoteIrr word)) r (sendEntry e) k
+          (send-level e (fits true (not-false a is)) (levels true (not-false b there)) (ap remoteIrr (sym at) ∙ sym flying ∙ h) ∙ rw (q, at, m, v))
+
+-- ---- the line
+
+module _ (l : List ℕ) (g word : ℕ) (here : g < 24) (at : word ≡ entryAt (view l) g .word) where
+  pub held-up : (a b : Bool) → a ≡ remoteIrr word → a ≡ true → b ≡ entryAt (view l) g .«input_level» → b ≡ (remoteIrr word && entryAt (view l) g .«input_level»)
+  held-up a b p q r = rw (sym p ∙ q) r
+
+  pub held-not : (a : Bool) → a ≡ remoteIrr word → a ≡ false → false ≡ (remoteIrr word && entryAt (view l) g .«input_level»)
+  held-not a p q = rw (sym p ∙ q)
+
+  swap : (a b : Bool) → (a && b) ≡ (b && a)
+  swap true true = refl
+  swap true false = refl
+  swap false true = refl
+  swap false false = refl
+
+  module _ (b : Bool) (held : b ≡ (remoteIrr word && entryAt (view l) g .«input_level»)) where
+    holds : (c : Bool) → b ≡ c → (entryAt (view l) g .«input_level» && remoteIrr (entryAt (view l) g .word)) ≡ c
+    holds c h = swap (entryAt (view l) g .«input_level») (remoteIrr (entryAt (view l) g .word)) ∙ ap (λ (x : ℕ). remoteIrr x && entryAt (view l) g .«input_level») (sym at) ∙ sym held ∙ h
+
+    pub raised-again : (w : List ℕ) → b ≡ true → Keeps l w (view w ≡ put (view l) g (withDeferred (entryAt (view l) g) true)) → Keeps l w (routing (view w) NotRouted ≡ routeAt (view l) g (raiseEntry (entryAt (view l) g)))
+    raised-again w h k =
+        steps l w g (withDeferred (entryAt (view l) g) true) NotRouted (raiseEntry (entryAt (view l) g)) k
+        (raise-again (entryAt (view l) g) (holds true h) (and-true (remoteIrr word) (entryAt (view l) g .«input_level») (sym held ∙ h) .1))
+
+    module _ (u : List ℕ) (lifted : Keeps l u (view u ≡ put (view l) g (withInput (entryAt (view l) g) true))) where
+      up-at : entryAt (view u) g ≡ withInput (entryAt (view l) g) true
+      up-at = ap (λ (s : IoApicState). entryAt s g) (lifted .is) ∙ at-put (view l) g (withInput (entryAt (view l) g) true) (view-long l) here
+
+      pub word-up : word ≡ entryAt (view u) g .word
+      word-up = at ∙ sym (ap (λ (e : Entry). e .word) up-at)
+
+      pub raised : (w : List ℕ) (a : Routed) → b ≡ false → Keeps u w (routing (view w) a ≡ routeAt (view u) g (sendEntry (entryAt (view u) g))) → Keeps l w (routing (view w) a ≡ routeAt (view l) g (raiseEntry (entryAt (view l) g)))
+      raised w a h k =
+          moves l u w g (withInput (entryAt (view l) g) true) a (raiseEntry (entryAt (view l) g)) (sendEntry (entryAt (view u) g)) here refl lifted k
+          (raise-new (entryAt (view l) g) (holds false h) ∙ ap sendEntry (sym up-at))
+
+pub lowered : (l u w : List ℕ) (g : ℕ) → g < 24 → Keeps l u (view u ≡ put (view l) g (withDeferred (entryAt (view l) g) false)) → Keeps u w (view w ≡ put (view u) g (withInput (entryAt (view u) g) false))
+    → Keeps l w (routing (view w) NotRouted ≡ routeAt (view l) g (lowerEntry (entryAt (view l) g)))
+lowered l u w g h b c =
+    let f : Entry = withDeferred (entryAt (view l) g) false in
+    let q : entryAt (view u) g ≡ f = ap (λ (s : IoApicState). entryAt s g) (b .is) ∙ at-put (view l) g f (view-long l) h in
+    moves l u w g f NotRouted (lowerEntry (entryAt (view l) g)) (quietly (withInput (entryAt (view u) g) false)) h refl b
+    (steps u w g (withInput (entryAt (view u) g) false) NotRouted (quietly (withInput (entryAt (view u) g) false)) c refl)
+    (lower-is (entryAt (view l) g) ∙ ap (λ (e : Entry). quietly (withInput e false)) (sym q))
+
+-- ---- an EOI
+
+module _ (l : List ℕ) (g word : ℕ) (at : word ≡ entryAt (view l) g .word) (a : Bool) (fit : a ≡ isFit word) where
+  pub resent-fit : (r : Routed) → remoteIrr word ≡ true → isLevel word ≡ true → a ≡ true → r ≡ Interrupt (record { vector = vectorOf word; «level_triggered» = true })
+      → Keeps l l (routing (view l) r ≡ routeAt (view l) g (sendEntry (withWord (entryAt (view l) g) (withoutRemoteIrr word))))
+  resent-fit r i k h q =
+      let e : Entry = entryAt (view l) g in
+      let y : isLevel (e .word) ≡ true = rw (← at) k in
+      let p : sendEntry (withWord e (withoutRemoteIrr (e .word))) ≡ sending e = resend-fit e (rw (← at) i) y (rw (← at) (sym fit ∙ h)) in
+      let z : sending e ≡ record { entry = e; answer = r } = rw (q, at, y) in
+      stays l g r (sendEntry (withWord e (withoutRemoteIrr word))) (ap (λ (n : ℕ). sendEntry (withWord e (withoutRemoteIrr n))) at ∙ p ∙ z)
+
+  pub resent-unfit : (w : List ℕ) → a ≡ false → Keeps l w (view w ≡ put (view l) g (withWord (entryAt (view l) g) (withoutRemoteIrr word)))
+      → Keeps l w (routing (view w) NotRouted ≡ routeAt (view l) g (sendEntry (withWord (entryAt (view l) g) (withoutRemoteIrr word))))
+  resent-unfit w h k =
+      steps l w g (withWord (entryAt (view l) g) (withoutRemoteIrr word)) NotRouted (sendEntry (withWord (entryAt (view l) g) (withoutRemoteIrr word))) k
+      (rw at (resend-unfit (entryAt (view l) g) (rw (← at) (sym fit ∙ h))))
+
+-- words in which what was deferred is forgotten
+module _ (l u : List ℕ) (g word : ℕ) (here : g < 24) (at : word ≡ entryAt (view l) g .word) (forgot : Keeps l u (view u ≡ put (view l) g (withDeferred (entryAt (view l) g) false))) where
+  down-at : entryAt (view u) g ≡ withDeferred (entryAt (view l) g) false
+  down-at = ap (λ (s : IoApicState). entryAt s g) (forgot .is) ∙ at-put (view l) g (withDeferred (entryAt (view l) g) false) (view-long l) here
+
+  pub word-down : word ≡ entryAt (view u) g .word
+  word-down = at ∙ sym (ap (λ (e : Entry). e .word) down-at)
+
+  -- sent again from there
+  anew : (w : List ℕ) (a : Routed) (x : EntryStep) → x ≡ sendEntry (withWord (withDeferred (entryAt (view l) g) false) (withoutRemoteIrr (entryAt (view l) g .word)))
+      → Keeps u w (routing (view w) a ≡ routeAt (view u) g (sendEntry (withWord (entryAt (view u) g) (withoutRemoteIrr word)))) → Keeps l w (routing (view w) a ≡ routeAt (view l) g x)
+  anew w a x q k =
+      moves l u w g (withDeferred (entryAt (view l) g) false) a x (sendEntry (withWord (entryAt (view u) g) (withoutRemoteIrr word))) here refl forgot k
+      (q ∙ ap₂ (λ (e : Entry) (n : ℕ). sendEntry (withWord e (withoutRemoteIrr n))) (sym down-at) (sym at))
+
+  module _ (b : Bool) (was : b ≡ entryAt (view l) g .«pending_level») (w : List ℕ) (a : Routed) where
+    pub ended-deferred : (c : Bool) → c ≡ entryAt (view l) g .«input_level» → c ≡ false → not b ≡ false
+        → Keeps u w (routing (view w) a ≡ routeAt (view u) g (sendEntry (withWord (entryAt (view u) g) (withoutRemoteIrr word)))) → Keeps l w (routing (view w) a ≡ routeAt (view l) g (endEntry (entryAt (view l) g)))
+    ended-deferred c p q h = anew w a (endEntry (entryAt (view l) g)) (end-deferred (entryAt (view l) g) (sym p ∙ q) (sym was ∙ not-false b h))
+
+    pub ended20-deferred : b ≡ true → Keeps u w (routing (view w) a ≡ routeAt (view u) g (sendEntry (withWord (entryAt (view u) g) (withoutRemoteIrr word))))
+        → Keeps l w (routing (view w) a ≡ routeAt (view l) g (endEntry20 (entryAt (view l) g)))
+    ended20-deferred h = anew w a (endEntry20 (entryAt (view l) g)) (end20-asks (entryAt (view l) g) (or-right-yes (entryAt (view l) g .«input_level») (entryAt (view l) g .«pending_level») (sym was ∙ h)))
+
+module _ (l w : List ℕ) (g word : ℕ) (at : word ≡ entryAt (view l) g .word) (c : Bool) (line : c ≡ entryAt (view l) g .«input_level») where
+  pub ended-up : (a : Routed) → c ≡ true → Keeps l w (routing (view w) a ≡ routeAt (view l) g (sendEntry (withWord (entryAt (view l) g) (withoutRemoteIrr word)))) → Keeps l w (routing (view w) a ≡ routeAt (view l) g (endEntry (entryAt (view l) g)))
+  ended-up a h k = so-that k (λ p. p ∙ ap (routeAt (view l) g) (ap (λ (n : ℕ). sendEntry (withWord (entryAt (view l) g) (withoutRemoteIrr n))) at ∙ sym (end-up (entryAt (view l) g) (sym line ∙ h))))
+
+  module _ (b : Bool) (was : b ≡ entryAt (view l) g .«pending_level») where
+    pub ended-quiet : c ≡ false → not b ≡ true → Keeps l w (view w ≡ put (view l) g (withWord (entryAt (view l) g) (withoutRemoteIrr word)))
+        → Keeps l w (routing (view w) NotRouted ≡ routeAt (view l) g (endEntry (entryAt (view l) g)))
+    ended-quiet h d k =
+        steps l w g (withWord (entryAt (view l) g) (withoutRemoteIrr word)) NotRouted (endEntry (entryAt (view l) g)) k
+        (end-quiet (entryAt (view l) g) (sym line ∙ h) (sym was ∙ not-true b d) ∙ rw at)
+
+    module _ (none : b ≡ false) where
+      nothing : withDeferred (entryAt (view l) g) false ≡ entryAt (view l) g
+      nothing = ap (withDeferred (entryAt (view l) g)) (sym (sym was ∙ none))
+
+      pub ended20-up : (a : Routed) → c ≡ true → Keeps l w (routing (view w) a ≡ routeAt (view l) g (sendEntry (withWord (entryAt (view l) g) (withoutRemoteIrr word))))
+          → Keeps l w (routing (view w) a ≡ routeAt (view l) g (endEntry20 (entryAt (view l) g)))
+      ended20-up a h k =
+          so-that k
+          (λ p. p ∙ ap (routeAt (view l) g)
+          (ap₂ (λ (e : Entry) (n : ℕ). sendEntry (withWord e (withoutRemoteIrr n))) (sym nothing) at
+          ∙ sym (end20-asks (entryAt (view l) g) (or-left-yes (entryAt (view l) g .«input_level») (entryAt (view l) g .«pending_level») (sym line ∙ h)))))
+
+      pub ended20-quiet : c ≡ false → Keeps l w (view w ≡ put (view l) g (withWord (entryAt (view l) g) (withoutRemoteIrr word)))
+          → Keeps l w (routing (view w) NotRouted ≡ routeAt (view l) g (endEntry20 (entryAt (view l) g)))
+      ended20-quiet h k =
+          steps l w g (withWord (entryAt (view l) g) (withoutRemoteIrr word)) NotRouted (endEntry20 (entryAt (view l) g)) k
+          (end20-quiet (entryAt (view l) g) (or-no (entryAt (view l) g .«input_level») (entryAt (view l) g .«pending_level») (sym line ∙ h) (sym was ∙ none))
+          ∙ ap₂ (λ (e : Entry) (n : ℕ). quietly (withWord e (withoutRemoteIrr n))) nothing (sym at))
+
+-- ---- the guest's writes
+
+module _ (l : List ℕ) (g word x : ℕ) (at : word ≡ entryAt (view l) g .word) (a : Bool) (same : a ≡ sameLow word x) where
+  sames : (b : Bool) → a ≡ b → sameLow (entryAt (view l) g .word) x ≡ b
+  sames b h = ap (λ (n : ℕ). sameLow n x) (sym at) ∙ sym same ∙ h
+
+  pub low-written-anew : (u w : List ℕ) (y : ℕ) → g < 24 → not a ≡ true → y ≡ replaceLow word x → Keeps l u (view u ≡ put (view l) g (withDeferred (entryAt (view l) g) false))
+      → Keeps u w (view w ≡ put (view u) g (withWord (entryAt (view u) g) y)) → Keeps l w (view w ≡ put (view l) g (writeLow (entryAt (view l) g) x))
+  low-written-anew u w y h d q b c =
+      let f : Entry = withDeferred (entryAt (view l) g) false in
+      let e : entryAt (view u) g ≡ f = ap (λ (s : IoApicState). entryAt s g) (b .is) ∙ at-put (view l) g f (view-long l) h in
+      then b c
+      (λ p r. r ∙ ap (λ (s : IoApicState). put s g (withWord (entryAt (view u) g) y)) p ∙ put-put (view l) g f (view-long l) h (withWord (entryAt (view u) g) y) refl
+      ∙ ap (put (view l) g) (ap₂ (λ (z : Entry) (n : ℕ). withWord z n) e (q ∙ ap (λ (n : ℕ). replaceLow n x) at) ∙ sym (low-changed (entryAt (view l) g) x (sames false (not-true a d)))))
+
+  module _ (b : Bool) (is : not a ≡ false) (masked : b ≡ isMasked word) where
+    masks : (c : Bool) → b ≡ c → isMasked (entryAt (view l) g .word) ≡ c
+    masks c h = ap isMasked (sym at) ∙ sym masked ∙ h
+
+    pub low-written-masked : (w : List ℕ) → b ≡ true → Keeps l w (view w ≡ put (view l) g (withDeferred (entryAt (view l) g) false)) → Keeps l w (view w ≡ put (view l) g (writeLow (entryAt (view l) g) x))
+    low-written-masked w h k = so-that k (λ p. p ∙ ap (put (view l) g) (sym (low-masked (entryAt (view l) g) x (sames true (not-false a is)) (masks true h))))
+
+    pub low-written-same : b ≡ false → Keeps l l (view l ≡ put (view l) g (writeLow (entryAt (view l) g) x))
+    low-written-same h = still l (sym (put-back (view l) g (writeLow (entryAt (view l) g) x) (low-same (entryAt (view l) g) x (sames true (not-false a is)) (masks false h))))

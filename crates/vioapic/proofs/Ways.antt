@@ -1,0 +1,346 @@
+-- A law for each way out of the calls: l are the words before, w those after. Assumes nothing.
+use Prim.Native.Nat.{ℕ, _+_, _-_, _%_, _^_, _≤_, _<_}
+use native.Mathlib.Omega.{arith}
+use mathlib.Core.Bool.{Bool, true, false, not, cond, _&&_, _||_}
+use mathlib.Core.List.{List}
+use mathlib.Core.Path.{_≡_, refl, sym, _∙_, ap, subst, subst⁻¹}
+use borrow.Author.Tests.{lt-ltb, le-ltb, le-leb, lt-leb, leb-true, leb-false, eq-eqb, ne-eqb, eqb-true, not-true, not-false}
+use lib.Dec.{eqb, leb}
+use lib.ListN.{length, getD, set}
+use Rattle.utils.proofs.Bools.{and-true, never}
+use Rattle.types.specs.Reply.{Outcome}
+use Rattle.types.specs.declared.Reply.{Reply}
+use Rattle.types.specs.declared.Reply.the-variants.{One, Two, Nothing, Refused}
+use Rattle.types.specs.declared.Refusal.{Refusal}
+use Rattle.types.specs.declared.Refusal.the-variants.{Unsupported, InvalidAddress}
+use Rattle.types.specs.declared.Gsi.{Gsi}
+use Rattle.types.specs.declared.Vector.{Vector}
+use Rattle.vioapic_entry.specs.Answers.{routedReply}
+use Rattle.vioapic_entry.specs.Redirection.{vectorOf, isFit, sendEntry, raiseEntry, lowerEntry, moveLine, endEntry, writeLow, writeHigh}
+use Rattle.vioapic_entry.specs.declared.Entry.{Entry}
+use Rattle.vioapic_entry.specs.declared.Routed.{Routed}
+use Rattle.vioapic_entry.specs.declared.Routed.the-variants.{NotRouted, Interrupt}
+use Rattle.vioapic.specs.Answers.{eoiReply, gsiVectorReply, writtenReply}
+use Rattle.vioapic.specs.State.{IoApicState, view, entriesFrom, spare, newWords}
+use Rattle.vioapic.specs.Table.{Routing, Ending, routing, ending, entryAt, put, routeAt, unrouted, interruptForEntry, setLevel, isVersion20, firstAwaiting, endOfEntry, everyAnswer, endOfEvery, endOf, vectorOfEntry, vectorFor}
+use Rattle.vioapic.specs.Registers.{Writing, isEntryWord, entryOf, isLow, readWord, readFixed, readSelected, writeWord, writing, writeSelected, writeAt, done, writtenBy, writeEoi, readAt}
+use Rattle.vioapic.specs.IoApic.{routingOutcome, endingOutcome, writingOutcome, goodWidth, fits, isVersion, chipOf, chipAt, newDefault, refuse, Untouched, Leaves, newOr, Makes, createdVersion, vectorForGsi, addressRange, assertGsi, setGsiLevel, endOfInterrupt, handleRead, handleWrite}
+use Rattle.vioapic.specs.Inside.{Keeps, everyEnd, everyEnding, clearedIn, sentIn}
+use Rattle.vioapic.specs.declared.Ends.{Ends}
+use Rattle.vioapic.specs.declared.Written.{Written}
+use Rattle.vioapic.specs.declared.Written.the-variants as written
+use Rattle.vioapic.specs.declared.Eoi.{Eoi}
+use Rattle.vioapic.specs.declared.Eoi.the-variants.{NotEnded, Ended, EndedAll}
+use Rattle.vioapic.specs.declared.GsiVector.{GsiVector}
+use Rattle.vioapic.specs.declared.GsiVector.the-variants.{NoVector, Programmed}
+use Rattle.vioapic.proofs.Words.{view-at, view-select, still, so-that}
+
+-- ---- lines
+
+routed-served : (l w : List ℕ) (a : Routed) → Untouched (routedReply a) l w
+routed-served l w NotRouted = tt
+routed-served l w (Interrupt i) = tt
+
+module _ (l : List ℕ) (gsi : Gsi) where
+  pub assert-in : (w : List ℕ) (a : Routed) → gsi .0 < 24 → Keeps l w (routing (view w) a ≡ routeAt (view l) (gsi .0) (sendEntry (entryAt (view l) (gsi .0))))
+      → Leaves l w (routedReply a) (assertGsi (view l) gsi)
+  unfolding assertGsi interruptForEntry
+  assert-in w a h k =
+      let q : routing (view w) a ≡ interruptForEntry (view l) gsi = k .is ∙ rw (lt-ltb _ _ h, lt-ltb _ _ h) in
+      record { outcome = ap routingOutcome q; untouched = routed-served l w a; kept = k .kept }
+
+  pub assert-out : 24 ≤ gsi .0 → Leaves l l Nothing (assertGsi (view l) gsi)
+  unfolding assertGsi interruptForEntry
+  assert-out h = record { outcome = rw (le-ltb _ _ h); untouched = tt; kept = refl }
+
+  module _ (up : Bool) (w : List ℕ) (a : Routed) (here : gsi .0 < 24) where
+    level-in : (b : Bool) → up ≡ b → Keeps l w (routing (view w) a ≡ routeAt (view l) (gsi .0) (moveLine (entryAt (view l) (gsi .0)) b)) → Leaves l w (routedReply a) (setGsiLevel (view l) gsi up)
+    unfolding setGsiLevel setLevel
+    level-in b u k =
+        let q : routing (view w) a ≡ setLevel (view l) gsi up = k .is ∙ rw (u, lt-ltb _ _ here, lt-ltb _ _ here) in
+        record { outcome = ap routingOutcome q; untouched = routed-served l w a; kept = k .kept }
+
+    pub level-up : up ≡ true → Keeps l w (routing (view w) a ≡ routeAt (view l) (gsi .0) (raiseEntry (entryAt (view l) (gsi .0)))) → Leaves l w (routedReply a) (setGsiLevel (view l) gsi up)
+    level-up u k = level-in true u k
+
+    pub level-down : up ≡ false → Keeps l w (routing (view w) a ≡ routeAt (view l) (gsi .0) (lowerEntry (entryAt (view l) (gsi .0)))) → Leaves l w (routedReply a) (setGsiLevel (view l) gsi up)
+    level-down u k = level-in false u k
+
+  pub level-out : (up : Bool) → 24 ≤ gsi .0 → Leaves l l Nothing (setGsiLevel (view l) gsi up)
+  unfolding setGsiLevel setLevel
+  level-out up h = record { outcome = rw (le-ltb _ _ h); untouched = tt; kept = refl }
+
+  pub vector-in : (r : GsiVector) → gsi .0 < 24 → r ≡ vectorOfEntry (getD l (gsi .0) 0) → gsiVectorReply r ≡ vectorForGsi (view l) gsi
+  unfolding vectorForGsi vectorFor
+  vector-in r h q =
+      let p : r ≡ vectorFor (view l) gsi = q ∙ ap (λ (d : Entry). vectorOfEntry (d .word)) (sym (view-at l (gsi .0) h)) ∙ rw (lt-ltb _ _ h, lt-ltb _ _ h) in
+      ap gsiVectorReply p
+
+  pub vector-out : 24 ≤ gsi .0 → Nothing ≡ vectorForGsi (view l) gsi
+  unfolding vectorForGsi vectorFor
+  vector-out h = rw (le-ltb _ _ h)
+
+pub vector-fit : (w : ℕ) (v : Vector) → isFit w ≡ true → v ≡ vectorOf w → Programmed v ≡ vectorOfEntry w
+vector-fit w v f q = rw f (ap Programmed q)
+
+pub vector-unfit : (w : ℕ) → isFit w ≡ false → NoVector ≡ vectorOfEntry w
+vector-unfit w f = rw f
+
+-- ---- EOIs
+
+module _ (l : List ℕ) (v : Vector) (g : ℕ) (at : g ≡ firstAwaiting (view l) v) where
+  pub eoi-in : (w : List ℕ) (a : Routed) → g < 24 → Keeps l w (routing (view w) a ≡ routeAt (view l) g (endEntry (entryAt (view l) g)))
+      → Keeps l w (ending (view w) (Ended (record { gsi = record { 0 = g }; pending = a })) ≡ endOfEntry (view l) v)
+  unfolding endOfEntry
+  eoi-in w a h k = so-that k (λ r. rw (← at, lt-ltb _ _ h) (ap (λ (m : Routing). ending (m .state) (Ended (record { gsi = record { 0 = g }; pending = m .answer }))) r))
+
+  pub eoi-none : 24 ≤ g → Keeps l l (ending (view l) NotEnded ≡ endOfEntry (view l) v)
+  unfolding endOfEntry
+  eoi-none h = still l (rw (← at, le-ltb _ _ h))
+
+eoi-served : (l w : List ℕ) (r : Eoi) → Untouched (eoiReply r) l w
+eoi-served l w NotEnded = tt
+eoi-served l w (Ended e) = go (e .pending)
+  where
+    go : (s : Routed) → Untouched (eoiReply (Ended (record { gsi = e .gsi; pending = s }))) l w
+    go NotRouted = tt
+    go (Interrupt i) = tt
+eoi-served l w (EndedAll e) = tt
+
+module _ (l w : List ℕ) (v : Vector) (b : Bool) (is : b ≡ isVersion20 (view l)) where
+  pub end-20 : (n : Ends) (r : Eoi) → b ≡ true → Keeps l w (everyEnding (everyEnd (view w) (clearedIn n) (sentIn n)) ≡ endOfEvery (view l) v) → r ≡ everyAnswer (clearedIn n) (sentIn n) → Leaves l w (eoiReply r) (endOfInterrupt (view l) v)
+  unfolding endOfInterrupt endOf
+  end-20 n r h e k =
+      record { outcome = rw (sym is ∙ h) (ap endingOutcome (ap (ending (view w)) k ∙ e .is)); untouched = eoi-served l w r; kept = e .kept }
+
+  pub end-11 : (r : Eoi) → b ≡ false → Keeps l w (ending (view w) r ≡ endOfEntry (view l) v) → Leaves l w (eoiReply r) (endOfInterrupt (view l) v)
+  unfolding endOfInterrupt endOf
+  end-11 r n e = record { outcome = rw (sym is ∙ n) (ap endingOutcome (e .is)); untouched = eoi-served l w r; kept = e .kept }
+
+pub version-is : (l : List ℕ) → eqb (getD l 29 0) 0x20 ≡ isVersion20 (view l)
+unfolding view
+version-is l = go (eqb (getD l 29 0) 0x20)
+  where
+    go : (b : Bool) → b ≡ eqb (cond b 0x20 0x11) 0x20
+    go true = refl
+    go false = refl
+
+-- ---- the registers
+
+pub entry-word-range : (sel : ℕ) → isEntryWord sel ≡ true → (0x10 ≤ sel) × (sel ≤ 0x3f)
+entry-word-range sel e = let p = and-true (leb 0x10 sel) (leb sel 0x3f) e in (leb-true 0x10 sel (p .0), leb-true sel 0x3f (p .1))
+
+pub word-below : (sel : ℕ) → sel < 0x10 → false ≡ isEntryWord sel
+word-below sel h = rw (lt-leb 0x10 sel h)
+
+pub word-from : (sel : ℕ) → 0x10 ≤ sel → leb sel 0x3f ≡ isEntryWord sel
+word-from sel h = rw (le-leb 0x10 sel h)
+
+module _ (l : List ℕ) (sel : ℕ) (b : Bool) (is : sel ≡ view l .selector) (there : b ≡ isEntryWord sel) where
+  found : (c : Bool) → b ≡ c → isEntryWord (view l .selector) ≡ c
+  found c h = sym (there ∙ ap isEntryWord is) ∙ h
+
+  pub read-entry : (g r : ℕ) (e : Entry) → b ≡ true → g ≡ entryOf sel → e ≡ entryAt (view l) g → r ≡ readWord sel e → r ≡ readSelected (view l)
+  unfolding readSelected
+  read-entry g r e h a c d = rw (found true h, ← is, ← a, ← c) d
+
+  pub read-other : (v r : ℕ) → b ≡ false → v ≡ view l .version → r ≡ readFixed v sel → r ≡ readSelected (view l)
+  unfolding readSelected
+  read-other v r h a d = rw (found false h, ← is, ← a) d
+
+  module _ (x g : ℕ) (w : List ℕ) (c : Bool) (yes : b ≡ true) (which : g ≡ entryOf sel) (low : c ≡ isLow sel) where
+    entry-written : (f : Entry → Entry) → ((e : Entry) → f e ≡ writeWord sel e x) → Keeps l w (view w ≡ put (view l) g (f (entryAt (view l) g))) → Keeps l w (done (view w) ≡ writeSelected (view l) x)
+    unfolding writeSelected
+    entry-written f q k = so-that k (λ y. rw (y, q (entryAt (view l) g), which, is, found true yes))
+
+    pub write-low-word : c ≡ true → Keeps l w (view w ≡ put (view l) g (writeLow (entryAt (view l) g) x)) → Keeps l w (done (view w) ≡ writeSelected (view l) x)
+    unfolding writeWord
+    write-low-word h k = entry-written (λ e. writeLow e x) (λ e. rw (sym low ∙ h)) k
+
+    pub write-high-word : c ≡ false → Keeps l w (view w ≡ put (view l) g (writeHigh (entryAt (view l) g) x)) → Keeps l w (done (view w) ≡ writeSelected (view l) x)
+    unfolding writeWord
+    write-high-word h k = entry-written (λ e. writeHigh e x) (λ e. rw (sym low ∙ h)) k
+
+  pub write-other : (x : ℕ) → b ≡ false → Keeps l l (done (view l) ≡ writeSelected (view l) x)
+  unfolding writeSelected
+  write-other x h = still l (rw (found false h))
+
+-- the EOI register
+module _ (l : List ℕ) (x : ℕ) (b : Bool) (is : b ≡ isVersion20 (view l)) where
+  pub eoi-old : not b ≡ true → Keeps l l (done (view l) ≡ writeEoi (view l) x)
+  unfolding writeEoi
+  eoi-old h = still l (rw (sym is ∙ not-true b h))
+
+  pub eoi-written : (w : List ℕ) (n : Ends) (r : Eoi) (y : Written) → not b ≡ false → Keeps l w (everyEnding (everyEnd (view w) (clearedIn n) (sentIn n)) ≡ endOfEvery (view l) (record { 0 = x % 2 ^ 8 }))
+      → r ≡ everyAnswer (clearedIn n) (sentIn n) → y ≡ writtenBy r → Keeps l w (writing (view w) y ≡ writeEoi (view l) x)
+  unfolding writeEoi
+  eoi-written w n r y h e k d = so-that e (λ q. rw (sym is ∙ not-false b h, ← q, d, k))
+
+module _ (l : List ℕ) (offset x : ℕ) where
+  pub at-select : length l ≡ 32 → x < 2 ^ 32 → offset ≡ 0 → Keeps l (set l 26 x) (done (view (set l 26 x)) ≡ writeAt (view l) offset x)
+  unfolding writeAt
+  at-select h k e = so-that (view-select l x h k) (λ q. rw (eq-eqb _ _ e) (ap done q))
+
+  module _ (w : List ℕ) (y : Written) where
+    pub at-window : (offset ≡ 0 → ⊥) → offset ≡ 16 → Keeps l w (writing (view w) y ≡ writeSelected (view l) x) → Keeps l w (writing (view w) y ≡ writeAt (view l) offset x)
+    unfolding writeAt
+    at-window a b k = so-that k (λ q. rw (ne-eqb _ _ a, eq-eqb _ _ b) q)
+
+    pub at-eoi : (offset ≡ 0 → ⊥) → (offset ≡ 16 → ⊥) → offset ≡ 64 → Keeps l w (writing (view w) y ≡ writeEoi (view l) x) → Keeps l w (writing (view w) y ≡ writeAt (view l) offset x)
+    unfolding writeAt
+    at-eoi a b c k = so-that k (λ q. rw (ne-eqb _ _ a, ne-eqb _ _ b, eq-eqb _ _ c) q)
+
+  pub at-other : (offset ≡ 0 → ⊥) → (offset ≡ 16 → ⊥) → (offset ≡ 64 → ⊥) → Keeps l l (done (view l) ≡ writeAt (view l) offset x)
+  unfolding writeAt
+  at-other a b c = still l (rw (ne-eqb _ _ a, ne-eqb _ _ b, ne-eqb _ _ c))
+
+-- ---- base and size
+
+pub fits-is : (base size : ℕ) → base < 18446744073709551616 → leb size (18446744073709551615 - base) ≡ fits base size
+fits-is base size h = go (leb size (18446744073709551615 - base)) refl
+  where
+    go : (b : Bool) → leb size (18446744073709551615 - base) ≡ b → b ≡ fits base size
+    go true e = sym (le-leb (base + size) 18446744073709551615 (omega (arith, leb-true size (18446744073709551615 - base) e)))
+    go false e = sym (lt-leb (base + size) 18446744073709551615 (omega (arith, leb-false size (18446744073709551615 - base) e)))
+
+-- a sum that fits doesn't overflow
+pub fits-sum : (base size : ℕ) (b : Bool) → b ≡ fits base size → b ≡ true → base + size < 18446744073709551616
+fits-sum base size b e h = let p = leb-true (base + size) 18446744073709551615 (sym e ∙ h) in omega arith
+
+module _ (l : List ℕ) (base size : ℕ) (b : Bool) (at : base ≡ view l .base) (long : size ≡ view l .size) (is : b ≡ fits base size) where
+  fits-view : (c : Bool) → b ≡ c → fits (view l .base) (view l .size) ≡ c
+  fits-view c h = rw (← at, ← long) (sym is ∙ h)
+
+  pub range-fits : b ≡ true → Two base (base + size) ≡ addressRange (view l)
+  unfolding addressRange
+  range-fits h = rw (fits-view true h, ← at, ← long)
+
+  pub range-wide : b ≡ false → Refused InvalidAddress ≡ addressRange (view l)
+  unfolding addressRange
+  range-wide h = rw (fits-view false h)
+
+-- ---- the memory map
+
+pub width-four : (width : ℕ) → width ≡ 4 → true ≡ goodWidth width
+width-four width h = rw (eq-eqb _ _ h)
+
+pub width-other : (width : ℕ) → (width ≡ 4 → ⊥) → eqb width 8 ≡ goodWidth width
+width-other width h = rw (ne-eqb _ _ h)
+
+-- a write that is served isn't refused
+abbrev Served : Written → Type 0
+Served written.Done = Unit
+Served (written.EndedAll e) = Unit
+Served (written.NotWritten why) = ⊥
+
+served-eoi : (r : Eoi) → Served (writtenBy r)
+served-eoi NotEnded = tt
+served-eoi (Ended e) = tt
+served-eoi (EndedAll e) = tt
+
+write-done : (p : IoApicState) (offset x : ℕ) → Served (writeAt p offset x .answer)
+unfolding writeAt writeSelected writeEoi
+write-done p offset x = go (eqb offset 0) (eqb offset 0x10) (eqb offset 0x40) (isEntryWord (p .selector)) (isVersion20 p) refl refl refl refl refl
+  where
+    go : (a b c d n : Bool) → eqb offset 0 ≡ a → eqb offset 0x10 ≡ b → eqb offset 0x40 ≡ c → isEntryWord (p .selector) ≡ d → isVersion20 p ≡ n → Served (writeAt p offset x .answer)
+    go true b c d n e f g h i = rw e tt
+    go false true c true n e f g h i = rw (e, f, h) tt
+    go false true c false n e f g h i = rw (e, f, h) tt
+    go false false true d true e f g h i = rw (e, f, g, i) (served-eoi (endOfEvery p (record { 0 = x % 2 ^ 8 }) .answer))
+    go false false true d false e f g h i = rw (e, f, g, i) tt
+    go false false false d n e f g h i = rw (e, f, g) tt
+
+served : (l w : List ℕ) (r : Written) → Served r → Untouched (writtenReply r) l w
+served l w written.Done s = tt
+served l w (written.EndedAll e) s = tt
+served l w (written.NotWritten why) s = absurd s
+
+module _ (l : List ℕ) (addr width : ℕ) (b : Bool) (is : b ≡ goodWidth width) where
+  pub read-width : not b ≡ true → Refused Unsupported ≡ handleRead (view l) addr width
+  unfolding handleRead
+  read-width h = rw (sym is ∙ not-true b h)
+
+  module _ (base : ℕ) (h : not b ≡ false) (e : base ≡ view l .base) where
+    pub read-below : addr < base → Refused InvalidAddress ≡ handleRead (view l) addr width
+    unfolding handleRead
+    read-below k = rw (sym is ∙ not-false b h, ← e, lt-leb _ _ k)
+
+    pub read-served : (r : ℕ) → base ≤ addr → r ≡ readAt (view l) (addr - base) → One r ≡ handleRead (view l) addr width
+    unfolding handleRead
+    read-served r k q =
+        rw (sym is ∙ not-false b h, le-leb (view l .base) addr (subst (λ (n : ℕ). n ≤ addr) e k)) (ap One (q ∙ ap (λ (n : ℕ). readAt (view l) (addr - n)) e))
+
+  module _ (x : ℕ) where
+    pub write-width : not b ≡ true → Leaves l l (Refused Unsupported) (handleWrite (view l) addr width x)
+    unfolding handleWrite
+    write-width h = record { outcome = rw (sym is ∙ not-true b h); untouched = refl; kept = refl }
+
+    module _ (base : ℕ) (h : not b ≡ false) (e : base ≡ view l .base) where
+      pub write-below : addr < base → Leaves l l (Refused InvalidAddress) (handleWrite (view l) addr width x)
+      unfolding handleWrite
+      write-below k = record { outcome = rw (sym is ∙ not-false b h, ← e, lt-leb _ _ k); untouched = refl; kept = refl }
+
+      pub write-served : (w : List ℕ) (r : Written) → base ≤ addr → Keeps l w (writing (view w) r ≡ writeAt (view l) (addr - base) (x % 2 ^ 32))
+          → Leaves l w (writtenReply r) (handleWrite (view l) addr width x)
+      unfolding handleWrite
+      write-served w r k q =
+          record {
+            outcome =
+                rw (sym is ∙ not-false b h, le-leb (view l .base) addr (subst (λ (n : ℕ). n ≤ addr) e k))
+                (ap writingOutcome (q .is ∙ ap (λ (n : ℕ). writeAt (view l) (addr - n) (x % 2 ^ 32)) e));
+            untouched = served l w r (subst⁻¹ (λ (z : Writing). Served (z .answer)) (q .is) (write-done (view l) (addr - base) (x % 2 ^ 32)));
+            kept = q .kept;
+          }
+
+-- ---- a new state
+
+pub version-one : (version : ℕ) → version ≡ 17 → true ≡ isVersion version
+version-one version h = rw (eq-eqb _ _ h)
+
+pub version-other : (version : ℕ) → (version ≡ 17 → ⊥) → eqb version 32 ≡ isVersion version
+version-other version h = rw (ne-eqb _ _ h)
+
+the-first : (a b : Bool) → (a || b) ≡ true → b ≡ false → a ≡ true
+the-first true b h e = refl
+the-first false b h e = never h e
+
+pub new-shows : (version base size : ℕ) → isVersion version ≡ true → view (newWords version base size) ≡ chipOf version base size
+unfolding view entriesFrom
+new-shows version base size h = go (eqb version 0x20) refl
+  where
+    go : (b : Bool) → eqb version 0x20 ≡ b → view (newWords version base size) ≡ chipOf version base size
+    go true e = let v : 0x20 ≡ version = sym (eqb-true version 0x20 e) in rw e (λ i. chipOf (v i) base size)
+    go false e =
+        let v : 0x11 ≡ version = sym (eqb-true version 0x11 (the-first (eqb version 0x11) (eqb version 0x20) h e)) in
+        rw e (λ i. chipOf (v i) base size)
+
+module _ (l : List ℕ) (base size version : ℕ) (b : Bool) (is : b ≡ isVersion version) where
+  pub new-unknown : not b ≡ true → Makes l l (Refused Unsupported) (createdVersion (view l) base size version) (newWords version base size)
+  unfolding createdVersion
+  new-unknown h = record { outcome = rw (sym is ∙ not-true b h); words = refl }
+
+  module _ (c : Bool) (h : not b ≡ false) (e : c ≡ fits base size) where
+    pub new-wide : not c ≡ true → Makes l l (Refused InvalidAddress) (createdVersion (view l) base size version) (newWords version base size)
+    unfolding createdVersion
+    new-wide k = record { outcome = rw (sym is ∙ not-false b h, sym e ∙ not-true c k); words = refl }
+
+    pub new-done : (w : List ℕ) → not c ≡ false → w ≡ newWords version base size → Makes l w Nothing (createdVersion (view l) base size version) (newWords version base size)
+    unfolding createdVersion
+    new-done w k q =
+        let s : isVersion version ≡ true = sym is ∙ not-false b h in
+        record {
+          outcome = rw (s, sym e ∙ not-false c k) (ap (λ (m : IoApicState). record { state = m; reply = Nothing }) (ap view q ∙ new-shows version base size s));
+          words = q;
+        }
+
+-- by value: a new state in the place of one that covers no address
+pub new-value : (l w : List ℕ) (r : Reply) (base size version : ℕ) → l ≡ newWords 0x11 0 0 → Makes l w r (createdVersion (view l) base size version) (newWords version base size)
+    → Makes (newWords 0x11 0 0) w r (createdVersion (chipAt 0 0) base size version) (newWords version base size)
+new-value l w r base size version e k =
+    record {
+      outcome = k .outcome ∙ ap (λ (m : IoApicState). createdVersion m base size version) (ap view e ∙ new-shows 0x11 0 0 refl);
+      words = k .words ∙ ap (λ (x : List ℕ). newOr r (newWords version base size) x) e;
+    }
+
+pub new-default : (l : List ℕ) → l ≡ newWords 0x11 0xfec00000 0x1000 → view l ≡ newDefault
+new-default l e = ap view e ∙ new-shows 0x11 0xfec00000 0x1000 refl

@@ -1,0 +1,46 @@
+use Rattle.utils.specs.Cases.{cases}
+use Rattle.vioapic.proofs.Ways.{read-entry, read-other}
+use borrow.Author.Needs.{needs}
+use Rattle.vioapic.proofs.read_selected_register.Statement.{statement}
+use Rattle.vioapic.proofs.read_selected_register.Tie as tie
+
+selector-requires : tie.Need-selector-requires
+selector-requires c κs = search needs
+
+is-entry-word-requires : tie.Need-is-entry-word-requires
+is-entry-word-requires c κs = search needs
+
+entry-of-requires : tie.Need-entry-of-requires
+entry-of-requires c κs = search cases
+
+entry-in-requires : tie.Need-entry-in-requires
+entry-in-requires c κs = search needs
+
+read-word-requires : tie.Need-read-word-requires
+read-word-requires c κs = search needs
+
+returns : tie.Need-returns
+returns c = search read-entry
+
+version-requires : tie.Need-version-requires
+version-requires c κs = search needs
+
+read-fixed-requires : tie.Need-read-fixed-requires
+read-fixed-requires c κs = search needs
+
+returns-2 : tie.Need-returns-2
+returns-2 c = search read-other
+
+pub read-selected-register-spec : {M : Type 1} → statement M
+read-selected-register-spec =
+    tie.close
+    (tie.spec
+    selector-requires
+    is-entry-word-requires
+    entry-of-requires
+    entry-in-requires
+    read-word-requires
+    returns
+    version-requires
+    read-fixed-requires
+    returns-2)

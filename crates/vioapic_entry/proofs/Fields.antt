@@ -1,0 +1,69 @@
+-- What setting and clearing Remote IRR, and writing a half of the register, do to its fields. Assumes nothing.
+use Prim.Native.Nat.{ℕ, _/_, _%_, _<_}
+use native.Mathlib.Omega.{arith}
+use mathlib.Core.Bool.{true, false}
+use mathlib.Core.Path.{_≡_, refl, sym, _∙_, ap}
+use borrow.Author.Tests.{eq-eqb, ne-eqb}
+use Rattle.types.specs.declared.Vector.{Vector}
+use Rattle.vioapic_entry.specs.Redirection.{remoteIrr, isLevel, isFit, hasVector, withRemoteIrr, withoutRemoteIrr, lowPart, replaceLow, replaceHigh}
+
+-- two registers with the same vector, delivery mode, trigger mode and mask
+pub record Alike (u w : ℕ) : Type 0 where
+  pub vector : u % 256 ≡ w % 256
+  pub mode : u / 256 % 8 ≡ w / 256 % 8
+  pub trigger : u / 32768 % 2 ≡ w / 32768 % 2
+  pub mask : u / 65536 % 2 ≡ w / 65536 % 2
+
+pub alike-refl : (w : ℕ) → Alike w w
+alike-refl w = record { vector = refl; mode = refl; trigger = refl; mask = refl }
+
+pub alike-then : {t u w : ℕ} → Alike t u → Alike u w → Alike t w
+alike-then a b = record { vector = a .vector ∙ b .vector; mode = a .mode ∙ b .mode; trigger = a .trigger ∙ b .trigger; mask = a .mask ∙ b .mask }
+
+module _ {u w : ℕ} (a : Alike u w) where
+  pub same-fit : isFit u ≡ isFit w
+  same-fit = rw (a .mask, a .mode, a .vector)
+
+  pub same-level : isLevel u ≡ isLevel w
+  same-level = rw (a .trigger)
+
+  pub same-vector : (v : Vector) → hasVector u v ≡ hasVector w v
+  same-vector v = rw (a .vector)
+
+-- bits 15 and 16 stand above Remote IRR
+upper : (u w : ℕ) → u / 32768 ≡ w / 32768 → (u / 32768 % 2 ≡ w / 32768 % 2) × (u / 65536 % 2 ≡ w / 65536 % 2)
+upper u w e =
+    let p : u / 65536 ≡ u / 32768 / 2 = omega arith in
+    let q : w / 65536 ≡ w / 32768 / 2 = omega arith in
+    (ap (λ (n : ℕ). n % 2) e, ap (λ (n : ℕ). n % 2) (p ∙ ap (λ (n : ℕ). n / 2) e ∙ sym q))
+
+alike-upper : (u w : ℕ) → u % 256 ≡ w % 256 → u / 256 % 8 ≡ w / 256 % 8 → u / 32768 ≡ w / 32768 → Alike u w
+alike-upper u w v m e = let p = upper u w e in record { vector = v; mode = m; trigger = p .0; mask = p .1 }
+
+pub alike-with : (w : ℕ) → Alike (withRemoteIrr w) w
+alike-with w = alike-upper (withRemoteIrr w) w (omega arith) (omega arith) (omega arith)
+
+pub alike-without : (w : ℕ) → Alike (withoutRemoteIrr w) w
+alike-without w = alike-upper (withoutRemoteIrr w) w (omega arith) (omega arith) (omega arith)
+
+pub alike-high : (w x : ℕ) → Alike (replaceHigh w x) w
+alike-high w x = record { vector = omega arith; mode = omega arith; trigger = omega arith; mask = omega arith }
+
+pub irr-with : (w : ℕ) → remoteIrr (withRemoteIrr w) ≡ true
+irr-with w = eq-eqb (withRemoteIrr w / 16384 % 2) 1 (omega arith)
+
+pub irr-without : (w : ℕ) → remoteIrr (withoutRemoteIrr w) ≡ false
+irr-without w = ne-eqb (withoutRemoteIrr w / 16384 % 2) 1 (omega arith)
+
+pub irr-low : (w x : ℕ) → remoteIrr (replaceLow w x) ≡ false
+irr-low w x = ne-eqb (replaceLow w x / 16384 % 2) 1 (omega arith)
+
+irr-bit-high : (w x : ℕ) → replaceHigh w x / 16384 % 2 ≡ w / 16384 % 2
+irr-bit-high w x = omega arith
+
+pub irr-high : (w x : ℕ) → remoteIrr (replaceHigh w x) ≡ remoteIrr w
+irr-high w x = rw (irr-bit-high w x)
+
+-- another low word is the one that was written
+pub low-written : (w x : ℕ) → x < 4294967296 → lowPart (replaceLow w x) ≡ withoutRemoteIrr x
+low-written w x h = omega arith

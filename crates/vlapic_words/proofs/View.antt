@@ -1,0 +1,204 @@
+-- The words, viewed as registers, move as the registers' definitions say. Assumes nothing.
+use Prim.Native.Nat.{ℕ, _+_, _*_, _/_, _%_, _^_, _≤_, _<_}
+use native.Mathlib.Nat.{mod-lt, mod-eq-of-lt, lt-of-le-of-lt}
+use native.Mathlib.Omega.{arith}
+use mathlib.Core.Bool.{Bool, true, false, not, cond}
+use mathlib.Core.List.{List, [], _∷_}
+use mathlib.Core.Logic.{inl, inr}
+use mathlib.Core.Path.{_≡_, refl, sym, ap, _∙_}
+use lib.Dec.{eqb, leb, ltb}
+use lib.ListN.{length, getD, set}
+use lib.Seq.{getD-set-same, getD-set-other}
+use borrow.Author.Tests.{ltb-true, eqb-true, eqb-false}
+use Rattle.utils.specs.Vectors.{classOf}
+use Rattle.utils.proofs.Laws.{with-lt, without-le}
+use Rattle.types.specs.Reply.{flag}
+use Rattle.vlapic_regs.specs.Vectors.{withVector, withoutVector}
+use Rattle.vlapic_regs.specs.Register.{priority}
+use Rattle.vlapic.specs.declared.VirtualApicRegs.{VirtualApicRegs}
+use Rattle.vlapic.specs.Regs.{start, withWord, withIsr, withTmr}
+use Rattle.vlapic.specs.Priority.{updatePpr}
+use Rattle.vlapic_words.specs.Words.{word, eight, view}
+use Rattle.vlapic_words.specs.Calls.{Spare}
+use Rattle.vlapic_words.specs.Steps.{startWords, served, marked, markedIn, ranked}
+use Rattle.vlapic_words.proofs.Runs.{at-from, from-other, from-set}
+
+pub cut-small : (x : ℕ) → x % 2 ^ 32 < 2 ^ 32
+cut-small x = mod-lt x (omega arith)
+
+-- ---- registers by their words
+
+abbrev of : Bool → (ℕ → ℕ) → List ℕ → List ℕ → List ℕ → VirtualApicRegs
+of x w isr tmr irr = record {
+  x2apic = x;
+  «vapic_id» = w 1;
+  tpr = w 2;
+  ppr = w 3;
+  ldr = w 4;
+  dfr = w 5;
+  svr = w 6;
+  esr = w 7;
+  «esr_pending» = w 8;
+  «icr_lo» = w 9;
+  «icr_hi» = w 10;
+  «lvt_cmci» = w 11;
+  «lvt_timer» = w 12;
+  «lvt_thermal» = w 13;
+  «lvt_pmi» = w 14;
+  «lvt_lint0» = w 15;
+  «lvt_lint1» = w 16;
+  «lvt_error» = w 17;
+  isr = isr;
+  tmr = tmr;
+  irr = irr;
+}
+
+-- of a function the values below 18
+abbrev low : (ℕ → ℕ) → ℕ → ℕ
+low w k = cond (ltb k 18) (w k) 0
+
+low-same : (v w : ℕ → ℕ) → ((k : ℕ) → k < 18 → v k ≡ w k) → (k : ℕ) → low v k ≡ low w k
+low-same v w h k = go (ltb k 18) refl
+  where
+    go : (b : Bool) → ltb k 18 ≡ b → cond b (v k) 0 ≡ cond b (w k) 0
+    go true e = h k (ltb-true k 18 e)
+    go false e = refl
+
+view-of : (m : List ℕ) (x : Bool) (w : ℕ → ℕ) (isr tmr irr : List ℕ)
+    → not (eqb (getD m 0 0) 0) ≡ x
+    → ((k : ℕ) → k < 18 → word m k ≡ w k)
+    → eight m 18 ≡ isr
+    → eight m 26 ≡ tmr
+    → eight m 34 ≡ irr
+    → view m ≡ of x w isr tmr irr
+unfolding view
+view-of m x w isr tmr irr p q r s t = λ i. of (p i) (λ (k : ℕ). low-same (word m) w q k i) (r i) (s i) (t i)
+
+-- ---- a word stored
+
+word-set : (l : List ℕ) (k j x : ℕ) → k < length l → x < 2 ^ 32 → word (set l k x) j ≡ cond (eqb k j) x (word l j)
+word-set l k j x n h = go (eqb k j) refl
+  where
+    go : (b : Bool) → eqb k j ≡ b → word (set l k x) j ≡ cond b x (word l j)
+    go true e =
+        let q : j ≡ k = sym (eqb-true k j e) in
+        rw (q, getD-set-same l k x 0 n) (mod-eq-of-lt h)
+    go false e = ap (λ (a : ℕ). a % 2 ^ 32) (getD-set-other l k j x 0 (λ q. eqb-false k j e (sym q)))
+
+module _ (l : List ℕ) (n : length l ≡ 48) where
+  pub put-view : (k x : ℕ) → 1 ≤ k → k < 18 → x < 2 ^ 32 → view (set l k x) ≡ withWord (view l) k x
+  unfolding view
+  put-view k x a b h =
+      view-of (set l k x) (not (eqb (getD l 0 0) 0)) (λ j. cond (eqb k j) x (word l j)) (eight l 18) (eight l 26) (eight l 34)
+      (ap (λ (y : ℕ). not (eqb y 0)) (getD-set-other l k 0 x 0 (λ q. omega arith)))
+      (λ j q. word-set l k j x (omega arith) h)
+      (from-other l 18 8 k x (inl (omega arith)))
+      (from-other l 26 8 k x (inl (omega arith)))
+      (from-other l 34 8 k x (inl (omega arith)))
+
+  -- a word of ISR, and of TMR
+  module _ (i x : ℕ) (b : i < 8) (h : x < 2 ^ 32) where
+    isr-view : view (set l (18 + i) x) ≡ withIsr (view l) (set (view l .isr) i x)
+    unfolding view
+    isr-view =
+        view-of (set l (18 + i) x) (not (eqb (getD l 0 0) 0)) (word l) (set (eight l 18) i x) (eight l 26) (eight l 34)
+        (ap (λ (y : ℕ). not (eqb y 0)) (getD-set-other l (18 + i) 0 x 0 (λ q. omega arith)))
+        (λ j q. ap (λ (y : ℕ). y % 2 ^ 32) (getD-set-other l (18 + i) j x 0 (λ e. omega arith)))
+        (from-set l 18 8 i (18 + i) x refl b (omega arith) h)
+        (from-other l 26 8 (18 + i) x (inl (omega arith)))
+        (from-other l 34 8 (18 + i) x (inl (omega arith)))
+
+    tmr-view : view (set l (26 + i) x) ≡ withTmr (view l) (set (view l .tmr) i x)
+    unfolding view
+    tmr-view =
+        view-of (set l (26 + i) x) (not (eqb (getD l 0 0) 0)) (word l) (eight l 18) (set (eight l 26) i x) (eight l 34)
+        (ap (λ (y : ℕ). not (eqb y 0)) (getD-set-other l (26 + i) 0 x 0 (λ q. omega arith)))
+        (λ j q. ap (λ (y : ℕ). y % 2 ^ 32) (getD-set-other l (26 + i) j x 0 (λ e. omega arith)))
+        (from-other l 18 8 (26 + i) x (inr (omega arith)))
+        (from-set l 26 8 i (26 + i) x refl b (omega arith) h)
+        (from-other l 34 8 (26 + i) x (inl (omega arith)))
+
+-- ---- vectors
+
+marked-small : (x k : ℕ) (up : Bool) → x < 2 ^ 32 → k < 32 → marked x k up < 2 ^ 32
+marked-small x k true h b = with-lt 32 x k h b
+marked-small x k false h b = lt-of-le-of-lt (without-le x k) h
+
+-- vector v up or down in eight words
+abbrev pub moved : List ℕ → ℕ → Bool → List ℕ
+moved words v up = cond up (withVector words v) (withoutVector words v)
+
+moved-is : (words : List ℕ) (v : ℕ) (up : Bool) → set words (v / 32) (marked (getD words (v / 32) 0) (v % 32) up) ≡ moved words v up
+moved-is words v true = refl
+moved-is words v false = refl
+
+module _ (l : List ℕ) (n : length l ≡ 48) (v : ℕ) (up : Bool) (h : v < 256) where
+  here : (base : ℕ) → getD (eight l base) (v / 32) 0 ≡ word l (base + v / 32)
+  here base = at-from l base 8 (v / 32) (base + v / 32) refl (omega arith)
+
+  small : (base : ℕ) → marked (word l (base + v / 32)) (v % 32) up < 2 ^ 32
+  small base = marked-small (word l (base + v / 32)) (v % 32) up (cut-small (getD l (base + v / 32) 0)) (mod-lt v (omega arith))
+
+  pub mark-isr : view (markedIn l 18 v up) ≡ withIsr (view l) (moved (view l .isr) v up)
+  unfolding view
+  mark-isr =
+      isr-view l n (v / 32) (marked (word l (18 + v / 32)) (v % 32) up) (omega arith) (small 18)
+      ∙ ap (withIsr (view l)) (ap (λ (x : ℕ). set (eight l 18) (v / 32) (marked x (v % 32) up)) (sym (here 18)) ∙ moved-is (eight l 18) v up)
+
+  pub mark-tmr : view (markedIn l 26 v up) ≡ withTmr (view l) (moved (view l .tmr) v up)
+  unfolding view
+  mark-tmr =
+      tmr-view l n (v / 32) (marked (word l (26 + v / 32)) (v % 32) up) (omega arith) (small 26)
+      ∙ ap (withTmr (view l)) (ap (λ (x : ℕ). set (eight l 26) (v / 32) (marked x (v % 32) up)) (sym (here 26)) ∙ moved-is (eight l 26) v up)
+
+-- PPR after it
+priority-small : (tpr v : ℕ) → tpr < 2 ^ 32 → priority tpr v < 2 ^ 32
+unfolding priority
+priority-small tpr v h = go (leb (classOf v) (classOf tpr))
+  where
+    go : (b : Bool) → cond b tpr (classOf v * 16) < 2 ^ 32
+    go true = h
+    go false = omega arith
+
+pub rank-view : (l : List ℕ) → length l ≡ 48 → view (ranked l) ≡ updatePpr (view l)
+unfolding view updatePpr
+rank-view l n = put-view l n 3 (priority (word l 2) (served l)) (omega arith) (omega arith) (priority-small (word l 2) (served l) (cut-small (getD l 2 0)))
+
+-- ---- the spare words
+
+pub spare-set : (l : List ℕ) (k x : ℕ) → k < 42 → Spare l (set l k x)
+spare-set l k x h j a b = getD-set-other l k j x 0 (λ e. omega arith)
+
+pub spare-then : (l m k : List ℕ) → Spare l m → Spare m k → Spare l k
+spare-then l m k p q j a b = q j a b ∙ p j a b
+
+-- ---- a reset
+
+flag-up : (b : Bool) → not (eqb (flag b) 0) ≡ b
+flag-up true = refl
+flag-up false = refl
+
+pub start-view : (x2apic : Bool) (id : ℕ) (spare : List ℕ) → id < 2 ^ 32 → view (startWords x2apic id spare) ≡ start x2apic id
+unfolding view
+start-view x2apic id spare h =
+    let e : id % 2 ^ 32 ≡ id = mod-eq-of-lt h in
+    λ i. of (flag-up x2apic i) (λ (k : ℕ). cond (eqb k 1) (e i) (word (startWords x2apic id spare) k)) (start x2apic id .isr) (start x2apic id .tmr) (start x2apic id .irr)
+
+-- one of the six
+module _ (P : ℕ → Type 0) (k : ℕ) where
+  at : (n : ℕ) → P n → ((k ≡ n → ⊥) → P k) → P k
+  at n p rest = go (eqb k n) refl
+    where
+      go : (b : Bool) → eqb k n ≡ b → P k
+      go true e = rw (eqb-true k n e) p
+      go false e = rest (eqb-false k n e)
+
+  six : P 42 → P 43 → P 44 → P 45 → P 46 → P 47 → 42 ≤ k → k < 48 → P k
+  six a b c d e f l h = at 42 a (λ p. at 43 b (λ q. at 44 c (λ r. at 45 d (λ s. at 46 e (λ t. at 47 f (λ u. absurd (omega arith)))))))
+
+pub start-spare : (x2apic : Bool) (id : ℕ) (l : List ℕ) (a b c d e f : ℕ) → a ≡ getD l 42 0 → b ≡ getD l 43 0 → c ≡ getD l 44 0 → d ≡ getD l 45 0 → e ≡ getD l 46 0 → f ≡ getD l 47 0
+    → Spare l (startWords x2apic id (a ∷ b ∷ c ∷ d ∷ e ∷ f ∷ []))
+start-spare x2apic id l a b c d e f pa pb pc pd pe pf k = six (λ (j : ℕ). getD (startWords x2apic id (a ∷ b ∷ c ∷ d ∷ e ∷ f ∷ [])) j 0 ≡ getD l j 0) k pa pb pc pd pe pf
+
+pub new-spare : (x2apic : Bool) (id k : ℕ) → 42 ≤ k → k < 48 → getD (startWords x2apic id (0 ∷ 0 ∷ 0 ∷ 0 ∷ 0 ∷ 0 ∷ [])) k 0 ≡ 0
+new-spare x2apic id k = six (λ (j : ℕ). getD (startWords x2apic id (0 ∷ 0 ∷ 0 ∷ 0 ∷ 0 ∷ 0 ∷ [])) j 0 ≡ 0) k refl refl refl refl refl refl

@@ -1,0 +1,49 @@
+-- What a call in place promises, of the words before it and after it: the registers that they stand for and the reply are the outcome that the registers' definitions give,
+-- a refused call leaves every word as it was, and the spare words are as they were.
+use Prim.Native.Nat.{ℕ, _%_, _≤_, _<_}
+use mathlib.Core.Bool.{false, not, cond, _&&_}
+use mathlib.Core.List.{List}
+use mathlib.Core.Path.{_≡_}
+use lib.Dec.{eqb}
+use lib.ListN.{getD, set}
+use Rattle.types.specs.declared.Reply.{Reply}
+use Rattle.types.specs.declared.Reply.the-variants.{Refused, Nothing, One, Two, Three}
+use Rattle.types.specs.Reply.{Outcome}
+use Rattle.vlapic_icr.specs.Fields.{idle, icrWidth, icrHigh}
+use Rattle.vlapic.specs.declared.VirtualApicRegs.{VirtualApicRegs}
+use Rattle.vlapic.specs.Regs.{start}
+use Rattle.vlapic.specs.Calls.{outOfRange}
+use Rattle.vlapic_words.specs.Words.{view}
+
+-- where the reply is a refusal, the words are those in `kept`
+abbrev pub Kept : Reply → List ℕ → List ℕ → Type 0
+Kept (Refused why) kept m = m ≡ kept
+Kept Nothing kept m = Unit
+Kept (One a) kept m = Unit
+Kept (Two a b) kept m = Unit
+Kept (Three a b c) kept m = Unit
+
+-- the spare words are as they were
+abbrev pub Spare : List ℕ → List ℕ → Type 0
+Spare l m = (k : ℕ) → 42 ≤ k → k < 48 → getD m k 0 ≡ getD l k 0
+
+-- a call that leaves the words m of the words l, or those in `kept` where it is refused
+pub record Leaves (l kept m : List ℕ) (r : Reply) (o : Outcome VirtualApicRegs) : Type 0 where
+  pub outcome : record { state = view m; reply = r } ≡ o
+  pub refused : Kept r kept m
+  pub spare : Spare l m
+
+-- a refused write: an interrupt command that is refused for its kind or destination has stored its two words, and all other words are as they were
+abbrev pub commandStored : List ℕ → ℕ → ℕ → List ℕ
+commandStored l lo hi = set (set l 9 (idle lo)) 10 hi
+
+unfoldable pub icrRefused : List ℕ → ℕ → ℕ → List ℕ
+icrRefused l val width = cond (icrWidth (view l .x2apic) width) (commandStored l (val % 0x100000000) (icrHigh (view l .x2apic) val (view l .«icr_hi»))) l
+
+unfoldable pub refusedWords : List ℕ → ℕ → ℕ → ℕ → ℕ → List ℕ
+refusedWords l offset val width num = cond (eqb offset 0x300 && not (outOfRange num (view l .«vapic_id»))) (icrRefused l val width) l
+
+-- a new local APIC: the spare words are 0
+pub record IsNew (m : List ℕ) : Type 0 where
+  pub registers : view m ≡ start false 0
+  pub spare : (k : ℕ) → 42 ≤ k → k < 48 → getD m k 0 ≡ 0

@@ -1,0 +1,15 @@
+use mathlib.Core.Path.{refl}
+use Rattle.vpic.specs.Words.{view}
+use borrow.Author.Needs.{needs}
+use Rattle.vpic.proofs.slave.Statement.{statement}
+use Rattle.vpic.proofs.slave.Tie as tie
+
+element-copy-out-t4 : tie.Need-element-copy-out-t4
+element-copy-out-t4 c = search needs
+
+returns : tie.Need-returns
+unfolding view
+returns c = refl
+
+pub slave-spec : {M : Type 1} → statement M
+slave-spec = tie.close (tie.spec element-copy-out-t4 returns)

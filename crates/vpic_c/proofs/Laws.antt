@@ -1,0 +1,72 @@
+-- A call's answer, its reply and the reply's code; numbers that no line and no claim has. Assumes nothing.
+use mathlib.Core.Path.{_≡_, refl, sym, ap, _∙_}
+use mathlib.Core.Bool.{Bool, true, false, cond}
+use mathlib.Core.List.{List}
+use Prim.Native.Nat.{ℕ, _/_, _%_, _^_, _<_, _≤_}
+use native.Mathlib.Omega.{arith}
+use lib.Dec.{ltb}
+use lib.ListN.{set}
+use borrow.Author.Tests.{ltb-false, le-ltb}
+use Rattle.types.specs.declared.PicLine.{PicLine}
+use Rattle.types.specs.declared.Refusal.the-variants.{OutOfRange}
+use Rattle.types.specs.declared.Reply.{Reply}
+use Rattle.types.specs.declared.Reply.the-variants.{Nothing}
+use Rattle.types.specs.Reply.{Outcome}
+use Rattle.reply_code.specs.Lent.{replyCode}
+use Rattle.vpic_chip.specs.declared.PicVector.{PicVector}
+use Rattle.vpic_chip.specs.Chip.{vectorReply}
+use Rattle.vpic.specs.declared.PicClaim.{PicClaim}
+use Rattle.vpic.specs.declared.PicDone.{PicDone}
+use Rattle.vpic.specs.declared.PicInterruptClaim.{PicInterruptClaim}
+use Rattle.vpic.specs.declared.PicValue.{PicValue}
+use Rattle.vpic.specs.declared.PortRanges.{PortRanges}
+use Rattle.vpic.specs.Words.{PicState}
+use Rattle.vpic.specs.Pair.{StateClaim, claimReply, doneReply, valueReply, claimOutcome, vectorOutcome, doneOutcome, valueOutcome, claimIrq, claimPending, withClaim, withVector, refused, restoreInterrupt, portRanges}
+use Rattle.vpic_c.proofs.Claims.{parts-same}
+use Rattle.vpic_c.specs.Calls.{shown, coded, lent, line, lineOf, rangeWords, claimWith, isClaim, claimOf, restoreCode}
+
+-- a line that is there is itself, and all others claim nothing
+same-claim : (p : PicState) (irq : ℕ) → claimIrq p (lineOf irq) ≡ claimIrq p (line irq)
+unfolding claimIrq
+same-claim p irq = go (ltb irq 16) refl
+  where
+    go : (b : Bool) → ltb irq 16 ≡ b → claimIrq p (cond b (line irq) (line 16)) ≡ claimIrq p (line irq)
+    go true e = refl
+    go false e = rw e refl
+
+-- a number that no claim answers is refused as line 16 is
+same-restore : (p : PicState) (c : ℕ) → restoreInterrupt p (claimOf c) ≡ restoreCode p c
+same-restore p c = go (isClaim c) refl
+  where
+    go : (b : Bool) → isClaim c ≡ b → restoreInterrupt p (claimOf c) ≡ cond b (restoreInterrupt p (claimWith (c % 2 ^ 16) (c / 2 ^ 16 % 2 ^ 16) (c / 2 ^ 32 % 2 ^ 16))) (refused p OutOfRange)
+    go true e = ap (restoreInterrupt p) (parts-same c e)
+    go false e = rw e
+
+module _ (q : PicState) (x : Reply) (n : ℕ) (en : n ≡ replyCode x) where
+  by-code : (o : Outcome PicState) → record { state = q; reply = x } ≡ o → shown q n ≡ coded o
+  by-code o e = ap (shown q) en ∙ ap coded e
+
+  pub done-code : (d : PicDone) (o : Outcome PicState) → doneOutcome q d ≡ o → x ≡ doneReply d → shown q n ≡ coded o
+  done-code d o e ex = by-code o (ap (λ (y : Reply). record { state = q; reply = y }) ex ∙ e)
+
+  pub value-code : (v : PicValue) (o : Outcome PicState) → valueOutcome q v ≡ o → x ≡ valueReply v → shown q n ≡ coded o
+  value-code v o e ex = by-code o (ap (λ (y : Reply). record { state = q; reply = y }) ex ∙ e)
+
+  pub claim-code : (c : PicClaim) (o : Outcome PicState) → claimOutcome q c ≡ o → x ≡ claimReply c → shown q n ≡ coded o
+  claim-code c o e ex = by-code o (ap (λ (y : Reply). record { state = q; reply = y }) ex ∙ e)
+
+  pub vector-code : (v : PicVector) (o : Outcome PicState) → vectorOutcome q v ≡ o → x ≡ vectorReply v → shown q n ≡ coded o
+  vector-code v o e ex = by-code o (ap (λ (y : Reply). record { state = q; reply = y }) ex ∙ e)
+
+  pub irq-code : (p : PicState) (c : PicClaim) (l : PicLine) (irq : ℕ) → l ≡ lineOf irq → claimOutcome q c ≡ withClaim (claimIrq p l) → x ≡ claimReply c → shown q n ≡ coded (withClaim (claimIrq p (line irq)))
+  irq-code p c l irq el e ex = claim-code c _ (e ∙ ap withClaim (ap (claimIrq p) el ∙ same-claim p irq)) ex
+
+  pub pulse-code : (p : PicState) (v : PicVector) (l : PicLine) (irq : ℕ) → l ≡ lineOf irq → vectorOutcome q v ≡ withVector (claimIrq p l) → x ≡ vectorReply v → shown q n ≡ coded (withVector (claimIrq p (line irq)))
+  pulse-code p v l irq el e ex = vector-code v _ (e ∙ ap withVector (ap (claimIrq p) el ∙ same-claim p irq)) ex
+
+  pub restore-code : (p : PicState) (d : PicDone) (c : ℕ) (k : PicInterruptClaim) → k ≡ claimOf c → doneOutcome q d ≡ restoreInterrupt p k → x ≡ doneReply d → shown q n ≡ coded (restoreCode p c)
+  restore-code p d c k ek e ex = done-code d _ (e ∙ ap (restoreInterrupt p) ek ∙ same-restore p c) ex
+
+pub range-way : (l : List ℕ) (p : PortRanges) (n : ℕ) → p ≡ portRanges → n ≡ replyCode Nothing
+    → lent (set (set (set (set l 0 (p .master .start)) 1 (p .master .end)) 2 (p .slave .start)) 3 (p .slave .end)) n ≡ rangeWords l
+range-way l p n ep en = rw (ep, en)

@@ -1,0 +1,72 @@
+-- What is shown loses nothing: equal pairs and codes come from equal outcomes, and the pair's replies fit their codes. Assumes nothing.
+use mathlib.Core.Path.{_≡_, ap}
+use mathlib.Core.Bool.{Bool, true, false}
+use mathlib.Core.List.{List}
+use Prim.Native.Nat.{ℕ, _+_, _*_, _/_, _%_, _^_, _<_}
+use native.Mathlib.Omega.{arith}
+use lib.Dec.{eqb}
+use lib.ListN.{getD}
+use Rattle.utils.specs.Set.{bit}
+use Rattle.utils.proofs.Bools.{both}
+use Rattle.types.specs.declared.PicPlace.{PicPlace}
+use Rattle.types.specs.declared.PicPlace.the-variants.{Master, Slave, Nowhere}
+use Rattle.types.specs.Reply.{Outcome, flag}
+use Rattle.reply_code.specs.Lent.{Fits}
+use Rattle.reply_code.proofs.Codes.{code-same}
+use Rattle.vpic_chip.specs.Registers.{chipIn}
+use Rattle.vpic_chip.specs.Chip.{acknowledged, commandRead, vectorReply}
+use Rattle.vpic.specs.declared.PicValue.{PicValue}
+use Rattle.vpic.specs.Words.{PicState, view}
+use Rattle.vpic.specs.Pair.{grew, pendingPlace, claimAt, claimPending, masterClaim, slaveClaim, claimReply, claimVector, valueReply, portRead}
+use Rattle.vpic.proofs.Ready.{Ready, pending-ready}
+use Rattle.vpic_c.specs.Calls.{Coded, coded}
+
+pub coded-same : (a b : Outcome PicState) → Fits (a .reply) → Fits (b .reply) → coded a ≡ coded b → a ≡ b
+coded-same a b f g e =
+    let s : a .state ≡ b .state = ap (λ (x : Coded). x .state) e in
+    let r : a .reply ≡ b .reply = code-same (a .reply) (b .reply) f g (ap (λ (x : Coded). x .code) e) in
+    λ i. record { state = s i; reply = r i }
+
+flags-lt : (m s : Bool) → flag m + 2 * flag s < 2 ^ 16
+flags-lt true true = omega arith
+flags-lt true false = omega arith
+flags-lt false true = omega arith
+flags-lt false false = omega arith
+
+pub fits-claim : (p : PicState) → Fits (claimReply (claimPending p .claim))
+unfolding claimPending masterClaim slaveClaim
+fits-claim p = go (pendingPlace p) (pending-ready p)
+  where
+    go : (x : PicPlace) → Ready p x → Fits (claimReply (claimAt p x .claim))
+    go (Master k) r = (omega arith, omega (arith, r .low), flags-lt (grew (p .master) (acknowledged (p .master) (k .0))) (grew (p .slave) (p .slave)))
+    go (Slave k) r =
+        (omega arith, omega (arith, r .1 .low), flags-lt (grew (p .master) (acknowledged (p .master) 2)) (grew (p .slave) (acknowledged (p .slave) (k .0))))
+    go Nowhere r = tt
+
+pub fits-vector : (p : PicState) → Fits (vectorReply (claimVector (claimPending p .claim)))
+unfolding claimPending masterClaim slaveClaim
+fits-vector p = go (pendingPlace p)
+  where
+    go : (x : PicPlace) → Fits (vectorReply (claimVector (claimAt p x .claim)))
+    go (Master k) = omega arith
+    go (Slave k) = omega arith
+    go Nowhere = tt
+
+command-lt : (w : ℕ) → commandRead (chipIn w) < 2 ^ 32
+unfolding commandRead chipIn
+command-lt w = both (λ (n : ℕ). n < 2 ^ 32) (bit w 43) _ _ (omega arith) (omega arith)
+
+mask-lt : (w : ℕ) → chipIn w .mask < 2 ^ 32
+unfolding chipIn
+mask-lt w = omega arith
+
+abbrev FitsValue : PicValue → Type 0
+FitsValue v = Fits (valueReply v)
+
+pub fits-value : (l : List ℕ) (port : ℕ) → Fits (valueReply (portRead (view l) port))
+unfolding portRead view
+fits-value l port =
+    both FitsValue (eqb port 0x20) _ _ (command-lt (getD l 0 0))
+    (both FitsValue (eqb port 0x21) _ _ (mask-lt (getD l 0 0))
+    (both FitsValue (eqb port 0xa0) _ _ (command-lt (getD l 1 0))
+    (both FitsValue (eqb port 0xa1) _ _ (mask-lt (getD l 1 0)) tt)))

@@ -1,0 +1,20 @@
+use Rattle.vpic_c.proofs.Laws.{claim-code}
+use borrow.Author.Needs.{needs}
+use Rattle.vpic_c.proofs.sillwander_pic_claim_pending_interrupt.Statement.{statement}
+use Rattle.vpic_c.proofs.sillwander_pic_claim_pending_interrupt.Tie as tie
+
+claim-pending-interrupt-requires : tie.Need-claim-pending-interrupt-requires
+claim-pending-interrupt-requires c κs = search needs
+
+reply-requires : tie.Need-reply-requires
+reply-requires c κs = search needs
+
+code-requires : tie.Need-code-requires
+code-requires c κs = search needs
+
+returns : tie.Need-returns
+returns c = search claim-code
+
+pub sillwander-pic-claim-pending-interrupt-spec : {M : Type 1} → statement M
+sillwander-pic-claim-pending-interrupt-spec =
+    tie.close (tie.spec claim-pending-interrupt-requires reply-requires code-requires returns)

@@ -1,0 +1,178 @@
+-- A register is read back from the word that it was put into, and so is every other. Assumes nothing.
+use mathlib.Core.Path.{_≡_, refl, sym, ap, ap₂, _∙_}
+use mathlib.Core.Bool.{Bool, true, false, cond}
+use Prim.Native.Nat.{ℕ, _+_, _*_, _-_, _/_, _%_, _^_, _<_, _≤_}
+use native.Mathlib.Omega.{arith}
+use native.Mathlib.Nat.{div-one, div-add-mod', mul-comm, add-mul, div-div-eq-div-mul}
+use lib.Pow.{pow-add, field, mod-mod-pow}
+use lib.Dec.{eqb}
+use borrow.Author.Tests.{eqb-true, eqb-false}
+use Rattle.utils.specs.Set.{bit, with, without}
+use Rattle.utils.proofs.Laws.{bit-at-least, with-lt, without-le}
+use Rattle.types.specs.Reply.{flag}
+use Rattle.vpic_chip.specs.Registers.{Chip, registers, withBase, withMask, withRequest, withInService, withStep, withAutoEoi, withReadIsr, chipIn}
+use Rattle.vpic_chip.specs.Chip.{opened, icw1, specificEoi}
+
+abbrev byte : ℕ → ℕ → ℕ
+byte w n = w / 2 ^ n % 2 ^ 8
+
+abbrev digit : ℕ → ℕ → ℕ
+digit w n = w / 2 ^ n % 2
+
+-- a chip by the registers of its word
+parts : (r b0 b1 b2 b3 b4 f0 f1 f2 f3 sp : ℕ) → r % 2 ^ 8 ≡ b0 → byte r 8 ≡ b1 → byte r 16 ≡ b2 → byte r 24 ≡ b3 → byte r 32 ≡ b4
+    → digit r 40 ≡ f0 → digit r 41 ≡ f1 → digit r 42 ≡ f2 → digit r 43 ≡ f3 → r / 2 ^ 44 ≡ sp
+    → chipIn r ≡ registers b0 b1 b2 b3 b4 (eqb f0 1) (eqb f1 1) (eqb f2 1) (eqb f3 1) sp
+unfolding chipIn
+parts r b0 b1 b2 b3 b4 f0 f1 f2 f3 sp e0 e1 e2 e3 e4 g0 g1 g2 g3 h =
+    λ i. registers (e0 i) (e1 i) (e2 i) (e3 i) (e4 i) (eqb (g0 i) 1) (eqb (g1 i) 1) (eqb (g2 i) 1) (eqb (g3 i) 1) (h i)
+
+flag-back : (b : Bool) → eqb (flag b) 1 ≡ b
+flag-back true = refl
+flag-back false = refl
+
+pub base-put : (w v r : ℕ) → v < 2 ^ 8 → r ≡ w / 2 ^ 8 * 2 ^ 8 + v → chipIn r ≡ withBase (chipIn w) v
+unfolding chipIn
+base-put w v r h e =
+    parts r v (byte w 8) (byte w 16) (byte w 24) (byte w 32) (digit w 40) (digit w 41) (digit w 42) (digit w 43) (w / 2 ^ 44)
+    (omega arith) (omega arith) (omega arith) (omega arith) (omega arith) (omega arith) (omega arith) (omega arith) (omega arith) (omega arith)
+
+pub mask-put : (w v r : ℕ) → v < 2 ^ 8 → r ≡ w / 2 ^ 16 * 2 ^ 16 + v * 2 ^ 8 + w % 2 ^ 8 → chipIn r ≡ withMask (chipIn w) v
+unfolding chipIn
+mask-put w v r h e =
+    parts r (w % 2 ^ 8) v (byte w 16) (byte w 24) (byte w 32) (digit w 40) (digit w 41) (digit w 42) (digit w 43) (w / 2 ^ 44)
+    (omega arith) (omega arith) (omega arith) (omega arith) (omega arith) (omega arith) (omega arith) (omega arith) (omega arith) (omega arith)
+
+pub request-put : (w v r : ℕ) → v < 2 ^ 8 → r ≡ w / 2 ^ 24 * 2 ^ 24 + v * 2 ^ 16 + w % 2 ^ 16 → chipIn r ≡ withRequest (chipIn w) v
+unfolding chipIn
+request-put w v r h e =
+    parts r (w % 2 ^ 8) (byte w 8) v (byte w 24) (byte w 32) (digit w 40) (digit w 41) (digit w 42) (digit w 43) (w / 2 ^ 44)
+    (omega arith) (omega arith) (omega arith) (omega arith) (omega arith) (omega arith) (omega arith) (omega arith) (omega arith) (omega arith)
+
+pub service-put : (w v r : ℕ) → v < 2 ^ 8 → r ≡ w / 2 ^ 32 * 2 ^ 32 + v * 2 ^ 24 + w % 2 ^ 24 → chipIn r ≡ withInService (chipIn w) v
+unfolding chipIn
+service-put w v r h e =
+    parts r (w % 2 ^ 8) (byte w 8) (byte w 16) v (byte w 32) (digit w 40) (digit w 41) (digit w 42) (digit w 43) (w / 2 ^ 44)
+    (omega arith) (omega arith) (omega arith) (omega arith) (omega arith) (omega arith) (omega arith) (omega arith) (omega arith) (omega arith)
+
+pub step-put : (w v r : ℕ) → v < 2 ^ 8 → r ≡ w / 2 ^ 40 * 2 ^ 40 + v * 2 ^ 32 + w % 2 ^ 32 → chipIn r ≡ withStep (chipIn w) v
+unfolding chipIn
+step-put w v r h e =
+    parts r (w % 2 ^ 8) (byte w 8) (byte w 16) (byte w 24) v (digit w 40) (digit w 41) (digit w 42) (digit w 43) (w / 2 ^ 44)
+    (omega arith) (omega arith) (omega arith) (omega arith) (omega arith) (omega arith) (omega arith) (omega arith) (omega arith) (omega arith)
+
+pub auto-put : (w v r : ℕ) (b : Bool) → v ≡ flag b → v ≤ 1 → r ≡ w / 2 ^ 43 * 2 ^ 43 + v * 2 ^ 42 + w % 2 ^ 42 → chipIn r ≡ withAutoEoi (chipIn w) b
+unfolding chipIn
+auto-put w v r b f h e =
+    parts r (w % 2 ^ 8) (byte w 8) (byte w 16) (byte w 24) (byte w 32) (digit w 40) (digit w 41) v (digit w 43) (w / 2 ^ 44)
+    (omega arith) (omega arith) (omega arith) (omega arith) (omega arith) (omega arith) (omega arith) (omega arith) (omega arith) (omega arith)
+    ∙ ap (withAutoEoi (chipIn w)) (ap (λ (n : ℕ). eqb n 1) f ∙ flag-back b)
+
+pub read-put : (w v r : ℕ) (b : Bool) → v ≡ flag b → v ≤ 1 → r ≡ w / 2 ^ 44 * 2 ^ 44 + v * 2 ^ 43 + w % 2 ^ 43 → chipIn r ≡ withReadIsr (chipIn w) b
+unfolding chipIn
+read-put w v r b f h e =
+    parts r (w % 2 ^ 8) (byte w 8) (byte w 16) (byte w 24) (byte w 32) (digit w 40) (digit w 41) (digit w 42) v (w / 2 ^ 44)
+    (omega arith) (omega arith) (omega arith) (omega arith) (omega arith) (omega arith) (omega arith) (omega arith) (omega arith) (omega arith)
+    ∙ ap (withReadIsr (chipIn w)) (ap (λ (n : ℕ). eqb n 1) f ∙ flag-back b)
+
+pub new-put : (v r : ℕ) → v < 2 ^ 8 → r ≡ v + 0xff00 → chipIn r ≡ opened v
+unfolding opened
+new-put v r h e = parts r v 255 0 0 0 0 0 0 0 0 (omega arith) (omega arith) (omega arith) (omega arith) (omega arith) (omega arith) (omega arith) (omega arith) (omega arith) (omega arith)
+
+pub icw1-put : (w v r : ℕ) → r ≡ w / 2 ^ 44 * 2 ^ 44 + v % 4 * 2 ^ 40 + 2 ^ 32 + w % 2 ^ 16 → chipIn r ≡ icw1 (chipIn w) v
+unfolding chipIn
+icw1-put w v r e =
+    parts r (w % 2 ^ 8) (byte w 8) 0 0 1 (v % 2) (v / 2 % 2) 0 0 (w / 2 ^ 44)
+    (omega arith) (omega arith) (omega arith) (omega arith) (omega arith) (omega arith) (omega arith) (omega arith) (omega arith) (omega arith)
+    ∙ simp div-one
+
+-- ---- one line of a byte
+
+-- bit k of a number's byte is bit k of the number
+low-bit : (x k : ℕ) → k < 8 → x % 2 ^ 8 / 2 ^ k % 2 ≡ x / 2 ^ k % 2
+low-bit x k h =
+    let a : 8 - k + k ≡ 8 = omega arith in
+    let b : 7 - k + 1 ≡ 8 - k = omega arith in
+    ap (λ (m : ℕ). x % 2 ^ m / 2 ^ k % 2) (sym a) ∙ ap (λ (m : ℕ). m % 2) (field x (8 - k) k)
+    ∙ ap (λ (m : ℕ). x / 2 ^ k % 2 ^ m % 2) (sym b) ∙ mod-mod-pow (x / 2 ^ k) (7 - k) 1
+
+-- so bit k of a byte that stands from bit n up in a word is the word's bit k + n
+byte-bit : (w n s k : ℕ) → w / 2 ^ n % 2 ^ 8 ≡ s → k < 8 → bit w (k + n) ≡ bit s k
+byte-bit w n s k e h =
+    let a : w / 2 ^ (k + n) ≡ w / 2 ^ n / 2 ^ k = ap (λ (m : ℕ). w / m) (pow-add 2 k n ∙ mul-comm (2 ^ k) (2 ^ n)) ∙ sym (div-div-eq-div-mul w (2 ^ n) (2 ^ k)) in
+    ap (λ (d : ℕ). eqb d 1) (ap (λ (m : ℕ). m % 2) a ∙ sym (low-bit (w / 2 ^ n) k h) ∙ ap (λ (m : ℕ). m / 2 ^ k % 2) e)
+
+module _ (w r s n k : ℕ) (e : w ≡ r + s * 2 ^ n) (same : bit w (k + n) ≡ bit s k) where
+  with-at : with w (k + n) ≡ r + with s k * 2 ^ n
+  unfolding with
+  with-at = rw same (go (bit s k))
+    where
+      go : (b : Bool) → cond b w (w + 2 ^ (k + n)) ≡ r + cond b s (s + 2 ^ k) * 2 ^ n
+      go true = e
+      go false = omega (arith, e, pow-add 2 k n, add-mul s (2 ^ k) (2 ^ n))
+
+  without-at : without w (k + n) ≡ r + without s k * 2 ^ n
+  unfolding without
+  without-at = rw same (go (bit s k) refl)
+    where
+      go : (b : Bool) → bit s k ≡ b → cond b (w - 2 ^ (k + n)) w ≡ r + cond b (s - 2 ^ k) s * 2 ^ n
+      go true q =
+          let d : s ≡ s - 2 ^ k + 2 ^ k = omega (arith, bit-at-least s k q) in
+          let m : s * 2 ^ n ≡ (s - 2 ^ k) * 2 ^ n + 2 ^ k * 2 ^ n = ap (λ (x : ℕ). x * 2 ^ n) d ∙ add-mul (s - 2 ^ k) (2 ^ k) (2 ^ n) in
+          omega (arith, e, m, pow-add 2 k n)
+      go false q = e
+
+module _ (w k r : ℕ) (h : k < 8) where
+  pub requested-put : r ≡ with w (k + 16) → chipIn r ≡ withRequest (chipIn w) (with (chipIn w .request) k)
+  unfolding chipIn
+  requested-put e =
+      request-put w (with (byte w 16) k) r (with-lt 8 (byte w 16) k (omega arith) h)
+      (omega (arith, with-at w (w / 2 ^ 24 * 2 ^ 24 + w % 2 ^ 16) (byte w 16) 16 k (omega arith) (byte-bit w 16 (byte w 16) k refl h)))
+
+  pub unrequested-put : r ≡ without w (k + 16) → chipIn r ≡ withRequest (chipIn w) (without (chipIn w .request) k)
+  unfolding chipIn
+  unrequested-put e =
+      request-put w (without (byte w 16) k) r (omega (arith, without-le (byte w 16) k))
+      (omega (arith, without-at w (w / 2 ^ 24 * 2 ^ 24 + w % 2 ^ 16) (byte w 16) 16 k (omega arith) (byte-bit w 16 (byte w 16) k refl h)))
+
+  pub served-put : r ≡ with w (k + 24) → chipIn r ≡ withInService (chipIn w) (with (chipIn w .«in_service») k)
+  unfolding chipIn
+  served-put e =
+      service-put w (with (byte w 24) k) r (with-lt 8 (byte w 24) k (omega arith) h)
+      (omega (arith, with-at w (w / 2 ^ 32 * 2 ^ 32 + w % 2 ^ 24) (byte w 24) 24 k (omega arith) (byte-bit w 24 (byte w 24) k refl h)))
+
+  pub ended-put : r ≡ without w (k + 24) → chipIn r ≡ specificEoi (chipIn w) k
+  unfolding chipIn
+  ended-put e =
+      service-put w (without (byte w 24) k) r (omega (arith, without-le (byte w 24) k))
+      (omega (arith, without-at w (w / 2 ^ 32 * 2 ^ 32 + w % 2 ^ 24) (byte w 24) 24 k (omega arith) (byte-bit w 24 (byte w 24) k refl h)))
+
+-- ---- the registers and what is left are all of the word: a chip has one word
+
+flag-digit : (n : ℕ) → flag (eqb (n % 2) 1) ≡ n % 2
+flag-digit n = go (eqb (n % 2) 1) refl
+  where
+    go : (b : Bool) → eqb (n % 2) 1 ≡ b → flag b ≡ n % 2
+    go true e = sym (eqb-true (n % 2) 1 e)
+    go false e = omega (arith, eqb-false (n % 2) 1 e)
+
+module _ (v w d : ℕ) where
+  above-and-here : (e : ℕ) → v / (d * e) ≡ w / (d * e) → v / d % e ≡ w / d % e → v / d ≡ w / d
+  above-and-here e h k =
+      sym (div-add-mod' (v / d) e) ∙ ap₂ (λ (x y : ℕ). x * e + y) (div-div-eq-div-mul v d e ∙ h ∙ sym (div-div-eq-div-mul w d e)) k ∙ div-add-mod' (w / d) e
+
+  above-and-flag : v / (d * 2) ≡ w / (d * 2) → eqb (v / d % 2) 1 ≡ eqb (w / d % 2) 1 → v / d ≡ w / d
+  above-and-flag h k = above-and-here 2 h (sym (flag-digit (v / d)) ∙ ap flag k ∙ flag-digit (w / d))
+
+pub word-same : (v w : ℕ) → chipIn v ≡ chipIn w → v ≡ w
+unfolding chipIn
+word-same v w q =
+    let g43 : v / 2 ^ 43 ≡ w / 2 ^ 43 = above-and-flag v w (2 ^ 43) (ap (λ (c : Chip). c .spare) q) (ap (λ (c : Chip). c .«read_isr») q) in
+    let g42 : v / 2 ^ 42 ≡ w / 2 ^ 42 = above-and-flag v w (2 ^ 42) g43 (ap (λ (c : Chip). c .«auto_eoi») q) in
+    let g41 : v / 2 ^ 41 ≡ w / 2 ^ 41 = above-and-flag v w (2 ^ 41) g42 (ap (λ (c : Chip). c .single) q) in
+    let g40 : v / 2 ^ 40 ≡ w / 2 ^ 40 = above-and-flag v w (2 ^ 40) g41 (ap (λ (c : Chip). c .«needs_icw4») q) in
+    let g32 : v / 2 ^ 32 ≡ w / 2 ^ 32 = above-and-here v w (2 ^ 32) (2 ^ 8) g40 (ap (λ (c : Chip). c .«init_step») q) in
+    let g24 : v / 2 ^ 24 ≡ w / 2 ^ 24 = above-and-here v w (2 ^ 24) (2 ^ 8) g32 (ap (λ (c : Chip). c .«in_service») q) in
+    let g16 : v / 2 ^ 16 ≡ w / 2 ^ 16 = above-and-here v w (2 ^ 16) (2 ^ 8) g24 (ap (λ (c : Chip). c .request) q) in
+    let g8 : v / 2 ^ 8 ≡ w / 2 ^ 8 = above-and-here v w (2 ^ 8) (2 ^ 8) g16 (ap (λ (c : Chip). c .mask) q) in
+    sym (div-add-mod' v (2 ^ 8)) ∙ ap₂ (λ (x y : ℕ). x * 2 ^ 8 + y) g8 (ap (λ (c : Chip). c .«vector_base») q) ∙ div-add-mod' w (2 ^ 8)

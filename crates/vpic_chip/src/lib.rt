@@ -1,0 +1,459 @@
+// Ported to Rattle from vpic.rs of the Rust crate x86_vlapic 0.5.4 (Apache License, Version 2.0; the text stands in NOTICE).
+//
+// Changed: one 8259 chip, `PicChip`, has a crate of its own, and its fields are registers of one word, so that a chip is the same by value and in the words that a caller
+// lends; methods take the chip by value and hand it back; ICWs and OCWs became functions of their own; a line is a `PicLine`, and one that a chip doesn't have changes
+// nothing; `Option` became enums; each function has its contract. A set of the chip's eight lines is a byte.
+
+ghost use mathlib.Core.Path.{_≡_};
+ghost use Prim.Native.Nat.{_<_, _≤_};
+ghost use Rattle.utils.specs.Set.{with, without, setOf, lowest};
+ghost use Rattle.types.specs.Reply.{flag};
+ghost use Rattle.vpic_chip.specs.Registers.{withBase, withMask, withRequest, withInService, withStep, withAutoEoi, withReadIsr, chipIn};
+ghost use Rattle.vpic_chip.specs.Chip.{opened, icw1, ocw3, specificEoi, nonSpecificEoi, ocw2, commanded, afterIcw3, icw2, icw3, icw4, fed, commandRead, pulsed, counts, asks, driven, pendingIrq, acknowledged, acknowledge, acknowledgeOutcome, vectorReply, unacknowledged};
+use types::PicLine;
+use types::Reply;
+use types::Vector;
+use utils::set8;
+use utils::set64;
+
+// The master's line that the slave's output drives.
+pub const CASCADE_IRQ: u8 = 2;
+
+// A chip: specs/Registers.antt says which registers the word holds. None but the accessors and setters look into it.
+pub struct PicChip(pub u64);
+
+// The line whose request counts.
+pub enum PendingIrq {
+    Irq(PicLine),
+    Nothing,
+}
+
+// The vector that a chip or the pair gives.
+pub enum PicVector {
+    Given(Vector),
+    Nothing,
+}
+
+// A chip after an acknowledgement, and the vector that it gave.
+pub struct Acknowledged {
+    pub chip: PicChip,
+    pub vector: PicVector,
+}
+
+impl PicVector {
+    pub fn reply(self) -> Reply
+        ensures { λ r. ⌜ r ≡ vectorReply self ⌝ }
+    {
+        match self {
+            PicVector::Given(vector) => Reply::One(vector.0 as u64),
+            PicVector::Nothing => Reply::Nothing,
+        }
+    }
+}
+
+// A flag as a binary digit.
+pub fn digit(up: bool) -> u64
+    ensures { λ r. ⌜ (r ≡ flag up) × (r ≤ 1) ⌝ }
+{
+    if up {
+        return 1;
+    }
+    0
+}
+
+// ---- The registers.
+
+impl PicChip {
+    pub fn vector_base(self) -> u8
+        ensures { λ r. ⌜ r ≡ chipIn (self .0) .«vector_base» ⌝ }
+    {
+        (self.0 % 0x100) as u8
+    }
+
+    pub fn mask(self) -> u8
+        ensures { λ r. ⌜ r ≡ chipIn (self .0) .mask ⌝ }
+    {
+        (self.0 / 0x100 % 0x100) as u8
+    }
+
+    pub fn request(self) -> u8
+        ensures { λ r. ⌜ r ≡ chipIn (self .0) .request ⌝ }
+    {
+        (self.0 / 0x1_0000 % 0x100) as u8
+    }
+
+    pub fn in_service(self) -> u8
+        ensures { λ r. ⌜ r ≡ chipIn (self .0) .«in_service» ⌝ }
+    {
+        (self.0 / 0x100_0000 % 0x100) as u8
+    }
+
+    pub fn init_step(self) -> u8
+        ensures { λ r. ⌜ r ≡ chipIn (self .0) .«init_step» ⌝ }
+    {
+        (self.0 / 0x1_0000_0000 % 0x100) as u8
+    }
+
+    pub fn needs_icw4(self) -> bool
+        ensures { λ r. ⌜ r ≡ chipIn (self .0) .«needs_icw4» ⌝ }
+    {
+        self.0 / 0x100_0000_0000 % 2 == 1
+    }
+
+    pub fn single(self) -> bool
+        ensures { λ r. ⌜ r ≡ chipIn (self .0) .single ⌝ }
+    {
+        self.0 / 0x200_0000_0000 % 2 == 1
+    }
+
+    pub fn auto_eoi(self) -> bool
+        ensures { λ r. ⌜ r ≡ chipIn (self .0) .«auto_eoi» ⌝ }
+    {
+        self.0 / 0x400_0000_0000 % 2 == 1
+    }
+
+    pub fn read_isr(self) -> bool
+        ensures { λ r. ⌜ r ≡ chipIn (self .0) .«read_isr» ⌝ }
+    {
+        self.0 / 0x800_0000_0000 % 2 == 1
+    }
+
+    fn with_vector_base(self, base: u8) -> Self
+        ensures { λ r. ⌜ chipIn (r .0) ≡ withBase (chipIn (self .0)) base ⌝ }
+    {
+        PicChip(self.0 / 0x100 * 0x100 + base as u64)
+    }
+
+    fn with_mask(self, mask: u8) -> Self
+        ensures { λ r. ⌜ chipIn (r .0) ≡ withMask (chipIn (self .0)) mask ⌝ }
+    {
+        PicChip(self.0 / 0x1_0000 * 0x1_0000 + mask as u64 * 0x100 + self.0 % 0x100)
+    }
+
+    fn with_in_service(self, in_service: u8) -> Self
+        ensures { λ r. ⌜ chipIn (r .0) ≡ withInService (chipIn (self .0)) «in_service» ⌝ }
+    {
+        PicChip(
+            self.0 / 0x1_0000_0000 * 0x1_0000_0000
+                + in_service as u64 * 0x100_0000
+                + self.0 % 0x100_0000,
+        )
+    }
+
+    fn with_init_step(self, step: u8) -> Self
+        ensures { λ r. ⌜ chipIn (r .0) ≡ withStep (chipIn (self .0)) step ⌝ }
+    {
+        PicChip(
+            self.0 / 0x100_0000_0000 * 0x100_0000_0000
+                + step as u64 * 0x1_0000_0000
+                + self.0 % 0x1_0000_0000,
+        )
+    }
+
+    fn with_auto_eoi(self, up: bool) -> Self
+        ensures { λ r. ⌜ chipIn (r .0) ≡ withAutoEoi (chipIn (self .0)) up ⌝ }
+    {
+        PicChip(
+            self.0 / 0x800_0000_0000 * 0x800_0000_0000
+                + digit(up) * 0x400_0000_0000
+                + self.0 % 0x400_0000_0000,
+        )
+    }
+
+    fn with_read_isr(self, up: bool) -> Self
+        ensures { λ r. ⌜ chipIn (r .0) ≡ withReadIsr (chipIn (self .0)) up ⌝ }
+    {
+        PicChip(
+            self.0 / 0x1000_0000_0000 * 0x1000_0000_0000
+                + digit(up) * 0x800_0000_0000
+                + self.0 % 0x800_0000_0000,
+        )
+    }
+
+    // One line of a set is a bit of the word.
+    fn requested(self, irq: PicLine) -> Self
+        requires { ⌜ irq .0 < 8 ⌝ }
+        ensures { λ r. ⌜ chipIn (r .0) ≡ withRequest (chipIn (self .0)) (with (chipIn (self .0) .request) (irq .0)) ⌝ }
+    {
+        PicChip(set64::with(self.0, irq.0 as u64 + 16))
+    }
+
+    fn unrequested(self, irq: PicLine) -> Self
+        requires { ⌜ irq .0 < 8 ⌝ }
+        ensures { λ r. ⌜ chipIn (r .0) ≡ withRequest (chipIn (self .0)) (without (chipIn (self .0) .request) (irq .0)) ⌝ }
+    {
+        PicChip(set64::without(self.0, irq.0 as u64 + 16))
+    }
+
+    fn served(self, irq: PicLine) -> Self
+        requires { ⌜ irq .0 < 8 ⌝ }
+        ensures { λ r. ⌜ chipIn (r .0) ≡ withInService (chipIn (self .0)) (with (chipIn (self .0) .«in_service») (irq .0)) ⌝ }
+    {
+        PicChip(set64::with(self.0, irq.0 as u64 + 24))
+    }
+
+    // The line is no longer in service.
+    fn end(self, irq: PicLine) -> Self
+        requires { ⌜ irq .0 < 8 ⌝ }
+        ensures { λ r. ⌜ chipIn (r .0) ≡ specificEoi (chipIn (self .0)) (irq .0) ⌝ }
+    {
+        PicChip(set64::without(self.0, irq.0 as u64 + 24))
+    }
+
+    // A chip as the Rust opens it, at any base byte.
+    pub fn new(vector_base: u8) -> Self
+        ensures { λ r. ⌜ chipIn (r .0) ≡ opened «vector_base» ⌝ }
+    {
+        PicChip(vector_base as u64 + 0xff00)
+    }
+
+    // ICW1 puts all registers but two: base and mask stay.
+    fn icw1(self, value: u8) -> Self
+        ensures { λ r. ⌜ chipIn (r .0) ≡ icw1 (chipIn (self .0)) value ⌝ }
+    {
+        PicChip(
+            self.0 / 0x1000_0000_0000 * 0x1000_0000_0000
+                + value as u64 % 4 * 0x100_0000_0000
+                + 0x1_0000_0000
+                + self.0 % 0x1_0000,
+        )
+    }
+}
+
+// ---- The ports.
+
+impl PicChip {
+    // A byte written to the command port.
+    pub fn command(self, value: u8) -> Self
+        ensures { λ r. ⌜ chipIn (r .0) ≡ commanded (chipIn (self .0)) value ⌝ }
+    {
+        // As guests mostly do, and found at once.
+        if value == 0x20 {
+            return self.end_highest();
+        }
+        if value / 16 % 2 == 1 {
+            return self.icw1(value);
+        }
+        if value / 8 % 2 == 1 {
+            return self.ocw3(value);
+        }
+        self.ocw2(value)
+    }
+
+    fn ocw3(self, value: u8) -> Self
+        ensures { λ r. ⌜ chipIn (r .0) ≡ ocw3 (chipIn (self .0)) value ⌝ }
+    {
+        self.with_read_isr(value / 2 % 2 == 1)
+    }
+
+    fn ocw2(self, value: u8) -> Self
+        ensures { λ r. ⌜ chipIn (r .0) ≡ ocw2 (chipIn (self .0)) value ⌝ }
+    {
+        if value / 32 % 2 != 1 {
+            return self;
+        }
+        if value / 64 % 2 == 1 {
+            return self.end(PicLine(value % 8));
+        }
+        self.end_highest()
+    }
+
+    // The highest line in service ends.
+    fn end_highest(self) -> Self
+        ensures { λ r. ⌜ chipIn (r .0) ≡ nonSpecificEoi (chipIn (self .0)) ⌝ }
+    {
+        self.with_in_service(set8::without_lowest(self.in_service()))
+    }
+
+    // A byte written to the data port.
+    pub fn data(self, value: u8) -> Self
+        ensures { λ r. ⌜ chipIn (r .0) ≡ fed (chipIn (self .0)) value ⌝ }
+    {
+        let step = self.init_step();
+        // As guests mostly do, and found at once.
+        if step == 0 {
+            return self.with_mask(value);
+        }
+        if step == 1 {
+            return self.icw2(value);
+        }
+        if step == 2 {
+            return self.icw3();
+        }
+        if step == 3 {
+            return self.icw4(value);
+        }
+        self.with_mask(value)
+    }
+
+    fn after_icw3(self) -> u8
+        ensures { λ r. ⌜ r ≡ afterIcw3 (chipIn (self .0)) ⌝ }
+    {
+        if self.needs_icw4() {
+            return 3;
+        }
+        0
+    }
+
+    fn icw2(self, value: u8) -> Self
+        ensures { λ r. ⌜ chipIn (r .0) ≡ icw2 (chipIn (self .0)) value ⌝ }
+    {
+        let based = self.with_vector_base(value / 8 * 8);
+        if self.single() {
+            return based.with_init_step(self.after_icw3());
+        }
+        based.with_init_step(2)
+    }
+
+    fn icw3(self) -> Self
+        ensures { λ r. ⌜ chipIn (r .0) ≡ icw3 (chipIn (self .0)) ⌝ }
+    {
+        self.with_init_step(self.after_icw3())
+    }
+
+    fn icw4(self, value: u8) -> Self
+        ensures { λ r. ⌜ chipIn (r .0) ≡ icw4 (chipIn (self .0)) value ⌝ }
+    {
+        let chosen = self.with_auto_eoi(value / 2 % 2 == 1);
+        chosen.with_init_step(0)
+    }
+
+    // What a read of the command port shows.
+    pub fn read_command(self) -> u8
+        ensures { λ r. ⌜ r ≡ commandRead (chipIn (self .0)) ⌝ }
+    {
+        if self.read_isr() {
+            return self.in_service();
+        }
+        self.request()
+    }
+}
+
+// ---- Requests and their acknowledgement.
+
+impl PicChip {
+    // An edge on a line.
+    pub fn pulse(self, irq: PicLine) -> Self
+        ensures { λ r. ⌜ chipIn (r .0) ≡ pulsed (chipIn (self .0)) irq ⌝ }
+    {
+        if irq.0 >= 8 {
+            return self;
+        }
+        self.requested(irq)
+    }
+
+    // The requests that count: the unmasked ones above every line in service.
+    fn waiting(self) -> u8
+        ensures { λ r. ⌜ r ≡ setOf 8 (counts (chipIn (self .0))) ⌝ }
+    {
+        let open = set8::outside(self.request(), self.mask());
+        set8::below_lowest(open, self.in_service())
+    }
+
+    // The request that would be acknowledged next.
+    pub fn pending_irq(self) -> PendingIrq
+        ensures { λ r. ⌜ r ≡ pendingIrq (chipIn (self .0)) ⌝ }
+    {
+        let irq = highest_priority(self.waiting());
+        if irq.0 >= 8 {
+            return PendingIrq::Nothing;
+        }
+        PendingIrq::Irq(irq)
+    }
+
+    // The output, INT: whether a request counts.
+    pub fn asks(self) -> bool
+        ensures { λ r. ⌜ r ≡ asks (chipIn (self .0)) ⌝ }
+    {
+        // As mostly, and found at once.
+        if self.request() == 0 {
+            return false;
+        }
+        self.waiting() != 0
+    }
+
+    // The cascade line is driven by a level: its request stands exactly while that is up.
+    pub fn drive_cascade(self, up: bool) -> Self
+        ensures { λ r. ⌜ chipIn (r .0) ≡ driven (chipIn (self .0)) 2 up ⌝ }
+    {
+        if up {
+            return self.requested(PicLine(CASCADE_IRQ));
+        }
+        self.unrequested(PicLine(CASCADE_IRQ))
+    }
+
+    // The interrupt acknowledge sequence of a line, with its vector.
+    pub fn acknowledge(self, irq: PicLine) -> Acknowledged
+        ensures { λ r. ⌜ acknowledgeOutcome r ≡ acknowledge (chipIn (self .0)) irq ⌝ }
+    {
+        if irq.0 >= 8 {
+            return Acknowledged {
+                chip: self,
+                vector: PicVector::Nothing,
+            };
+        }
+        let vector = irq.vector(self.vector_base());
+        Acknowledged {
+            chip: self.acknowledged(irq),
+            vector: PicVector::Given(vector),
+        }
+    }
+
+    // The chip after its line was acknowledged.
+    fn acknowledged(self, irq: PicLine) -> Self
+        requires { ⌜ irq .0 < 8 ⌝ }
+        ensures { λ r. ⌜ chipIn (r .0) ≡ acknowledged (chipIn (self .0)) (irq .0) ⌝ }
+    {
+        let left = self.unrequested(irq);
+        if self.auto_eoi() {
+            return left;
+        }
+        left.served(irq)
+    }
+
+    // The chip with a line's acknowledgement taken back: requested again and, if that had put it there, out of service.
+    pub fn unacknowledge(self, irq: PicLine, in_service: bool) -> Self
+        ensures { λ r. ⌜ chipIn (r .0) ≡ unacknowledged (chipIn (self .0)) irq «in_service» ⌝ }
+    {
+        let again = self.pulse(irq);
+        if !in_service {
+            return again;
+        }
+        if irq.0 >= 8 {
+            return again;
+        }
+        again.end(irq)
+    }
+}
+
+// The lowest line of the set, line 0 being the highest in priority, or 8 where the set is empty. Three tests find it: of four lines, then of two, then of one,
+// each whether no line below is in the set, as none of lines 0 to 3 is where `bits % 16 == 0`.
+pub fn highest_priority(bits: u8) -> PicLine
+    ensures { λ r. ⌜ r .0 ≡ lowest 8 bits ⌝ }
+{
+    if bits == 0 {
+        return PicLine(8);
+    }
+    if bits % 16 == 0 {
+        if bits % 64 == 0 {
+            if bits % 128 == 0 {
+                return PicLine(7);
+            }
+            return PicLine(6);
+        }
+        if bits % 32 == 0 {
+            return PicLine(5);
+        }
+        return PicLine(4);
+    }
+    if bits % 4 == 0 {
+        if bits % 8 == 0 {
+            return PicLine(3);
+        }
+        return PicLine(2);
+    }
+    if bits % 2 == 0 {
+        return PicLine(1);
+    }
+    PicLine(0)
+}
