@@ -10,6 +10,7 @@ int main(void)
 {
     uint64_t io[SILLWANDER_IOAPIC_WORDS], local[SILLWANDER_LAPIC_WORDS], ipi[1];
     sillwander_ioapic_new_default(io);
+    sillwander_lapic_new(local);
     if (SILLWANDER_REFUSAL(sillwander_lapic_setup(local, 0, 0, 2)) != 0)
         return 1;
 

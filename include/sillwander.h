@@ -48,7 +48,7 @@ extern "C" {
  * ---- I/O APIC: 32 words
  *
  *    0..23   the redirection entries' registers
- *   24       bit g: a level interrupt of entry g was put off
+ *   24       bit g: a level interrupt of entry g is deferred
  *   25       bit g: line g is up
  *   26       the selector, bits 31..0
  *   27, 28   base address and size
@@ -57,11 +57,9 @@ extern "C" {
  *   31       spare: 0 in a new state, and no call reads or writes it
  *
  * Bits of words 24 to 26 and 30 that stand for nothing are ignored; a call keeps those of 24, 25 and 30.
- * A call touches the words that it must: one entry's register, its two flags and its bit of word 30, or the selector; in version 0x20 an EOI touches those of
- * every entry that it ends.
- * Word 30 is there so that an EOI looks only at the entries in flight. A new state's agrees with the registers, and so it does after every call on words where it
- * agreed. A caller that writes a register's bit 14 itself has to write word 30 too: where the two differ, a call still answers and no word outside the 32 is
- * touched, but an EOI may pass over an entry whose bit is missing.
+ * Word 30 is there so that an EOI looks only at the entries in flight: it decides which ones, on any words. A new state's agrees with the registers, and so
+ * it does after every call on words where it agreed. A caller that writes a register's bit 14 itself has to write word 30 too: an EOI passes over an entry whose
+ * bit is missing there.
  */
 #define SILLWANDER_IOAPIC_WORDS 32
 
@@ -149,15 +147,15 @@ uint64_t sillwander_pic_handle_write(uint64_t words[4], uint64_t port, uint64_t 
 /*
  * ---- Local APIC: 48 words
  *
- *    0   1 in x2APIC mode, 0 in xAPIC mode       9   ICR, low word        16  LVT LINT1
+ *    0   x2APIC mode where it isn't 0            9   ICR, low word        16  LVT LINT1
  *    1   id                                     10   ICR, high word       17  LVT error
  *    2   TPR    6   SVR                         11   LVT CMCI             18..25  ISR, eight words of 32 bits
  *    3   PPR    7   ESR                         12   LVT timer            26..33  TMR, likewise
  *    4   LDR    8   errors since ESR was        13   LVT thermal          34..41  IRR, likewise
- *    5   DFR        last written                14   LVT counters         42..47  spare: 0 in a new state, and no call
- *                                               15   LVT LINT0                    reads or writes them
+ *    5   DFR        last written                14   LVT counters         42..47  spare: sillwander_lapic_new makes
+ *                                               15   LVT LINT0                    them 0, no other call touches them
  *
- * Word 0 is x2APIC mode where it isn't 0. Of the others bits 31..0 count; what a call stores has the bits above them 0.
+ * Of words 1 to 41 bits 31..0 count; what a call stores has the bits above them 0.
  */
 #define SILLWANDER_LAPIC_WORDS 48
 

@@ -369,7 +369,7 @@ static void other_calls(void)
     EXPECT(load(0x120), one(0));
 }
 
-/* ---- The I/O APIC of version 0x20: an EOI ends every level-triggered entry in flight with the vector, and sends those whose line is up or that were put off */
+/* ---- The I/O APIC of version 0x20: an EOI ends every level-triggered entry in flight with the vector, and sends those whose line is up or that were deferred */
 
 static uint64_t eoi_register(uint64_t vector) { return sillwander_ioapic_handle_write(io, BASE + 0x40, 4, vector); }
 
@@ -431,17 +431,17 @@ static void put_off_and_dropped(void)
     EXPECT(line(3, 1), two(0x41, 1));
     EXPECT(io_eoi(0x41), two(0x28, 0x28));
 
-    start_20("put off by a second raise", 0x28, 0x8041);
+    start_20("deferred by a second raise", 0x28, 0x8041);
     EXPECT(line(3, 1), NONE);
     CHECK(io[24] == 8);
     EXPECT(io_eoi(0x41), two(0x28, 0x28)); /* once each */
     CHECK(io[24] == 0 && io[3] == 0xc041);
     EXPECT(line(5, 1), NONE);
-    EXPECT(line(5, 0), NONE); /* which takes back what was put off */
+    EXPECT(line(5, 0), NONE); /* which takes back what was deferred */
     CHECK(io[24] == 0);
     EXPECT(io_eoi(0x41), two(0x28, 8));
 
-    part = "put off, the line down";
+    part = "deferred, the line down";
     EXPECT(sillwander_ioapic_new_version(io, BASE, 0x1000, 0x20), NONE);
     EXPECT(select_register(0x18), NONE);
     EXPECT(window(0x8041), NONE);
@@ -453,7 +453,7 @@ static void put_off_and_dropped(void)
     EXPECT(io_eoi(0x41), two(0x10, 0));
     EXPECT(io_eoi(0x41), NONE);
 
-    /* entries that end but can't be sent, lines up and put off: masked, not fixed, a vector below 16; and those that don't end: edge, not in flight, another vector */
+    /* entries that end but can't be sent, lines up and deferred: masked, not fixed, a vector below 16; and those that don't end: edge, not in flight, another vector */
     start_20("ended and not fit to be sent", 1, 0x8041);
     io[1] = 0x1c041, io[2] = 0xc141, io[3] = 0x4041, io[4] = 0x8041, io[5] = 0xc042, io[6] = 0xff0000000000c041, io[24] = 0x7e, io[25] = 0x7f;
     io[30] = 0x6f;
@@ -952,7 +952,7 @@ static void made_up_eois(void)
                     continue; /* edge, not in flight, or of another vector */
                 ended |= bit;
                 if (((io[24] | io[25]) & bit) && !(entry & 0x10700) && vector >= 16)
-                    sent |= bit; /* the line is up or it was put off; not masked, fixed, of a vector that can be sent */
+                    sent |= bit; /* the line is up or it was deferred; not masked, fixed, of a vector that can be sent */
                 else
                     io_lent.before[gsi] = entry & ~(uint64_t)0x4000, io_lent.before[30] &= ~bit;
                 io_lent.before[24] &= ~bit;

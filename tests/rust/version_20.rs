@@ -69,7 +69,7 @@ fn all_lines() {
     assert_eq!(io.end_of_interrupt(VECTOR + 1), None);
 }
 
-/// A second interrupt while the first is in flight is put off, and sent once.
+/// A second interrupt while the first is in flight is deferred, and sent once.
 fn put_off() {
     let mut io = held([4]);
     assert_eq!(io.set_gsi_level(4, false), None);

@@ -1,3 +1,4 @@
 pub mod Late
 pub mod Machine
 pub mod Run
+pub mod Cases

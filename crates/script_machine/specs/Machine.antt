@@ -38,6 +38,10 @@ pub record Local : Type 0 where
   pub «vcpu_num» : ℕ
   pub «active_vcpus» : ℕ
 
+-- l with another local APIC
+abbrev pub withApic : Local → VirtualApicRegs → Local
+withApic l x = record { apic = x; «vcpu_num» = l .«vcpu_num»; «active_vcpus» = l .«active_vcpus» }
+
 pub record Machine : Type 0 where
   pub ioapic : IoApicState
   pub pic : PicState
@@ -110,7 +114,7 @@ picOutcome p (pair.RestoreInterrupt claim) = vpic.restoreInterrupt p claim
 
 -- the local APIC after a call that leaves the VM as it is
 abbrev pub inVm : Local → Outcome VirtualApicRegs → Outcome Local
-inVm l o = record { state = record { apic = o .state; «vcpu_num» = l .«vcpu_num»; «active_vcpus» = l .«active_vcpus» }; reply = o .reply }
+inVm l o = outcomeOf (withApic l (o .state)) (o .reply)
 
 -- setup: the VM's count and active mask come with the new local APIC. Refused, they stay as they were, as the local APIC does
 abbrev pub setUpBy : Local → Outcome VirtualApicRegs → ℕ → ℕ → Outcome Local

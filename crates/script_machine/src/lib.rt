@@ -18,11 +18,8 @@ use script_format::IoCall;
 use script_format::PicCall;
 use types::Reply;
 use types::VcpuId;
-
-// The I/O APIC's usual address and size.
-const IOAPIC_BASE: u64 = 0xfec0_0000;
-
-const IOAPIC_SIZE: u64 = 0x1000;
+use vioapic::IOAPIC_BASE;
+use vioapic::IOAPIC_SIZE;
 
 // Whether a field of the I/O APIC, or of the pair, was performed.
 pub struct Used {

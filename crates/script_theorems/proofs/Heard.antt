@@ -4,7 +4,8 @@ use mathlib.Core.List.{List, [], _∷_}
 use Prim.Native.Nat.{ℕ, _+_}
 use native.Mathlib.Nat.{zero-add}
 use native.Mathlib.Omega.{arith}
-use Rattle.vioapic_theorems.specs.Sends.{sends}
+use Rattle.types.specs.declared.Reply.{Reply}
+use Rattle.vioapic_theorems.specs.Sends.{sent, sends}
 use Rattle.vioapic_theorems.specs.Heard20.{eoisAt}
 use Rattle.vioapic_theorems.proofs.Keeps.{new-keeps-rules, calls-keep-rules, calls-keep-version}
 use Rattle.vioapic_theorems.proofs.Demand.{heard-from-rules}
@@ -51,7 +52,10 @@ io-apic-runs used m (Apic c ∷ cs) h = io-apic-runs (usedAfter used (Apic c)) (
 pub io-apic-answers : IoApicAnswers
 unfolding ioReplies ioCalls startOf inTime answers performed
 io-apic-answers used m [] h = refl
-io-apic-answers used m (Io c ∷ cs) h = rw (io-apic-answers (usedAfter used (Io c)) (performed m (Io c) .state) cs (later used (Io c) cs h), no-choice (usedAfter used (Io c)) (performed m (Io c) .state .ioapic) cs refl (later used (Io c) cs h))
+io-apic-answers used m (Io c ∷ cs) h =
+    ap (λ (l : List Reply). performed m (Io c) .reply ∷ l)
+    (io-apic-answers (usedAfter used (Io c)) (performed m (Io c) .state) cs (later used (Io c) cs h)
+    ∙ ap (λ (x : IoApicState). answers x (ioCalls cs)) (no-choice (usedAfter used (Io c)) (performed m (Io c) .state .ioapic) cs refl (later used (Io c) cs h)))
 io-apic-answers used m (IoVersion v ∷ cs) h =
     io-apic-answers (usedAfter used (IoVersion v)) (performed m (IoVersion v) .state) cs (later used (IoVersion v) cs h) ∙ rw (no-choice (usedAfter used (IoVersion v)) (performed m (IoVersion v) .state .ioapic) cs refl (later used (IoVersion v) cs h))
 io-apic-answers used m (Pic c ∷ cs) h = io-apic-answers (usedAfter used (Pic c)) (performed m (Pic c) .state) cs (later used (Pic c) cs h)
@@ -61,7 +65,10 @@ io-apic-answers used m (Apic c ∷ cs) h = io-apic-answers (usedAfter used (Apic
 pub io-apic-sends : IoApicSends
 unfolding scriptSends ioCalls startOf inTime sends performed
 io-apic-sends used g m [] h = refl
-io-apic-sends used g m (Io c ∷ cs) h = rw (io-apic-sends (usedAfter used (Io c)) g (performed m (Io c) .state) cs (later used (Io c) cs h), no-choice (usedAfter used (Io c)) (performed m (Io c) .state .ioapic) cs refl (later used (Io c) cs h))
+io-apic-sends used g m (Io c ∷ cs) h =
+    ap (λ (n : ℕ). sent g (ioCall c) (performed m (Io c) .reply) + n)
+    (io-apic-sends (usedAfter used (Io c)) g (performed m (Io c) .state) cs (later used (Io c) cs h)
+    ∙ ap (λ (x : IoApicState). sends g x (ioCalls cs)) (no-choice (usedAfter used (Io c)) (performed m (Io c) .state .ioapic) cs refl (later used (Io c) cs h)))
 io-apic-sends used g m (IoVersion v ∷ cs) h =
     zero-add _ ∙ io-apic-sends (usedAfter used (IoVersion v)) g (performed m (IoVersion v) .state) cs (later used (IoVersion v) cs h) ∙ rw (no-choice (usedAfter used (IoVersion v)) (performed m (IoVersion v) .state .ioapic) cs refl (later used (IoVersion v) cs h))
 io-apic-sends used g m (Pic c ∷ cs) h = zero-add _ ∙ io-apic-sends (usedAfter used (Pic c)) g (performed m (Pic c) .state) cs (later used (Pic c) cs h)

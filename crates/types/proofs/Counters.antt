@@ -15,13 +15,6 @@ use Rattle.types.specs.Counters.{entryIndex, placeOf}
 pub entry-is : (g : Gsi) → g .0 < 24 → entryIndex g ≡ g .0
 entry-is g h = rw (lt-ltb (g .0) 24 h)
 
-pub entry-of : (g : Gsi) → entryIndex g < 24 → entryIndex g ≡ g .0
-entry-of g h = go (ltb (g .0) 24) refl h
-  where
-    go : (b : Bool) → ltb (g .0) 24 ≡ b → cond b (g .0) 24 < 24 → cond b (g .0) 24 ≡ g .0
-    go true e l = refl
-    go false e l = absurd (omega arith)
-
 -- a place holds one of eight lines, and the pair's line comes back from it
 pub master-line : (l k : PicLine) → placeOf l ≡ Master k → (k ≡ l) × (k .0 < 8)
 master-line l k e = go (ltb (l .0) 8) refl (ltb (l .0) 16) e

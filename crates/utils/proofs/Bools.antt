@@ -15,10 +15,6 @@ pub both : {A : Type 0} (P : A → Type 0) (b : Bool) (a c : A) → P a → P c 
 both P b a c x y = either P b a c (λ _. x) (λ _. y)
 
 -- what isn't true is false
-pub not-true-is : (b : Bool) → (b ≡ true → ⊥) → b ≡ false
-not-true-is true h = absurd (h refl)
-not-true-is false h = refl
-
 pub not-is : (b : Bool) → not b ≡ true → b ≡ false
 not-is true e = never refl (sym e)
 not-is false e = refl

@@ -2,18 +2,17 @@
 use mathlib.Core.Path.{_≡_, refl, sym, ap, ap₂, subst, _∙_}
 use mathlib.Core.Bool.{Bool, true, false, not, cond, _&&_}
 use Prim.Native.Nat.{ℕ, zero, suc, _+_, _-_, _*_, _/_, _%_, _^_, _≤_, _<_, min}
-use native.Mathlib.Nat.{pow-suc, mod-lt, mul-comm, mod-eq-of-lt, min-le-left, min-le-right, mod-le, zero-div, zero-min, lt-of-le-of-lt}
+use native.Mathlib.Nat.{pow-suc, mod-lt, min-le-left, min-le-right, mod-le, zero-div, zero-min, lt-of-le-of-lt}
 use native.Mathlib.Omega.{arith}
 use lib.Arith.{mod-mul}
 use lib.Bits.{bitAnd, and-step, and-self, and-le-l, and-mask}
-use mathlib.Core.Logic.{_⊎_, inl, inr}
 use lib.Dec.{eqb, ltb, lit<}
-use lib.Pow.{pow-pos, pow-lt}
-use borrow.Author.Tests.{eq-eqb, ne-eqb, eqb-true, eqb-false, le-ltb, ltb-true, ltb-false}
-use Rattle.utils.specs.Set.{bit, without, outside, first, lowest}
+use lib.Pow.{pow-pos}
+use borrow.Author.Tests.{eq-eqb, ne-eqb, eqb-true, eqb-false, ltb-true, ltb-false}
+use Rattle.utils.specs.Set.{bit, without, outside, lowest}
 use Rattle.utils.proofs.Search.{first-same}
 use Rattle.utils.proofs.Laws.{bit-zero, bit-suc, digit, lowest-le, lowest-in, same-bits, bit-outside}
-use Rattle.utils.proofs.Bits.{one-shl, and-not}
+use Rattle.utils.proofs.Bits.{and-not}
 
 -- without line 0 the lowest is that of the others
 lowest-next : (w n : ℕ) → lowest (suc w) n ≡ cond (bit n 0) 0 (suc (lowest w (n / 2)))

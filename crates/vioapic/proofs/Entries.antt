@@ -8,8 +8,7 @@ use borrow.Author.Tests.{not-true, not-false}
 use lib.ListN.{length, getD, set, length-set}
 use lib.Seq.{getD-set-same, set-getD, set-set}
 use Rattle.utils.specs.Set.{marked}
-use Rattle.utils.specs.Cases.{or-left-yes, or-right-yes, or-no}
-use Rattle.utils.proofs.Bools.{and-true, and-false}
+use Rattle.utils.specs.Cases.{and-yes, and-left-no, and-right-no, or-left-yes, or-right-yes, or-no}
 use Rattle.vioapic_entry.specs.Redirection.{EntryStep, vectorOf, isFit, isLevel, isMasked, remoteIrr, sameLow, withRemoteIrr, withoutRemoteIrr, replaceLow, replaceHigh, withWord, withDeferred, withInput, quietly, sending, sendEntry, raiseEntry, lowerEntry, moveLine, endEntry, endEntry20, writeLow, writeHigh}
 use Rattle.vioapic_entry.proofs.EntryLaws.{send-unfit, send-edge, send-later, send-level, raise-again, raise-new, lower-is, end-up, end-deferred, end-quiet, end20-asks, end20-quiet, resend-fit, resend-unfit, low-masked, low-same, low-changed, high-is}
 use Rattle.vioapic_entry.proofs.Fields.{alike-with, same-level, irr-with, irr-without, irr-low, irr-high}
@@ -154,39 +153,41 @@ module _ (l : List ℕ) (g word : ℕ) (at : word ≡ entryAt (view l) g .word) 
 
 -- ---- the line
 
-module _ (l : List ℕ) (g word : ℕ) (here : g < 24) (at : word ≡ entryAt (view l) g .word) where
-  pub held-up : (a b : Bool) → a ≡ remoteIrr word → a ≡ true → b ≡ entryAt (view l) g .«input_level» → b ≡ (remoteIrr word && entryAt (view l) g .«input_level»)
-  held-up a b p q r = rw (sym p ∙ q) r
+module _ (l : List ℕ) (g word : ℕ) (at : word ≡ entryAt (view l) g .word) (a : Bool) (flies : a ≡ remoteIrr word) where
+  flying : (b : Bool) → a ≡ b → remoteIrr (entryAt (view l) g .word) ≡ b
+  flying b h = ap remoteIrr (sym at) ∙ sym flies ∙ h
 
-  pub held-not : (a : Bool) → a ≡ remoteIrr word → a ≡ false → false ≡ (remoteIrr word && entryAt (view l) g .«input_level»)
-  held-not a p q = rw (sym p ∙ q)
+  pub raised-again : (b : Bool) (w : List ℕ) → not a ≡ false → b ≡ entryAt (view l) g .«input_level» → b ≡ true → Keeps l w (view w ≡ put (view l) g (withDeferred (entryAt (view l) g) true))
+      → Keeps l w (routing (view w) NotRouted ≡ routeAt (view l) g (raiseEntry (entryAt (view l) g)))
+  raised-again b w i u h k =
+      steps l w g (withDeferred (entryAt (view l) g) true) NotRouted (raiseEntry (entryAt (view l) g)) k
+      (raise-again (entryAt (view l) g) (and-yes (entryAt (view l) g .«input_level») (remoteIrr (entryAt (view l) g .word)) (sym u ∙ h) (flying true (not-false a i))) (sym u ∙ h))
 
-  swap : (a b : Bool) → (a && b) ≡ (b && a)
-  swap true true = refl
-  swap true false = refl
-  swap false true = refl
-  swap false false = refl
+  module _ (u : List ℕ) (here : g < 24) (lifted : Keeps l u (view u ≡ put (view l) g (withInput (entryAt (view l) g) true))) where
+    up-at : entryAt (view u) g ≡ withInput (entryAt (view l) g) true
+    up-at = ap (λ (s : IoApicState). entryAt s g) (lifted .is) ∙ at-put (view l) g (withInput (entryAt (view l) g) true) (view-long l) here
 
-  module _ (b : Bool) (held : b ≡ (remoteIrr word && entryAt (view l) g .«input_level»)) where
-    holds : (c : Bool) → b ≡ c → (entryAt (view l) g .«input_level» && remoteIrr (entryAt (view l) g .word)) ≡ c
-    holds c h = swap (entryAt (view l) g .«input_level») (remoteIrr (entryAt (view l) g .word)) ∙ ap (λ (x : ℕ). remoteIrr x && entryAt (view l) g .«input_level») (sym at) ∙ sym held ∙ h
+    pub word-up : word ≡ entryAt (view u) g .word
+    word-up = at ∙ sym (ap (λ (e : Entry). e .word) up-at)
 
-    pub raised-again : (w : List ℕ) → b ≡ true → Keeps l w (view w ≡ put (view l) g (withDeferred (entryAt (view l) g) true)) → Keeps l w (routing (view w) NotRouted ≡ routeAt (view l) g (raiseEntry (entryAt (view l) g)))
-    raised-again w h k =
-        steps l w g (withDeferred (entryAt (view l) g) true) NotRouted (raiseEntry (entryAt (view l) g)) k
-        (raise-again (entryAt (view l) g) (holds true h) (and-true (remoteIrr word) (entryAt (view l) g .«input_level») (sym held ∙ h) .1))
+    module _ (w : List ℕ) (r : Routed) (does : Keeps u w (routing (view w) r ≡ routeAt (view u) g (sendEntry (entryAt (view u) g)))) where
+      anew : (entryAt (view l) g .«input_level» && remoteIrr (entryAt (view l) g .word)) ≡ false → Keeps l w (routing (view w) r ≡ routeAt (view l) g (raiseEntry (entryAt (view l) g)))
+      anew h =
+          moves l u w g (withInput (entryAt (view l) g) true) r (raiseEntry (entryAt (view l) g)) (sendEntry (entryAt (view u) g)) here refl lifted does
+          (raise-new (entryAt (view l) g) h ∙ ap sendEntry (sym up-at))
 
-    module _ (u : List ℕ) (lifted : Keeps l u (view u ≡ put (view l) g (withInput (entryAt (view l) g) true))) where
-      up-at : entryAt (view u) g ≡ withInput (entryAt (view l) g) true
-      up-at = ap (λ (s : IoApicState). entryAt s g) (lifted .is) ∙ at-put (view l) g (withInput (entryAt (view l) g) true) (view-long l) here
+      pub raised-still : not a ≡ true → Keeps l w (routing (view w) r ≡ routeAt (view l) g (raiseEntry (entryAt (view l) g)))
+      raised-still i = anew (and-right-no (entryAt (view l) g .«input_level») (remoteIrr (entryAt (view l) g .word)) (flying false (not-true a i)))
 
-      pub word-up : word ≡ entryAt (view u) g .word
-      word-up = at ∙ sym (ap (λ (e : Entry). e .word) up-at)
+      pub raised-flying : (b : Bool) → b ≡ entryAt (view l) g .«input_level» → b ≡ false → Keeps l w (routing (view w) r ≡ routeAt (view l) g (raiseEntry (entryAt (view l) g)))
+      raised-flying b d h = anew (and-left-no (entryAt (view l) g .«input_level») (remoteIrr (entryAt (view l) g .word)) (sym d ∙ h))
 
-      pub raised : (w : List ℕ) (a : Routed) → b ≡ false → Keeps u w (routing (view w) a ≡ routeAt (view u) g (sendEntry (entryAt (view u) g))) → Keeps l w (routing (view w) a ≡ routeAt (view l) g (raiseEntry (entryAt (view l) g)))
-      raised w a h k =
-          moves l u w g (withInput (entryAt (view l) g) true) a (raiseEntry (entryAt (view l) g)) (sendEntry (entryAt (view u) g)) here refl lifted k
-          (raise-new (entryAt (view l) g) (holds false h) ∙ ap sendEntry (sym up-at))
+pub lowered-plain : (l w : List ℕ) (g : ℕ) (b : Bool) → b ≡ entryAt (view l) g .«pending_level» → b ≡ false → Keeps l w (view w ≡ put (view l) g (withInput (entryAt (view l) g) false))
+    → Keeps l w (routing (view w) NotRouted ≡ routeAt (view l) g (lowerEntry (entryAt (view l) g)))
+lowered-plain l w g b d h k =
+    let e : Entry = entryAt (view l) g in
+    let n : e ≡ withDeferred e false = ap (withDeferred e) (sym d ∙ h) in
+    steps l w g (withInput e false) NotRouted (lowerEntry e) k (lower-is e ∙ ap (λ (x : Entry). quietly (withInput x false)) (sym n))
 
 pub lowered : (l u w : List ℕ) (g : ℕ) → g < 24 → Keeps l u (view u ≡ put (view l) g (withDeferred (entryAt (view l) g) false)) → Keeps u w (view w ≡ put (view u) g (withInput (entryAt (view u) g) false))
     → Keeps l w (routing (view w) NotRouted ≡ routeAt (view l) g (lowerEntry (entryAt (view l) g)))
@@ -224,20 +225,20 @@ module _ (l u : List ℕ) (g word : ℕ) (here : g < 24) (at : word ≡ entryAt 
   word-down = at ∙ sym (ap (λ (e : Entry). e .word) down-at)
 
   -- sent again from there
-  anew : (w : List ℕ) (a : Routed) (x : EntryStep) → x ≡ sendEntry (withWord (withDeferred (entryAt (view l) g) false) (withoutRemoteIrr (entryAt (view l) g .word)))
+  afresh : (w : List ℕ) (a : Routed) (x : EntryStep) → x ≡ sendEntry (withWord (withDeferred (entryAt (view l) g) false) (withoutRemoteIrr (entryAt (view l) g .word)))
       → Keeps u w (routing (view w) a ≡ routeAt (view u) g (sendEntry (withWord (entryAt (view u) g) (withoutRemoteIrr word)))) → Keeps l w (routing (view w) a ≡ routeAt (view l) g x)
-  anew w a x q k =
+  afresh w a x q k =
       moves l u w g (withDeferred (entryAt (view l) g) false) a x (sendEntry (withWord (entryAt (view u) g) (withoutRemoteIrr word))) here refl forgot k
       (q ∙ ap₂ (λ (e : Entry) (n : ℕ). sendEntry (withWord e (withoutRemoteIrr n))) (sym down-at) (sym at))
 
   module _ (b : Bool) (was : b ≡ entryAt (view l) g .«pending_level») (w : List ℕ) (a : Routed) where
     pub ended-deferred : (c : Bool) → c ≡ entryAt (view l) g .«input_level» → c ≡ false → not b ≡ false
         → Keeps u w (routing (view w) a ≡ routeAt (view u) g (sendEntry (withWord (entryAt (view u) g) (withoutRemoteIrr word)))) → Keeps l w (routing (view w) a ≡ routeAt (view l) g (endEntry (entryAt (view l) g)))
-    ended-deferred c p q h = anew w a (endEntry (entryAt (view l) g)) (end-deferred (entryAt (view l) g) (sym p ∙ q) (sym was ∙ not-false b h))
+    ended-deferred c p q h = afresh w a (endEntry (entryAt (view l) g)) (end-deferred (entryAt (view l) g) (sym p ∙ q) (sym was ∙ not-false b h))
 
     pub ended20-deferred : b ≡ true → Keeps u w (routing (view w) a ≡ routeAt (view u) g (sendEntry (withWord (entryAt (view u) g) (withoutRemoteIrr word))))
         → Keeps l w (routing (view w) a ≡ routeAt (view l) g (endEntry20 (entryAt (view l) g)))
-    ended20-deferred h = anew w a (endEntry20 (entryAt (view l) g)) (end20-asks (entryAt (view l) g) (or-right-yes (entryAt (view l) g .«input_level») (entryAt (view l) g .«pending_level») (sym was ∙ h)))
+    ended20-deferred h = afresh w a (endEntry20 (entryAt (view l) g)) (end20-asks (entryAt (view l) g) (or-right-yes (entryAt (view l) g .«input_level») (entryAt (view l) g .«pending_level») (sym was ∙ h)))
 
 module _ (l w : List ℕ) (g word : ℕ) (at : word ≡ entryAt (view l) g .word) (c : Bool) (line : c ≡ entryAt (view l) g .«input_level») where
   pub ended-up : (a : Routed) → c ≡ true → Keeps l w (routing (view w) a ≡ routeAt (view l) g (sendEntry (withWord (entryAt (view l) g) (withoutRemoteIrr word)))) → Keeps l w (routing (view w) a ≡ routeAt (view l) g (endEntry (entryAt (view l) g)))

@@ -5,3 +5,4 @@ pub mod Every
 pub mod Ways
 pub mod Agree
 pub mod Same
+pub mod Cases

@@ -79,12 +79,13 @@ chipAt base size = chipOf 0x11 base size
 abbrev pub isVersion : ℕ → Bool
 isVersion version = eqb version 0x11 || eqb version 0x20
 
+abbrev pub made : IoApicState → Outcome IoApicState
+made s = record { state = s; reply = Nothing }
+
 -- `new_version`, and `new` with version 0x11, in the place of the state m
 unfoldable pub createdVersion : IoApicState → ℕ → ℕ → ℕ → Outcome IoApicState
 createdVersion m base size version =
-    cond (isVersion version)
-    (cond (fits base size) (record { state = chipOf version base size; reply = Nothing }) (refuse m InvalidAddress))
-    (refuse m Unsupported)
+    cond (isVersion version) (cond (fits base size) (made (chipOf version base size)) (refuse m InvalidAddress)) (refuse m Unsupported)
 
 -- `new_default`
 abbrev pub newDefault : IoApicState

@@ -17,7 +17,7 @@ use vioapic_entry::Entry;
 use vioapic_entry::IoApicInterrupt;
 use vioapic_entry::Routed;
 ghost use mathlib.Core.Path.{_≡_};
-ghost use mathlib.Core.Bool.{true, false, _&&_};
+ghost use mathlib.Core.Bool.{true, false};
 ghost use Prim.Native.Nat.{_<_, _%_, _^_};
 ghost use Rattle.vioapic_entry.specs.Answers.{routedReply};
 ghost use Rattle.vioapic_entry.specs.Redirection.{vectorOf, remoteIrr, isLevel, withRemoteIrr, withoutRemoteIrr, withWord, withDeferred, withInput, awaits, sendEntry, raiseEntry, lowerEntry, endEntry, endEntry20, writeLow, writeHigh};
@@ -376,24 +376,18 @@ fn interrupt_for_entry(words: &mut [u64; 32], g: usize, word: u64) -> Routed
     interrupt(word, true)
 }
 
-// It is in flight, and its line is up already.
-fn is_held(words: &[u64; 32], g: usize, word: u64) -> bool
-    requires { ⌜ (g < 24) × (word ≡ entryAt (view (now words)) g .word) ⌝ }
-    ensures { λ r. ⌜ r ≡ (remoteIrr word && entryAt (view (now (words .entry))) g .«input_level») ⌝ }
-{
-    if vioapic_entry::remote_irr(word) {
-        return is_up(words, g);
-    }
-    false
-}
-
 // Its line goes up.
 fn raise(words: &mut [u64; 32], g: usize) -> Routed
     requires { ⌜ g < 24 ⌝ }
     ensures { λ r. ⌜ Keeps (now (words .entry)) (now (words .exit)) (routing (view (now (words .exit))) r ≡ routeAt (view (now (words .entry))) g (raiseEntry (entryAt (view (now (words .entry))) g))) ⌝ }
 {
     let word = word_at(&*words, g);
-    if is_held(&*words, g, word) {
+    // The usual case first: not in flight.
+    if !vioapic_entry::remote_irr(word) {
+        set_input(&mut *words, g, true);
+        return interrupt_for_entry(&mut *words, g, word);
+    }
+    if is_up(&*words, g) {
         set_deferred(&mut *words, g, true);
         return Routed::NotRouted;
     }
@@ -406,7 +400,11 @@ fn lower(words: &mut [u64; 32], g: usize) -> Routed
     requires { ⌜ g < 24 ⌝ }
     ensures { λ r. ⌜ Keeps (now (words .entry)) (now (words .exit)) (routing (view (now (words .exit))) r ≡ routeAt (view (now (words .entry))) g (lowerEntry (entryAt (view (now (words .entry))) g))) ⌝ }
 {
-    set_deferred(&mut *words, g, false);
+    if is_deferred(&*words, g) {
+        set_deferred(&mut *words, g, false);
+        set_input(&mut *words, g, false);
+        return Routed::NotRouted;
+    }
     set_input(&mut *words, g, false);
     Routed::NotRouted
 }
@@ -961,7 +959,7 @@ impl EmulatedIoApic {
 
     // Create an IO APIC at the default PC-compatible GPA.
     pub fn new_default() -> EmulatedIoApic
-        ensures { λ r. ⌜ view (r .words) ≡ newDefault ⌝ }
+        ensures { λ r. ⌜ (view (r .words) ≡ newDefault) × (r .words ≡ newWords 0x11 0xfec00000 0x1000) ⌝ }
     {
         let mut words = [0; 32];
         put_new(&mut words, VERSION_11, IOAPIC_BASE, IOAPIC_SIZE);

@@ -1,3 +1,4 @@
 pub mod Ways
 pub mod Fit
 pub mod Agree
+pub mod Cases

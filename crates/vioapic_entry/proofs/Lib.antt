@@ -1,3 +1,4 @@
+pub mod Cases
 pub mod EntryLaws
 pub mod Fields
 pub mod Same

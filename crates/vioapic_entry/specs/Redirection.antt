@@ -126,8 +126,7 @@ endEntry e =
 -- deferred the entry is sent again (D-45 too)
 unfoldable pub endEntry20 : Entry → EntryStep
 endEntry20 e =
-    cond (e .«input_level» || e .«pending_level»)
-    (sendEntry (withDeferred (withWord e (withoutRemoteIrr (e .word))) false))
+    cond (e .«input_level» || e .«pending_level») (sendEntry (withDeferred (withWord e (withoutRemoteIrr (e .word))) false))
     (quietly (withDeferred (withWord e (withoutRemoteIrr (e .word))) false))
 
 -- ---- the guest's writes

@@ -50,6 +50,16 @@ pub premises-met-20 : throughout (heldUp 1) (run (written 0x20) (raise 0 ∷ rai
 unfolding throughout run outcome with without assertGsi setGsiLevel endOfInterrupt handleWrite interruptForEntry setLevel endOfEvery endOf writeWord writeSelected writeEoi writeAt sendEntry raiseEntry endEntry20 writeLow writeHigh
 premises-met-20 = refl
 
+-- an entry that ends and isn't sent again counts once
+pub cleared-unsent : sends 0 (written 0x20) (assert 0 ∷ eoi 0x30 ∷ []) ≡ 1
+unfolding run outcome with without sends sent assertGsi endOfInterrupt handleWrite interruptForEntry endOfEvery endOf writeWord writeSelected writeAt sendEntry endEntry20 writeLow writeHigh
+cleared-unsent = refl
+
+-- a write to the EOI register of a width that isn't served is none
+pub unserved-write : sends 1 (written 0x20) (raise 1 ∷ HandleWrite 0x40 2 0x30 ∷ []) ≡ 1 + eoisAt 0 vector (HandleWrite 0x40 2 0x30 ∷ [])
+unfolding run outcome with without sends sent eoisAt setGsiLevel handleWrite setLevel writeWord writeSelected writeAt sendEntry raiseEntry writeLow writeHigh
+unserved-write = refl
+
 -- what agreement is for: line 0 is up and its entry in flight. Where its bit is missing from the word of lines in flight an EOI
 -- passes over the entry, in both versions, and where it is there the entry is sent again
 abbrev pub sentIf : ℕ → ℕ → ℕ

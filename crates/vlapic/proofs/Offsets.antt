@@ -1,6 +1,6 @@
 -- An offset that is none of a table's: what the last arm of a `match` knows, as the definitions' tables say it. Assumes nothing.
-use mathlib.Core.Path.{_≡_, refl, _∙_}
-use mathlib.Core.List.{List, [], _∷_, map}
+use mathlib.Core.Path.{_≡_, refl}
+use mathlib.Core.List.{List, [], _∷_}
 use Prim.Native.Nat.{ℕ}
 use borrow.Author.Tests.{ne-eqb}
 use Rattle.types.specs.declared.Refusal.the-variants.{InvalidRegister}

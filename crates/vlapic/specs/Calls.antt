@@ -45,7 +45,7 @@ answered s SendIllegalVector = done (withPending s (illegalNoted (s .«esr_pendi
 answered s (Ipi kind vector mask) = sent s kind (vector .0) mask
 answered s (Refused why) = refused s why
 
--- the words are stored, the delivery status cleared, and then carried out: a command that is refused stays in the ICR
+-- the words are stored, the delivery status cleared, and then carried out: a command that is refused stays in the ICR. D-89: reserved bits are kept
 unfoldable pub writeIcr : VirtualApicRegs → ℕ → ℕ → ℕ → ℕ → Outcome VirtualApicRegs
 writeIcr s lo hi num active = answered (withCommand s (idle lo) hi) (command (commandOf (withCommand s (idle lo) hi)) num active)
 
@@ -55,7 +55,7 @@ writeIcrLow s val width num active =
     (writeIcr s (val % 0x100000000) (icrHigh (s .x2apic) val (s .«icr_hi»)) num active)
     (refused s InvalidRegister)
 
--- the self-IPI register is there in x2APIC mode alone; the low byte is the vector
+-- the self-IPI register is there in x2APIC mode alone; the low byte is the vector (D-82: the other bits are dropped)
 unfoldable pub writeSelfIpi : VirtualApicRegs → ℕ → Outcome VirtualApicRegs
 writeSelfIpi s val = cond (s .x2apic) (answered s (selfIpi (record { 0 = s .«vapic_id» }) (record { 0 = val % 256 }))) (refused s InvalidRegister)
 
@@ -65,7 +65,7 @@ writeSelfIpi s val = cond (s .x2apic) (answered s (selfIpi (record { 0 = s .«va
 unfoldable pub handleWrite : VirtualApicRegs → ℕ → ℕ → ℕ → ℕ → ℕ → Outcome VirtualApicRegs
 handleWrite s offset val width num active =
     cond (outOfRange num (s .«vapic_id»)) (refused s OutOfRange)
-    (cond (eqb offset 0xb0) (done (handleEoi s .state))  -- D-79: what the EOI broadcasts is dropped
+    (cond (eqb offset 0xb0) (done (handleEoi s .state))  -- D-79: what the EOI broadcasts is dropped; D-91: any value in x2APIC mode too
     (cond (eqb offset 0x300) (writeIcrLow s val width num active)
     (cond (eqb offset 0x3f0) (writeSelfIpi s val)
     (writeStored s offset (val % 0x100000000)))))

@@ -20,7 +20,7 @@ findIsrv s = highestFrom 32 (s .isr)  -- D-61: vectors 16 to 31 are in service t
 unfoldable pub updatePpr : VirtualApicRegs → VirtualApicRegs
 updatePpr s = withPpr s (priority (s .tpr) (findIsrv s))
 
--- acceptance: the vector is in service, and its TMR bit is set if it is level-triggered, else clear; PPR follows
+-- acceptance: the vector is in service, and its TMR bit is set if it is level-triggered, else clear; PPR follows. D-85: a vector below 16 notes no error
 unfoldable pub acceptInterrupt : VirtualApicRegs → Vector → Bool → Outcome VirtualApicRegs
 acceptInterrupt s vector level =
     done

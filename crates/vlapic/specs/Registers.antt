@@ -17,7 +17,7 @@ use Rattle.vlapic.specs.Answers.{done, refused}
 
 -- ---- reading
 
--- the registers of one word that can be read, by offset (D-68: the same ones in x2APIC mode; D-81: not version, IRR and timer)
+-- the registers of one word that can be read, by offset (D-68: the same ones in x2APIC mode; D-81: not version, IRR and timer; D-87: nor APR and RRD; D-90: the ICR as two words)
 abbrev pub readable : VirtualApicRegs → List (ℕ × ℕ)
 readable s =
     (0x20, idWord (s .x2apic) (s .«vapic_id»))
@@ -61,7 +61,7 @@ handleRead s offset =
 abbrev pub inXapic : VirtualApicRegs → VirtualApicRegs → Outcome VirtualApicRegs
 inXapic s next = cond (s .x2apic) (refused s InvalidRegister) (done next)
 
--- the registers that store what is written, by offset, and what a write of v leaves: the entries of the local vector table, and before them the others
+-- the registers that store what is written, by offset, and what a write of v leaves: the entries of the local vector table, and before them the others (D-88: not the timer's count and divider)
 abbrev pub lvtStored : VirtualApicRegs → ℕ → List (ℕ × Outcome VirtualApicRegs)
 lvtStored s v =
     (0x2f0, done (withLvtCmci s (lvtMonitor v)))
@@ -75,12 +75,12 @@ lvtStored s v =
 
 unfoldable pub stored : VirtualApicRegs → ℕ → List (ℕ × Outcome VirtualApicRegs)
 stored s v =
-    (0x20, done s)  -- ID takes the write and keeps its word
+    (0x20, done s)  -- ID takes the write and keeps its word; D-86: in x2APIC mode too
     ∷ (0x80, done (withTpr s (lowByte v)))  -- D-62: PPR doesn't follow TPR
     ∷ (0xd0, inXapic s (withLdr s (topByte v)))
     ∷ (0xe0, inXapic s (withDfr s (modelBits v)))
     ∷ (0xf0, done (withSvr s v))  -- D-69: a software disable masks no LVT entry; D-74: reserved bits are kept
-    ∷ (0x280, done (withErrors s (errorsShown (s .«esr_pending»))))
+    ∷ (0x280, done (withErrors s (errorsShown (s .«esr_pending»))))  -- D-91: any value in x2APIC mode too
     ∷ (0x310, inXapic s (withIcrHi s (topByte v)))
     ∷ lvtStored s v
 

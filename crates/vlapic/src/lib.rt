@@ -167,7 +167,7 @@ fn reset(x2apic: bool, vapic_id: u32) -> VirtualApicRegs
 impl VirtualApicRegs {
     // The local APIC of vCPU 0 in xAPIC mode.
     pub fn new() -> VirtualApicRegs
-        ensures { λ r. ⌜ r ≡ start false 0 ⌝ }
+        ensures { λ r. ⌜ done r ≡ done (start false 0) ⌝ }
     {
         reset(false, 0)
     }

@@ -28,14 +28,14 @@ module _ (l kept m : List ℕ) (r : Reply) (o : Outcome VirtualApicRegs) (k : Le
   lent x c e q = record {
     outcome = ap (λ (y : ℕ). record { state = view m; code = y }) (q ∙ ap replyCode e) ∙ ap coded (k .outcome);
     refused = kept-is;
-    spare = k .spare;
+    stored = k .stored;
   }
 
   pub lent-sent : (ipi after : List ℕ) (c : ℕ) → c ≡ sentCode r → after ≡ sentMask ipi r → LentSent l kept m ipi after c o
   lent-sent ipi after c q e = record {
     outcome = ap₂ (λ (y : ℕ) (z : List ℕ). record { state = view m; ipi = z; code = y }) q e ∙ ap (sent ipi) (k .outcome);
     refused = kept-is;
-    spare = k .spare;
+    stored = k .stored;
   }
 
 pub setup-code : (l m : List ℕ) (x : Bool) (n num : ℕ) (id : VcpuId) (r y : Reply) (c : ℕ) → x ≡ isUp n → Leaves l l m r (setup (view l) x id num) → y ≡ r → c ≡ replyCode y

@@ -15,7 +15,7 @@ use Rattle.vlapic.specs.Answers.{refused}
 use Rattle.vlapic.specs.Priority.{acceptInterrupt}
 use Rattle.vlapic.specs.Calls.{handleWrite}
 use Rattle.vlapic_words.specs.Words.{view}
-use Rattle.vlapic_words.specs.Calls.{Kept, Spare, refusedWords}
+use Rattle.vlapic_words.specs.Calls.{Kept, Stored, refusedWords}
 
 -- ---- a number
 
@@ -31,7 +31,7 @@ coded o = record { state = o .state; code = replyCode (o .reply) }
 pub record Lent (l kept m : List ℕ) (code : ℕ) (o : Outcome VirtualApicRegs) : Type 0 where
   pub outcome : record { state = view m; code = code } ≡ coded o
   pub refused : Kept (o .reply) kept m
-  pub spare : Spare l m
+  pub stored : Stored l m
 
 -- a vector above 255 is refused
 unfoldable pub accepting : VirtualApicRegs → ℕ → ℕ → Outcome VirtualApicRegs
@@ -65,7 +65,7 @@ sent ipi o = record { state = o .state; ipi = sentMask ipi (o .reply); code = se
 pub record LentSent (l kept m ipi after : List ℕ) (code : ℕ) (o : Outcome VirtualApicRegs) : Type 0 where
   pub outcome : record { state = view m; ipi = after; code = code } ≡ sent ipi o
   pub refused : Kept (o .reply) kept m
-  pub spare : Spare l m
+  pub stored : Stored l m
 
 -- a width above 255 is refused
 unfoldable pub writing : VirtualApicRegs → ℕ → ℕ → ℕ → ℕ → ℕ → Outcome VirtualApicRegs

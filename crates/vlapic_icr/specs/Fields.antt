@@ -2,7 +2,7 @@
 -- Intel SDM volume 3, the APIC chapter: interrupt command register (ICR), with its table of valid combinations of shorthand and delivery mode; error handling
 -- (send illegal vector).
 use Prim.Native.Nat.{ℕ, _/_, _%_, _*_, _+_}
-use mathlib.Core.Bool.{Bool, true, false, not, cond}
+use mathlib.Core.Bool.{Bool, not, cond, _&&_, _||_}
 use lib.Dec.{eqb, ltb, leb}
 use Rattle.utils.specs.Set.{bit}
 
@@ -33,18 +33,19 @@ abbrev pub icrHigh : Bool → ℕ → ℕ → ℕ
 icrHigh x2apic val hi = cond x2apic (val / 0x100000000) hi
 
 abbrev pub isReservedMode : ℕ → Bool
-isReservedMode lo = cond (eqb (deliveryMode lo) 3) true (eqb (deliveryMode lo) 7)
+isReservedMode lo = eqb (deliveryMode lo) 3 || eqb (deliveryMode lo) 7
 
 abbrev pub isIllegalVector : ℕ → Bool
-isIllegalVector lo = cond (eqb (deliveryMode lo) 0) (ltb (vectorField lo) 16) false  -- D-75: of lowest priority no error is noted
+isIllegalVector lo = eqb (deliveryMode lo) 0 && ltb (vectorField lo) 16  -- D-75: of lowest priority no error is noted
 
--- NMI, INIT or startup, to self or to all including self
+-- to self or to all including self
+abbrev pub includesSelf : ℕ → Bool
+includesSelf lo = eqb (shorthand lo) 1 || eqb (shorthand lo) 2
+
+-- NMI, INIT or startup to those
 abbrev pub isInvalidShorthand : ℕ → Bool
-isInvalidShorthand lo =
-    cond (cond (eqb (shorthand lo) 1) true (eqb (shorthand lo) 2))
-    (cond (leb 4 (deliveryMode lo)) (leb (deliveryMode lo) 6) false)
-    false
+isInvalidShorthand lo = includesSelf lo && (leb 4 (deliveryMode lo) && leb (deliveryMode lo) 6)
 
 -- lowest priority and SMI
 abbrev pub isUnsent : ℕ → Bool
-isUnsent lo = cond (eqb (deliveryMode lo) 1) true (eqb (deliveryMode lo) 2)
+isUnsent lo = eqb (deliveryMode lo) 1 || eqb (deliveryMode lo) 2

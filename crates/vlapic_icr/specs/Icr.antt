@@ -2,7 +2,7 @@
 -- Intel SDM volume 3, the APIC chapter: determining IPI destination (physical mode; logical mode with the flat and the cluster model; broadcast; shorthands); LDR and
 -- DFR; error handling (send illegal vector); ICR operation and SELF IPI register in x2APIC mode.
 use Prim.Native.Nat.{ℕ, _/_, _%_, _^_}
-use mathlib.Core.Bool.{Bool, false, cond, _&&_}
+use mathlib.Core.Bool.{Bool, cond, _&&_}
 use lib.Dec.{eqb, ltb}
 use Rattle.utils.specs.Set.{bit, without, below, first}
 use Rattle.types.specs.declared.Refusal.the-variants.{InvalidDelivery, OutOfRange}
@@ -35,7 +35,7 @@ matching same = cond same Matched Unmatched
 
 -- the cluster model: the same cluster, bits 4-7, and a bit in common with bits 0-3
 abbrev pub inCluster : ℕ → ℕ → Bool
-inCluster ldr d = cond (eqb (ldr / 0x10000000) (d / 16 % 16)) (share (ldr / 0x1000000 % 16) (d % 16)) false
+inCluster ldr d = eqb (ldr / 0x10000000) (d / 16 % 16) && share (ldr / 0x1000000 % 16) (d % 16)
 
 -- the logical destination d against this APIC's own LDR and DFR: in the flat model (15) a bit in common with the logical id,
 -- in the cluster model (0) as above
@@ -45,7 +45,7 @@ destFieldMatched s d =
     (cond (eqb (s .dfr / 0x10000000) 15) (matching (share (s .ldr / 0x1000000) (d % 256)))
     (cond (eqb (s .dfr / 0x10000000) 0) (matching (inCluster (s .ldr) d)) ReservedModel))
 
--- every active vCPU, or none: D-65: each APIC has to be matched by its own LDR and DFR
+-- every active vCPU, or none. D-65: each APIC has to be matched by its own LDR and DFR. D-84: only active vCPUs are reached, here and by broadcast, all and others below
 abbrev pub logicalDest : DestMatch → ℕ → ℕ → Dest
 logicalDest Matched num active = Mask active
 logicalDest Unmatched num active = Mask 0

@@ -6,9 +6,7 @@
 // declares for tock_registers, as functions of the word, the tests that `write_icr` makes of them, and by which width the words are written.
 
 ghost use mathlib.Core.Path.{_≡_};
-ghost use lib.Dec.{eqb};
-ghost use mathlib.Core.Bool.{true, cond};
-ghost use Rattle.vlapic_icr.specs.Fields.{vectorField, deliveryMode, isLogical, shorthand, idle, icrWidth, icrHigh, isReservedMode, isIllegalVector, isInvalidShorthand, isUnsent};
+ghost use Rattle.vlapic_icr.specs.Fields.{vectorField, deliveryMode, isLogical, shorthand, idle, icrWidth, icrHigh, isReservedMode, isIllegalVector, includesSelf, isInvalidShorthand, isUnsent};
 
 pub fn vector(lo: u32) -> u8
     ensures { λ r. ⌜ r ≡ vectorField lo ⌝ }
@@ -98,7 +96,7 @@ pub fn is_invalid_shorthand(lo: u32) -> bool
 }
 
 fn includes_self(lo: u32) -> bool
-    ensures { λ r. ⌜ r ≡ cond (eqb (shorthand lo) 1) true (eqb (shorthand lo) 2) ⌝ }
+    ensures { λ r. ⌜ r ≡ includesSelf lo ⌝ }
 {
     let which = lo / 262144 % 4;
     if which == 1 {

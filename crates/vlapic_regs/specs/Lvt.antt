@@ -1,6 +1,6 @@
 -- What an entry of the local vector table keeps of a value that is written to it.
 -- Intel SDM volume 3, the APIC chapter: local vector table (fields: vector 0-7, delivery mode 8-10, delivery status 12, polarity 13, remote IRR 14, trigger mode 15,
--- mask 16, timer mode 17-18; which entry has which).
+-- mask 16, timer mode 17-18; which entry has which). D-82: in x2APIC mode too the reserved bits are dropped.
 use Prim.Native.Nat.{ℕ, _+_, _*_, _/_, _%_}
 
 -- timer: vector, delivery status, mask, timer mode

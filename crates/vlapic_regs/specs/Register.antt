@@ -16,7 +16,7 @@ idWord x2apic id = cond x2apic id (id % 256 * 0x1000000)
 
 -- TPR: eight bits
 abbrev pub lowByte : ℕ → ℕ
-lowByte v = v % 0x100  -- D-82: reserved bits are dropped in x2APIC mode too, here and below
+lowByte v = v % 0x100  -- D-82: reserved bits are dropped in x2APIC mode too (so they are of the LVT and of SELF IPI)
 
 -- LDR and the ICR's high word: the top byte
 abbrev pub topByte : ℕ → ℕ

@@ -84,11 +84,12 @@ pub fn illegal_noted(esr_pending: u32) -> u32
 pub fn ppr(tpr: u32, isrv: Vector) -> u32
     ensures { λ r. ⌜ r ≡ priority tpr (isrv .0) ⌝ }
 {
-    let class = utils::prio(isrv.0 as u32);
-    if utils::prio(tpr) >= class {
+    let class = utils::prio(isrv.0 as u32) * 16;
+    // So is its class, for the class above has subclass 0.
+    if tpr % 256 >= class {
         return tpr;
     }
-    class * 16
+    class
 }
 
 // Whether the end of a vector is broadcast, by its trigger mode: SVR bit 12 suppresses it.

@@ -1,3 +1,5 @@
 pub mod Service
-pub mod Refusals
-pub mod Deliveries
+pub mod Targets
+pub mod Sending
+pub mod Numbers
+pub mod Priorities

@@ -1,4 +1,7 @@
 pub mod Service
-pub mod Refusals
-pub mod Deliveries
 pub mod Departures
+pub mod Targets
+pub mod Sending
+pub mod Numbers
+pub mod Priorities
+pub mod Cases

@@ -94,6 +94,9 @@ or-none x y e =
 pub or-last : (x y : ℕ) → x ≡ 0 → (bitOr x y ≡ 0 → ⊥) → y ≡ 0 → ⊥
 or-last x y e h z = h (rw (e, z))
 
+pub or-last-2 : (x y z : ℕ) → x ≡ 0 → y ≡ 0 → (bitOr (bitOr x y) z ≡ 0 → ⊥) → z ≡ 0 → ⊥
+or-last-2 x y z p q h = or-last (bitOr x y) z (rw (p, q)) h
+
 module _ (l : List ℕ) where
   pub served-small : served l < 256
   unfolding highestFrom
@@ -123,51 +126,50 @@ module _ (l : List ℕ) where
         ∙ rw (← here) (sym (found (eight l 18) w k (λ q. z (sym here ∙ q)) (rw (here, h) (mod-lt (getD l (18 + w) 0) (omega arith)))))
         ∙ sym (a ∙ ap (λ (k : ℕ). highestBelow k (eight l 18)) up)
 
--- ---- words 7 to 4 together, then 3 and 2, then 1
+-- ---- word 7, then 6 to 4 together, then the others
 
-module _ (l : List ℕ) (n₇ n₆ n₅ n₄ : ℕ) (h₇ : n₇ ≡ word l 25) (h₆ : n₆ ≡ word l 24) (h₅ : n₅ ≡ word l 23) (h₄ : n₄ ≡ word l 22) where
-  to-7 : n₇ ≡ 0 → Above l 7
-  to-7 z₇ = empty l 7 n₇ (above-8 l) h₇ (omega arith) z₇
+pub found-7 : (l : List ℕ) (n r : ℕ) → n ≡ word l 25 → (n ≡ 0 → ⊥) → r ≡ 7 * 32 + lastSet32 n → r ≡ served l
+found-7 l n r h z e = at-word l 7 n (above-8 l) h (omega arith) r (omega arith) z e
 
-  to-6 : n₇ ≡ 0 → n₆ ≡ 0 → Above l 6
-  to-6 z₇ z₆ = empty l 6 n₆ (to-7 z₇) h₆ (omega arith) z₆
+module _ (l : List ℕ) (n₇ n₆ n₅ n₄ : ℕ) (h₇ : n₇ ≡ word l 25) (h₆ : n₆ ≡ word l 24) (h₅ : n₅ ≡ word l 23) (h₄ : n₄ ≡ word l 22) (z₇ : n₇ ≡ 0) where
+  to-7 : Above l 7
+  to-7 = empty l 7 n₇ (above-8 l) h₇ (omega arith) z₇
 
-  to-5 : n₇ ≡ 0 → n₆ ≡ 0 → n₅ ≡ 0 → Above l 5
-  to-5 z₇ z₆ z₅ = empty l 5 n₅ (to-6 z₇ z₆) h₅ (omega arith) z₅
+  to-6 : n₆ ≡ 0 → Above l 6
+  to-6 z₆ = empty l 6 n₆ to-7 h₆ (omega arith) z₆
 
-  pub found-7 : (r : ℕ) → (n₇ ≡ 0 → ⊥) → r ≡ 7 * 32 + lastSet32 n₇ → r ≡ served l
-  found-7 r z e = at-word l 7 n₇ (above-8 l) h₇ (omega arith) r (omega arith) z e
+  to-5 : n₆ ≡ 0 → n₅ ≡ 0 → Above l 5
+  to-5 z₆ z₅ = empty l 5 n₅ (to-6 z₆) h₅ (omega arith) z₅
 
-  pub found-6 : (r : ℕ) → n₇ ≡ 0 → (n₆ ≡ 0 → ⊥) → r ≡ 6 * 32 + lastSet32 n₆ → r ≡ served l
-  found-6 r z₇ z e = at-word l 6 n₆ (to-7 z₇) h₆ (omega arith) r (omega arith) z e
+  pub found-6 : (r : ℕ) → (n₆ ≡ 0 → ⊥) → r ≡ 6 * 32 + lastSet32 n₆ → r ≡ served l
+  found-6 r z e = at-word l 6 n₆ to-7 h₆ (omega arith) r (omega arith) z e
 
-  pub found-5 : (r : ℕ) → n₇ ≡ 0 → n₆ ≡ 0 → (n₅ ≡ 0 → ⊥) → r ≡ 5 * 32 + lastSet32 n₅ → r ≡ served l
-  found-5 r z₇ z₆ z e = at-word l 5 n₅ (to-6 z₇ z₆) h₅ (omega arith) r (omega arith) z e
+  pub found-5 : (r : ℕ) → n₆ ≡ 0 → (n₅ ≡ 0 → ⊥) → r ≡ 5 * 32 + lastSet32 n₅ → r ≡ served l
+  found-5 r z₆ z e = at-word l 5 n₅ (to-6 z₆) h₅ (omega arith) r (omega arith) z e
 
-  pub left-4 : n₇ ≡ 0 → n₆ ≡ 0 → n₅ ≡ 0 → (bitOr (bitOr (bitOr n₇ n₆) n₅) n₄ ≡ 0 → ⊥) → n₄ ≡ 0 → ⊥
-  left-4 z₇ z₆ z₅ h = or-last (bitOr (bitOr n₇ n₆) n₅) n₄ (rw (z₇, z₆, z₅)) h
+  pub found-4 : (r : ℕ) → n₆ ≡ 0 → n₅ ≡ 0 → (bitOr (bitOr n₆ n₅) n₄ ≡ 0 → ⊥) → r ≡ 4 * 32 + lastSet32 n₄ → r ≡ served l
+  found-4 r z₆ z₅ h e = at-word l 4 n₄ (to-5 z₆ z₅) h₄ (omega arith) r (omega arith) (or-last-2 n₆ n₅ n₄ z₆ z₅ h) e
 
-  pub found-4 : (r : ℕ) → n₇ ≡ 0 → n₆ ≡ 0 → n₅ ≡ 0 → (bitOr (bitOr (bitOr n₇ n₆) n₅) n₄ ≡ 0 → ⊥) → r ≡ 4 * 32 + lastSet32 n₄ → r ≡ served l
-  found-4 r z₇ z₆ z₅ h e = at-word l 4 n₄ (to-5 z₇ z₆ z₅) h₄ (omega arith) r (omega arith) (left-4 z₇ z₆ z₅ h) e
-
-  module _ (u : bitOr (bitOr (bitOr n₇ n₆) n₅) n₄ ≡ 0) where
+  module _ (u : bitOr (bitOr n₆ n₅) n₄ ≡ 0) where
     to-4 : Above l 4
     to-4 =
-        let x = or-none (bitOr (bitOr n₇ n₆) n₅) n₄ u in
-        let y = or-none (bitOr n₇ n₆) n₅ (x .0) in
-        let z = or-none n₇ n₆ (y .0) in
-        empty l 4 n₄ (to-5 (z .0) (z .1) (y .1)) h₄ (omega arith) (x .1)
+        let x = or-none (bitOr n₆ n₅) n₄ u in
+        let y = or-none n₆ n₅ (x .0) in
+        empty l 4 n₄ (to-5 (y .0) (y .1)) h₄ (omega arith) (x .1)
 
-    module _ (n₃ n₂ : ℕ) (h₃ : n₃ ≡ word l 21) (h₂ : n₂ ≡ word l 20) where
-      pub found-3 : (r : ℕ) → (n₃ ≡ 0 → ⊥) → r ≡ 3 * 32 + lastSet32 n₃ → r ≡ served l
-      found-3 r z e = at-word l 3 n₃ to-4 h₃ (omega arith) r (omega arith) z e
+    pub found-3 : (n₃ r : ℕ) → n₃ ≡ word l 21 → (n₃ ≡ 0 → ⊥) → r ≡ 3 * 32 + lastSet32 n₃ → r ≡ served l
+    found-3 n₃ r h₃ z e = at-word l 3 n₃ to-4 h₃ (omega arith) r (omega arith) z e
 
-      pub found-2 : (r : ℕ) → n₃ ≡ 0 → (bitOr n₃ n₂ ≡ 0 → ⊥) → r ≡ 2 * 32 + lastSet32 n₂ → r ≡ served l
-      found-2 r z₃ h e = at-word l 2 n₂ (empty l 3 n₃ to-4 h₃ (omega arith) z₃) h₂ (omega arith) r (omega arith) (or-last n₃ n₂ z₃ h) e
+    module _ (n₃ n₂ : ℕ) (h₃ : n₃ ≡ word l 21) (h₂ : n₂ ≡ word l 20) (z₃ : n₃ ≡ 0) where
+      to-3 : Above l 3
+      to-3 = empty l 3 n₃ to-4 h₃ (omega arith) z₃
 
-      module _ (v : bitOr n₃ n₂ ≡ 0) (n₁ : ℕ) (h₁ : n₁ ≡ word l 19) where
+      pub found-2 : (r : ℕ) → (n₂ ≡ 0 → ⊥) → r ≡ 2 * 32 + lastSet32 n₂ → r ≡ served l
+      found-2 r z e = at-word l 2 n₂ to-3 h₂ (omega arith) r (omega arith) z e
+
+      module _ (z₂ : n₂ ≡ 0) (n₁ : ℕ) (h₁ : n₁ ≡ word l 19) where
         to-2 : Above l 2
-        to-2 = let x = or-none n₃ n₂ v in empty l 2 n₂ (empty l 3 n₃ to-4 h₃ (omega arith) (x .0)) h₂ (omega arith) (x .1)
+        to-2 = empty l 2 n₂ to-3 h₂ (omega arith) z₂
 
         pub found-1 : (r : ℕ) → (n₁ ≡ 0 → ⊥) → r ≡ 1 * 32 + lastSet32 n₁ → r ≡ served l
         found-1 r z e = at-word l 1 n₁ to-2 h₁ (omega arith) r (omega arith) z e

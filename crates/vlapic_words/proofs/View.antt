@@ -1,15 +1,15 @@
 -- The words, viewed as registers, move as the registers' definitions say. Assumes nothing.
-use Prim.Native.Nat.{ℕ, _+_, _*_, _/_, _%_, _^_, _≤_, _<_}
+use Prim.Native.Nat.{ℕ, zero, suc, _+_, _*_, _/_, _%_, _^_, _≤_, _<_}
 use native.Mathlib.Nat.{mod-lt, mod-eq-of-lt, lt-of-le-of-lt}
 use native.Mathlib.Omega.{arith}
 use mathlib.Core.Bool.{Bool, true, false, not, cond}
-use mathlib.Core.List.{List, [], _∷_}
-use mathlib.Core.Logic.{inl, inr}
+use mathlib.Core.List.{List, [], _∷_, _++_}
+use mathlib.Core.Logic.{_⊎_, inl, inr, ⊎-elim}
 use mathlib.Core.Path.{_≡_, refl, sym, ap, _∙_}
 use lib.Dec.{eqb, leb, ltb}
-use lib.ListN.{length, getD, set}
+use lib.ListN.{length, getD, set, replicate, List·getD-append}
 use lib.Seq.{getD-set-same, getD-set-other}
-use borrow.Author.Tests.{ltb-true, eqb-true, eqb-false}
+use borrow.Author.Tests.{ltb-true, ltb-false, eqb-true, eqb-false}
 use Rattle.utils.specs.Vectors.{classOf}
 use Rattle.utils.proofs.Laws.{with-lt, without-le}
 use Rattle.types.specs.Reply.{flag}
@@ -19,8 +19,8 @@ use Rattle.vlapic.specs.declared.VirtualApicRegs.{VirtualApicRegs}
 use Rattle.vlapic.specs.Regs.{start, withWord, withIsr, withTmr}
 use Rattle.vlapic.specs.Priority.{updatePpr}
 use Rattle.vlapic_words.specs.Words.{word, eight, view}
-use Rattle.vlapic_words.specs.Calls.{Spare}
-use Rattle.vlapic_words.specs.Steps.{startWords, served, marked, markedIn, ranked}
+use Rattle.vlapic_words.specs.Calls.{Stored}
+use Rattle.vlapic_words.specs.Steps.{sixOf, registersAtReset, startWords, served, marked, markedIn, ranked}
 use Rattle.vlapic_words.proofs.Runs.{at-from, from-other, from-set}
 
 pub cut-small : (x : ℕ) → x % 2 ^ 32 < 2 ^ 32
@@ -120,7 +120,7 @@ module _ (l : List ℕ) (n : length l ≡ 48) where
 
 -- ---- vectors
 
-marked-small : (x k : ℕ) (up : Bool) → x < 2 ^ 32 → k < 32 → marked x k up < 2 ^ 32
+pub marked-small : (x k : ℕ) (up : Bool) → x < 2 ^ 32 → k < 32 → marked x k up < 2 ^ 32
 marked-small x k true h b = with-lt 32 x k h b
 marked-small x k false h b = lt-of-le-of-lt (without-le x k) h
 
@@ -152,7 +152,7 @@ module _ (l : List ℕ) (n : length l ≡ 48) (v : ℕ) (up : Bool) (h : v < 256
       ∙ ap (withTmr (view l)) (ap (λ (x : ℕ). set (eight l 26) (v / 32) (marked x (v % 32) up)) (sym (here 26)) ∙ moved-is (eight l 26) v up)
 
 -- PPR after it
-priority-small : (tpr v : ℕ) → tpr < 2 ^ 32 → priority tpr v < 2 ^ 32
+pub priority-small : (tpr v : ℕ) → tpr < 2 ^ 32 → priority tpr v < 2 ^ 32
 unfolding priority
 priority-small tpr v h = go (leb (classOf v) (classOf tpr))
   where
@@ -164,13 +164,18 @@ pub rank-view : (l : List ℕ) → length l ≡ 48 → view (ranked l) ≡ updat
 unfolding view updatePpr
 rank-view l n = put-view l n 3 (priority (word l 2) (served l)) (omega arith) (omega arith) (priority-small (word l 2) (served l) (cut-small (getD l 2 0)))
 
--- ---- the spare words
+-- ---- what is stored
 
-pub spare-set : (l : List ℕ) (k x : ℕ) → k < 42 → Spare l (set l k x)
-spare-set l k x h j a b = getD-set-other l k j x 0 (λ e. omega arith)
+pub stored-set : (l : List ℕ) (k x : ℕ) → length l ≡ 48 → k < 42 → x < 2 ^ 32 → Stored l (set l k x)
+stored-set l k x n h b j q = go (eqb j k) refl
+  where
+    go : (c : Bool) → eqb j k ≡ c → (getD (set l k x) j 0 ≡ getD l j 0) ⊎ ((j < 42) × (getD (set l k x) j 0 < 2 ^ 32))
+    go true e = let p : j ≡ k = eqb-true j k e in inr (omega arith, rw (p, getD-set-same l k x 0 (omega arith)) b)
+    go false e = inl (getD-set-other l k j x 0 (eqb-false j k e))
 
-pub spare-then : (l m k : List ℕ) → Spare l m → Spare m k → Spare l k
-spare-then l m k p q j a b = q j a b ∙ p j a b
+pub stored-then : (l m k : List ℕ) → Stored l m → Stored m k → Stored l k
+stored-then l m k p q j b =
+    ⊎-elim (λ e. ⊎-elim (λ f. inl (e ∙ f)) (λ f. inr (f .0, rw e (f .1))) (p j b)) (λ f. inr f) (q j b)
 
 -- ---- a reset
 
@@ -196,9 +201,41 @@ module _ (P : ℕ → Type 0) (k : ℕ) where
   six : P 42 → P 43 → P 44 → P 45 → P 46 → P 47 → 42 ≤ k → k < 48 → P k
   six a b c d e f l h = at 42 a (λ p. at 43 b (λ q. at 44 c (λ r. at 45 d (λ s. at 46 e (λ t. at 47 f (λ u. absurd (omega arith)))))))
 
-pub start-spare : (x2apic : Bool) (id : ℕ) (l : List ℕ) (a b c d e f : ℕ) → a ≡ getD l 42 0 → b ≡ getD l 43 0 → c ≡ getD l 44 0 → d ≡ getD l 45 0 → e ≡ getD l 46 0 → f ≡ getD l 47 0
-    → Spare l (startWords x2apic id (a ∷ b ∷ c ∷ d ∷ e ∷ f ∷ []))
-start-spare x2apic id l a b c d e f pa pb pc pd pe pf k = six (λ (j : ℕ). getD (startWords x2apic id (a ∷ b ∷ c ∷ d ∷ e ∷ f ∷ [])) j 0 ≡ getD l j 0) k pa pb pc pd pe pf
+-- words of 32 bits
+abbrev Small : List ℕ → Type 0
+Small [] = Unit
+Small (x ∷ xs) = (x < 2 ^ 32) × Small xs
+
+small-at : (xs : List ℕ) → Small xs → (k : ℕ) → getD xs k 0 < 2 ^ 32
+small-at [] h k = omega arith
+small-at (x ∷ xs) h zero = h .0
+small-at (x ∷ xs) h (suc k) = small-at xs (h .1) k
+
+small-run : (n x : ℕ) (xs : List ℕ) → x < 2 ^ 32 → Small xs → Small (replicate n x ++ xs)
+small-run zero x xs h t = t
+small-run (suc n) x xs h t = (h, small-run n x xs h t)
+
+small-flag : (b : Bool) → flag b < 2 ^ 32
+small-flag true = omega arith
+small-flag false = omega arith
+
+pub start-small : (x2apic : Bool) (id : ℕ) (spare : List ℕ) → id < 2 ^ 32 → (k : ℕ) → k < 42 → getD (startWords x2apic id spare) k 0 < 2 ^ 32
+start-small x2apic id spare h k b =
+    let z : 0 < 2 ^ 32 = omega arith in
+    let masked = small-run 7 0x10000 (replicate 24 0) (omega arith) (small-run 24 0 [] z tt) in
+    rw (List·getD-append (registersAtReset x2apic id) (sixOf spare) 0 k b)
+    (small-at (registersAtReset x2apic id) (small-flag x2apic, (h, (z, (z, (z, (omega arith, (omega arith, (z, (z, (z, (z, masked))))))))))) k)
+
+-- the spare words of l stay
+abbrev pub spareOf : List ℕ → List ℕ
+spareOf l = getD l 42 0 ∷ getD l 43 0 ∷ getD l 44 0 ∷ getD l 45 0 ∷ getD l 46 0 ∷ getD l 47 0 ∷ []
+
+pub start-stored : (x2apic : Bool) (id : ℕ) (l : List ℕ) → id < 2 ^ 32 → Stored l (startWords x2apic id (spareOf l))
+start-stored x2apic id l h k b = go (ltb k 42) refl
+  where
+    go : (c : Bool) → ltb k 42 ≡ c → (getD (startWords x2apic id (spareOf l)) k 0 ≡ getD l k 0) ⊎ ((k < 42) × (getD (startWords x2apic id (spareOf l)) k 0 < 2 ^ 32))
+    go true e = inr (ltb-true k 42 e, start-small x2apic id (spareOf l) h k (ltb-true k 42 e))
+    go false e = inl (six (λ (j : ℕ). getD (startWords x2apic id (spareOf l)) j 0 ≡ getD l j 0) k refl refl refl refl refl refl (ltb-false k 42 e) b)
 
 pub new-spare : (x2apic : Bool) (id k : ℕ) → 42 ≤ k → k < 48 → getD (startWords x2apic id (0 ∷ 0 ∷ 0 ∷ 0 ∷ 0 ∷ 0 ∷ [])) k 0 ≡ 0
 new-spare x2apic id k = six (λ (j : ℕ). getD (startWords x2apic id (0 ∷ 0 ∷ 0 ∷ 0 ∷ 0 ∷ 0 ∷ [])) j 0 ≡ 0) k refl refl refl refl refl refl

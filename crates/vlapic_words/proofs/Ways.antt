@@ -1,8 +1,10 @@
 -- A law for each way that a call goes. Assumes nothing.
 use Prim.Native.Nat.{ℕ, _+_, _*_, _/_, _%_, _^_, _≤_, _<_}
+use native.Mathlib.Nat.{mod-lt}
 use native.Mathlib.Omega.{arith}
 use mathlib.Core.Bool.{Bool, true, false, not, cond, _&&_, and-false}
 use mathlib.Core.List.{List, [], _∷_}
+use mathlib.Core.Logic.{inl}
 use mathlib.Core.Path.{_≡_, refl, sym, ap, ap₂, _∙_}
 use lib.Dec.{eqb, ltb}
 use lib.ListN.{length, getD, set, length-set}
@@ -30,11 +32,11 @@ use Rattle.vlapic.specs.Calls.{outOfRange, setup, commandOf, answered, writeIcr
 use Rattle.vlapic.proofs.Range.{in-range}
 use Rattle.vlapic.proofs.Offsets.{Apart, keys, no-word, no-register}
 use Rattle.vlapic_words.specs.Words.{word, eight, view}
-use Rattle.vlapic_words.specs.Calls.{Kept, Spare, Leaves, IsNew, commandStored, icrRefused, refusedWords}
+use Rattle.vlapic_words.specs.Calls.{Kept, Stored, Leaves, IsNew, commandStored, icrRefused, refusedWords}
 use Rattle.vlapic_words.specs.Steps.{startWords, served, marked, markedIn, ranked, ended}
 use Rattle.vlapic_words.proofs.Runs.{at-from}
 use Rattle.vlapic_words.proofs.Search.{served-small}
-use Rattle.vlapic_words.proofs.View.{cut-small, put-view, moved, mark-isr, mark-tmr, rank-view, spare-set, spare-then, start-view, start-spare, new-spare}
+use Rattle.vlapic_words.proofs.View.{cut-small, put-view, moved, mark-isr, mark-tmr, rank-view, marked-small, priority-small, stored-set, stored-then, start-view, start-small, spareOf, start-stored, new-spare}
 
 -- ---- nothing is stored
 
@@ -46,7 +48,7 @@ kept-same l (Two a b) = tt
 kept-same l (Three a b c) = tt
 
 pub same : (l : List ℕ) (r : Reply) (o : Outcome VirtualApicRegs) → record { state = view l; reply = r } ≡ o → Leaves l l l r o
-same l r o e = record { outcome = e; refused = kept-same l r; spare = λ k a b. refl }
+same l r o e = record { outcome = e; refused = kept-same l r; stored = λ k b. inl refl }
 
 -- other names for what is left
 pub leaves-as : {l k m : List ℕ} {r : Reply} {o : Outcome VirtualApicRegs} (p : Outcome VirtualApicRegs) (j : List ℕ) → Leaves l k m r o → o ≡ p → k ≡ j → Leaves l j m r p
@@ -56,15 +58,15 @@ leaves-as p j h e f = rw (← e, ← f) h
 
 module _ (l : List ℕ) (n : length l ≡ 48) where
   pub store-way : (m : List ℕ) (k x : ℕ) → (1 ≤ k) × (k < 18) → x < 2 ^ 32 → m ≡ set l k x → Leaves l l m Nothing (done (withWord (view l) k x))
-  store-way m k x b h e = rw e record { outcome = ap done (put-view l n k x (b .0) (b .1) h); refused = tt; spare = spare-set l k x (omega arith) }
+  store-way m k x b h e = rw e record { outcome = ap done (put-view l n k x (b .0) (b .1) h); refused = tt; stored = stored-set l k x n (omega arith) h }
 
   two-view : (k x j y : ℕ) → (1 ≤ k) × (k < 18) → (1 ≤ j) × (j < 18) → x < 2 ^ 32 → y < 2 ^ 32 → view (set (set l k x) j y) ≡ withWord (withWord (view l) k x) j y
   two-view k x j y a b h g =
       put-view (set l k x) (simp length-set n) j y (b .0) (b .1) g
       ∙ ap (λ (s : VirtualApicRegs). withWord s j y) (put-view l n k x (a .0) (a .1) h)
 
-  two-spare : (k x j y : ℕ) → k < 42 → j < 42 → Spare l (set (set l k x) j y)
-  two-spare k x j y a b = spare-then l (set l k x) (set (set l k x) j y) (spare-set l k x a) (spare-set (set l k x) j y b)
+  two-stored : (k x j y : ℕ) → k < 42 → j < 42 → x < 2 ^ 32 → y < 2 ^ 32 → Stored l (set (set l k x) j y)
+  two-stored k x j y a b h g = stored-then l (set l k x) (set (set l k x) j y) (stored-set l k x n a h) (stored-set (set l k x) j y (simp length-set n) b g)
 
   pub errors-way : (a m : List ℕ) (e : Errors) (p : ℕ) → p ≡ word l 8 → e ≡ errorsShown p → a ≡ set l 7 (e .esr) → m ≡ set a 8 (e .«esr_pending»)
       → Leaves l l m Nothing (done (withErrors (view l) (errorsShown (view l .«esr_pending»))))
@@ -74,7 +76,7 @@ module _ (l : List ℕ) (n : length l ≡ 48) where
       record {
         outcome = ap done (two-view 7 (word l 8) 8 0 (omega arith, omega arith) (omega arith, omega arith) (cut-small (getD l 8 0)) (omega arith));
         refused = tt;
-        spare = two-spare 7 (word l 8) 8 0 (omega arith) (omega arith);
+        stored = two-stored 7 (word l 8) 8 0 (omega arith) (omega arith) (cut-small (getD l 8 0)) (omega arith);
       }
 
   -- an interrupt command
@@ -105,7 +107,7 @@ module _ (l : List ℕ) (n : length l ≡ 48) where
       record {
         outcome = k .outcome ∙ ap₂ answered v c ∙ written-is lo hi num active;
         refused = rw e at (k .refused);
-        spare = spare-then l b m (rw e (two-spare 9 (idle lo) 10 hi (omega arith) (omega arith))) (k .spare);
+        stored = stored-then l b m (rw e (two-stored 9 (idle lo) 10 hi (omega arith) (omega arith) (omega arith) hh)) (k .stored);
       }
 
 -- one that only xAPIC mode has
@@ -118,11 +120,13 @@ module _ (l : List ℕ) (b : Bool) (next : VirtualApicRegs) (e : b ≡ view l .x
 
 -- ---- acceptance and EOI
 
-spare-mark : (l : List ℕ) (base v : ℕ) (up : Bool) → v < 256 → base + 8 ≤ 42 → Spare l (markedIn l base v up)
-spare-mark l base v up h b = spare-set l (base + v / 32) (marked (word l (base + v / 32)) (v % 32) up) (omega arith)
+stored-mark : (l : List ℕ) (base v : ℕ) (up : Bool) → length l ≡ 48 → v < 256 → base + 8 ≤ 42 → Stored l (markedIn l base v up)
+stored-mark l base v up n h b =
+    stored-set l (base + v / 32) (marked (word l (base + v / 32)) (v % 32) up) n (omega arith)
+    (marked-small (word l (base + v / 32)) (v % 32) up (cut-small (getD l (base + v / 32) 0)) (mod-lt v (omega arith)))
 
-spare-rank : (l : List ℕ) → Spare l (ranked l)
-spare-rank l = spare-set l 3 (priority (word l 2) (served l)) (omega arith)
+stored-rank : (l : List ℕ) → length l ≡ 48 → Stored l (ranked l)
+stored-rank l n = stored-set l 3 (priority (word l 2) (served l)) n (omega arith) (priority-small (word l 2) (served l) (cut-small (getD l 2 0)))
 
 module _ (l : List ℕ) (n : length l ≡ 48) where
   pub accept-way : (a b m : List ℕ) (v : Vector) (up : Bool) → v .0 < 256 → a ≡ markedIn l 18 (v .0) true → b ≡ markedIn a 26 (v .0) up → m ≡ ranked b → Leaves l l m Nothing (acceptInterrupt (view l) v up)
@@ -136,16 +140,16 @@ module _ (l : List ℕ) (n : length l ≡ 48) where
       record {
         outcome = ap done (ap view e ∙ rank-view b nb ∙ ap updatePpr (vb ∙ ap (λ (s : VirtualApicRegs). withTmr s (moved (s .tmr) v₀ up)) va));
         refused = tt;
-        spare = rw e (spare-then l b (ranked b) (rw eb (spare-then l a (markedIn a 26 v₀ up) (rw ea (spare-mark l 18 v₀ true h (omega arith))) (spare-mark a 26 v₀ up h (omega arith)))) (spare-rank b));
+        stored = rw e (stored-then l b (ranked b) (rw eb (stored-then l a (markedIn a 26 v₀ up) (rw ea (stored-mark l 18 v₀ true n h (omega arith))) (stored-mark a 26 v₀ up na h (omega arith)))) (stored-rank b nb));
       }
 
   ended-view : view (ended l (served l)) ≡ updatePpr (withIsr (view l) (moved (view l .isr) (served l) false))
   ended-view = rank-view (markedIn l 18 (served l) false) (simp length-set n) ∙ ap updatePpr (mark-isr l n (served l) false (served-small l))
 
-  ended-spare : Spare l (ended l (served l))
-  ended-spare =
+  ended-stored : Stored l (ended l (served l))
+  ended-stored =
       let m = markedIn l 18 (served l) false in
-      spare-then l m (ranked m) (spare-mark l 18 (served l) false (served-small l) (omega arith)) (spare-rank m)
+      stored-then l m (ranked m) (stored-mark l 18 (served l) false n (served-small l) (omega arith)) (stored-rank m (simp length-set n))
 
   module _ (v : ℕ) (e : v ≡ served l) where
     pub eoi-none : v ≡ 0 → Leaves l l l Nothing (handleEoi (view l))
@@ -161,7 +165,7 @@ module _ (l : List ℕ) (n : length l ≡ 48) where
         record {
           outcome = rw (em, e, p, q) (ap (λ (s : VirtualApicRegs). record { state = s; reply = cond b (One (served l)) Nothing }) ended-view);
           refused = not-refused b;
-          spare = rw (em, e) ended-spare;
+          stored = rw (em, e) ended-stored;
         }
       where
         not-refused : (c : Bool) → Kept (cond c (One v) Nothing) l m
@@ -183,7 +187,7 @@ module _ (l : List ℕ) (n : length l ≡ 48) where
     unfolding handleEoi view
     write-eoi-some m z em =
         let p : eqb (served l) 0 ≡ false = rw (← e) (ne-eqb v 0 z) in
-        record { outcome = rw (em, e, p) (ap done ended-view); refused = tt; spare = rw (em, e) ended-spare }
+        record { outcome = rw (em, e, p) (ap done ended-view); refused = tt; stored = rw (em, e) ended-stored }
 
 -- ---- offsets
 
@@ -386,22 +390,21 @@ read-even l r o h k = rw (even o h) at k
 -- ---- new and setup
 
 pub new-way : (m : List ℕ) → m ≡ startWords false 0 (0 ∷ 0 ∷ 0 ∷ 0 ∷ 0 ∷ 0 ∷ []) → IsNew m
-new-way m e = rw e record { registers = start-view false 0 (0 ∷ 0 ∷ 0 ∷ 0 ∷ 0 ∷ 0 ∷ []) (omega arith); spare = new-spare false 0 }
+new-way m e = rw e record { registers = start-view false 0 (0 ∷ 0 ∷ 0 ∷ 0 ∷ 0 ∷ 0 ∷ []) (omega arith); spare = new-spare false 0; small = start-small false 0 (0 ∷ 0 ∷ 0 ∷ 0 ∷ 0 ∷ 0 ∷ []) (omega arith) }
 
 module _ (l : List ℕ) (x2apic b : Bool) (id : VcpuId) (num : ℕ) (e : b ≡ outOfRange num (id .0)) where
   pub setup-out : b ≡ true → Leaves l l l (Refused OutOfRange) (setup (view l) x2apic id num)
   unfolding setup
   setup-out t = same l (Refused OutOfRange) (setup (view l) x2apic id num) (rw (← e, t))
 
-  pub setup-in : (m : List ℕ) → b ≡ false → m ≡ startWords x2apic (id .0) (getD l 42 0 ∷ getD l 43 0 ∷ getD l 44 0 ∷ getD l 45 0 ∷ getD l 46 0 ∷ getD l 47 0 ∷ [])
+  pub setup-in : (m : List ℕ) → b ≡ false → m ≡ startWords x2apic (id .0) (spareOf l)
       → Leaves l l m Nothing (setup (view l) x2apic id num)
   unfolding setup
   setup-in m t em =
       let h : id .0 ≤ 63 = in-range num (id .0) (sym e ∙ t) .1 in
-      let spare : List ℕ = getD l 42 0 ∷ getD l 43 0 ∷ getD l 44 0 ∷ getD l 45 0 ∷ getD l 46 0 ∷ getD l 47 0 ∷ [] in
       rw (← e, t, em)
       record {
-        outcome = ap done (start-view x2apic (id .0) spare (omega arith));
+        outcome = ap done (start-view x2apic (id .0) (spareOf l) (omega arith));
         refused = tt;
-        spare = start-spare x2apic (id .0) l _ _ _ _ _ _ refl refl refl refl refl refl;
+        stored = start-stored x2apic (id .0) l (omega arith);
       }

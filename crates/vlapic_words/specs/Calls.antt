@@ -1,8 +1,9 @@
 -- What a call in place promises, of the words before it and after it: the registers that they stand for and the reply are the outcome that the registers' definitions give,
--- a refused call leaves every word as it was, and the spare words are as they were.
-use Prim.Native.Nat.{ℕ, _%_, _≤_, _<_}
+-- a refused call leaves every word as it was, the spare words are as they were, and what is stored has the bits above 31 clear.
+use Prim.Native.Nat.{ℕ, _%_, _^_, _≤_, _<_}
 use mathlib.Core.Bool.{false, not, cond, _&&_}
 use mathlib.Core.List.{List}
+use mathlib.Core.Logic.{_⊎_}
 use mathlib.Core.Path.{_≡_}
 use lib.Dec.{eqb}
 use lib.ListN.{getD, set}
@@ -23,15 +24,15 @@ Kept (One a) kept m = Unit
 Kept (Two a b) kept m = Unit
 Kept (Three a b c) kept m = Unit
 
--- the spare words are as they were
-abbrev pub Spare : List ℕ → List ℕ → Type 0
-Spare l m = (k : ℕ) → 42 ≤ k → k < 48 → getD m k 0 ≡ getD l k 0
+-- each word is as it was, or is none of the spare words and has the bits above 31 clear
+abbrev pub Stored : List ℕ → List ℕ → Type 0
+Stored l m = (k : ℕ) → k < 48 → (getD m k 0 ≡ getD l k 0) ⊎ ((k < 42) × (getD m k 0 < 2 ^ 32))
 
 -- a call that leaves the words m of the words l, or those in `kept` where it is refused
 pub record Leaves (l kept m : List ℕ) (r : Reply) (o : Outcome VirtualApicRegs) : Type 0 where
   pub outcome : record { state = view m; reply = r } ≡ o
   pub refused : Kept r kept m
-  pub spare : Spare l m
+  pub stored : Stored l m
 
 -- a refused write: an interrupt command that is refused for its kind or destination has stored its two words, and all other words are as they were
 abbrev pub commandStored : List ℕ → ℕ → ℕ → List ℕ
@@ -43,7 +44,8 @@ icrRefused l val width = cond (icrWidth (view l .x2apic) width) (commandStored l
 unfoldable pub refusedWords : List ℕ → ℕ → ℕ → ℕ → ℕ → List ℕ
 refusedWords l offset val width num = cond (eqb offset 0x300 && not (outOfRange num (view l .«vapic_id»))) (icrRefused l val width) l
 
--- a new local APIC: the spare words are 0
+-- a new local APIC: the spare words are 0, and the others have the bits above 31 clear
 pub record IsNew (m : List ℕ) : Type 0 where
   pub registers : view m ≡ start false 0
   pub spare : (k : ℕ) → 42 ≤ k → k < 48 → getD m k 0 ≡ 0
+  pub small : (k : ℕ) → k < 42 → getD m k 0 < 2 ^ 32

@@ -1,68 +1,24 @@
 -- What the steps of the calls do to the words.
 use Prim.Native.Nat.{ℕ, _+_}
-use mathlib.Core.Bool.{Bool, false, cond, _&&_}
-use mathlib.Core.List.{List, [], _∷_}
-use lib.Dec.{leb}
-use lib.ListN.{getD, set}
-use Rattle.utils.specs.Set.{with, without, last}
+use mathlib.Core.Bool.{Bool, false, cond}
+use mathlib.Core.List.{List, [], _∷_, _++_}
+use lib.ListN.{getD, set, replicate}
+use Rattle.utils.specs.Set.{with, without}
 use Rattle.utils.specs.Vectors.{indexOf, bitposOf}
 use Rattle.types.specs.Reply.{flag}
-use Rattle.vlapic_regs.specs.Vectors.{inWords, highestFrom}
+use Rattle.vlapic_regs.specs.Vectors.{highestFrom}
 use Rattle.vlapic_regs.specs.Register.{priority}
 use Rattle.vlapic_words.specs.Words.{word, eight}
 
--- a local APIC after reset, and the spare words
+-- a local APIC after reset, and six spare words
+abbrev pub sixOf : List ℕ → List ℕ
+sixOf l = getD l 0 0 ∷ getD l 1 0 ∷ getD l 2 0 ∷ getD l 3 0 ∷ getD l 4 0 ∷ getD l 5 0 ∷ []
+
+abbrev pub registersAtReset : Bool → ℕ → List ℕ
+registersAtReset x2apic id = (flag x2apic ∷ id ∷ 0 ∷ 0 ∷ 0 ∷ 0xffffffff ∷ 0xff ∷ 0 ∷ 0 ∷ 0 ∷ 0 ∷ []) ++ (replicate 7 0x10000 ++ replicate 24 0)
+
 abbrev pub startWords : Bool → ℕ → List ℕ → List ℕ
-startWords x2apic id spare =
-    flag x2apic
-    ∷ id
-    ∷ 0
-    ∷ 0
-    ∷ 0
-    ∷ 0xffffffff
-    ∷ 0xff
-    ∷ 0
-    ∷ 0
-    ∷ 0
-    ∷ 0
-    ∷ 0x10000
-    ∷ 0x10000
-    ∷ 0x10000
-    ∷ 0x10000
-    ∷ 0x10000
-    ∷ 0x10000
-    ∷ 0x10000
-    ∷ 0
-    ∷ 0
-    ∷ 0
-    ∷ 0
-    ∷ 0
-    ∷ 0
-    ∷ 0
-    ∷ 0
-    ∷ 0
-    ∷ 0
-    ∷ 0
-    ∷ 0
-    ∷ 0
-    ∷ 0
-    ∷ 0
-    ∷ 0
-    ∷ 0
-    ∷ 0
-    ∷ 0
-    ∷ 0
-    ∷ 0
-    ∷ 0
-    ∷ 0
-    ∷ 0
-    ∷ getD spare 0 0
-    ∷ getD spare 1 0
-    ∷ getD spare 2 0
-    ∷ getD spare 3 0
-    ∷ getD spare 4 0
-    ∷ getD spare 5 0
-    ∷ []
+startWords x2apic id spare = registersAtReset x2apic id ++ sixOf spare
 
 -- the highest vector in service, or 0
 abbrev pub served : List ℕ → ℕ

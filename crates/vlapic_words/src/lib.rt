@@ -120,6 +120,12 @@ fn store_in_xapic(words: &mut [u64; 48], k: usize, x: u32) -> WriteAnswer
 
 // ---- New, and set up
 
+const RESET_DFR: u64 = 0xffff_ffff;
+
+const RESET_SVR: u64 = consts::RESET_SPURIOUS_INTERRUPT_VECTOR as u64;
+
+const RESET_LVT: u64 = consts::RESET_LVT_REG as u64;
+
 // A local APIC after reset, and the spare words.
 fn reset(words: &mut [u64; 48], x2apic: bool, vapic_id: u32, spare: [u64; 6])
     ensures { λ _. ⌜ now (words .exit) ≡ startWords x2apic «vapic_id» spare ⌝ }
@@ -130,19 +136,19 @@ fn reset(words: &mut [u64; 48], x2apic: bool, vapic_id: u32, spare: [u64; 6])
         0,
         0,
         0,
-        0xffff_ffff,
-        consts::RESET_SPURIOUS_INTERRUPT_VECTOR as u64,
+        RESET_DFR,
+        RESET_SVR,
         0,
         0,
         0,
         0,
-        consts::RESET_LVT_REG as u64,
-        consts::RESET_LVT_REG as u64,
-        consts::RESET_LVT_REG as u64,
-        consts::RESET_LVT_REG as u64,
-        consts::RESET_LVT_REG as u64,
-        consts::RESET_LVT_REG as u64,
-        consts::RESET_LVT_REG as u64,
+        RESET_LVT,
+        RESET_LVT,
+        RESET_LVT,
+        RESET_LVT,
+        RESET_LVT,
+        RESET_LVT,
+        RESET_LVT,
         0,
         0,
         0,
@@ -213,18 +219,18 @@ fn in_word(w: u8, held: u32) -> u8
     w * 32 + utils::fls32(held) as u8
 }
 
-// The highest vector in service, or 0: that of the highest word that isn't empty. Words 7 to 4 are looked at together, then 3 and 2; word 0 isn't searched.
+// The highest vector in service, or 0: that of the highest word that isn't empty. Words 6 to 4 are looked at together; word 0 isn't searched.
 fn find_isrv(words: &[u64; 48]) -> u8
     ensures { λ r. ⌜ r ≡ served (now (words .entry)) ⌝ }
 {
     let w7 = word(words, ISR + 7);
+    if w7 != 0 {
+        return in_word(7, w7);
+    }
     let w6 = word(words, ISR + 6);
     let w5 = word(words, ISR + 5);
     let w4 = word(words, ISR + 4);
-    if w7 | w6 | w5 | w4 != 0 {
-        if w7 != 0 {
-            return in_word(7, w7);
-        }
+    if w6 | w5 | w4 != 0 {
         if w6 != 0 {
             return in_word(6, w6);
         }
@@ -234,11 +240,11 @@ fn find_isrv(words: &[u64; 48]) -> u8
         return in_word(4, w4);
     }
     let w3 = word(words, ISR + 3);
+    if w3 != 0 {
+        return in_word(3, w3);
+    }
     let w2 = word(words, ISR + 2);
-    if w3 | w2 != 0 {
-        if w3 != 0 {
-            return in_word(3, w3);
-        }
+    if w2 != 0 {
         return in_word(2, w2);
     }
     let w1 = word(words, ISR + 1);

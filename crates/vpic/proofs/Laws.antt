@@ -9,6 +9,7 @@ use lib.ListN.{set, length}
 use lib.Pow.{pow-pos}
 use borrow.Author.Tests.{lt-ltb, le-ltb, ltb-true, ltb-false, not-true, not-false, ne-eqb}
 use Rattle.utils.specs.Set.{bit, with}
+use Rattle.utils.specs.Cases.{cases}
 use Rattle.utils.proofs.Bools.{never}
 use Rattle.types.specs.declared.PicLine.{PicLine}
 use Rattle.types.specs.declared.PicPlace.{PicPlace}
@@ -24,7 +25,7 @@ use Rattle.vpic_chip.specs.declared.PicVector.{PicVector}
 use Rattle.vpic_chip.specs.declared.PicVector.the-variants.{Given}
 use Rattle.vpic_chip.specs.Registers.{Chip, chipIn}
 use Rattle.vpic_chip.specs.Chip.{pulsed, asks, driven, pendingLine, pendingIrq, acknowledged, acknowledge, unacknowledged, commanded, fed, commandRead, opened, vectorReply}
-use Rattle.vpic_chip.proofs.Laws.{vector-reply-same}
+use Rattle.vpic_chip.proofs.Laws.{asks-none, vector-reply-same}
 use Rattle.vpic.specs.declared.PicInterruptClaim.{PicInterruptClaim}
 use Rattle.vpic.specs.declared.PicClaim.{PicClaim}
 use Rattle.vpic.specs.declared.PicClaim.the-variants.{Nothing as NoClaim}
@@ -74,6 +75,11 @@ new-done p (x ∷ y ∷ z ∷ u ∷ l) m s rule h k em es = rw (em, es) (go rule
 pub settle-off : (p : PicState) (b : Bool) → b ≡ isCascade p → not b ≡ true → p ≡ settled p
 unfolding settled
 settle-off p b e n = rw (sym e ∙ not-true b n)
+
+pub settle-none : (p q : PicState) (s m d : Chip) (b : Bool) (n : ℕ) → b ≡ isCascade p → not b ≡ false → s ≡ p .slave → n ≡ s .request → n ≡ 0 → m ≡ p .master → d ≡ driven m 2 false → q ≡ chips p d (p .slave)
+    → q ≡ settled p
+unfolding settled
+settle-none p q s m d b n e t es en z em ed eq = let eu : false ≡ asks s = asks-none s n en z in rw (sym e ∙ not-false b t) (cc)
 
 pub settle-on : (p q : PicState) (s m d : Chip) (b up : Bool) → b ≡ isCascade p → not b ≡ false → s ≡ p .slave → up ≡ asks s → m ≡ p .master → d ≡ driven m 2 up → q ≡ chips p d (p .slave)
     → q ≡ settled p
@@ -273,7 +279,7 @@ module _ (p q : PicState) (c d : PicClaim) (e : d ≡ c) where
 -- ---- a claim is restored
 
 pub restore-out : (p : PicState) (c : PicInterruptClaim) → 16 ≤ c .irq .0 → doneOutcome p (Refused OutOfRange) ≡ restoreInterrupt p c
-restore-out p c l = rw (le-ltb (c .irq .0) 16 l)
+restore-out p c l = search cases
 
 pub restore-done : (p q r : PicState) (c : PicInterruptClaim) (x : PicPlace) → c .irq .0 < 16 → x ≡ placeOf (c .irq) → q ≡ restoredAt p x (c .«master_in_service») (c .«slave_in_service») → r ≡ settled q
     → doneOutcome r Done ≡ restoreInterrupt p c

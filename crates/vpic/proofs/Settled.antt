@@ -1,7 +1,7 @@
 -- Laws of a settled pair: settling leaves the rule kept, and changes nothing where it is. Assumes nothing.
 use mathlib.Core.Path.{_≡_, refl, sym, ap, _∙_}
 use mathlib.Core.Bool.{Bool, true, false, cond}
-use Prim.Native.Nat.{ℕ, _<_}
+use Prim.Native.Nat.{ℕ}
 use native.Mathlib.Omega.{arith}
 use lib.Dec.{eqb, ltb}
 use borrow.Author.Tests.{eqb-true, eqb-false}
@@ -15,7 +15,7 @@ use Rattle.vpic_chip.specs.declared.PendingIrq.the-variants.{Irq, Nothing}
 use Rattle.vpic_chip.specs.Chip.{asks, driven, pendingLine, pendingIrq, acknowledged}
 use Rattle.vpic_chip.proofs.Laws.{quiet-taken}
 use Rattle.vpic.specs.Words.{PicState}
-use Rattle.vpic.specs.Pair.{isCascade, settled, Keeps, chips, StateClaim, stateClaim, cascadePlace, placeFrom, pendingPlace, masterClaim, slaveClaim}
+use Rattle.vpic.specs.Pair.{isCascade, settled, Keeps, chips, stateClaim, cascadePlace, placeFrom, pendingPlace, masterClaim, slaveClaim}
 use Rattle.vpic.specs.Claim.{masterTaken, slaveTaken}
 use Rattle.vpic.proofs.Ready.{ready-slave}
 

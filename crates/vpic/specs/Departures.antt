@@ -1,8 +1,8 @@
 -- Where the pair does other than the 8259A's data sheet: docs/DIFFERENCES.md, D-01 to D-17, each at its smallest case. Rule 0, where the rule matters.
 use Prim.Native.Nat.{ℕ}
-use mathlib.Core.Bool.{Bool, true, false, cond}
+use mathlib.Core.Bool.{true, false}
 use mathlib.Core.List.{List, [], _∷_}
-use mathlib.Core.Path.{_≡_, refl}
+use mathlib.Core.Path.{refl}
 use Rattle.utils.specs.Set.{with, without, lowest}
 use Rattle.types.specs.declared.PicLine.{PicLine}
 use Rattle.types.specs.Reply.{flag, replyValues}

@@ -1,7 +1,7 @@
 -- The PC's two 8259A chips. Cascade mode: the slave hangs on the master's line 2, and an acknowledgement of that line is answered by the slave. The interrupt
 -- sequence; the four ports. Departures from the data sheet are marked D-nn and stand in docs/DIFFERENCES.md. Rule 1 (document 02, T-02) is the data sheet's
 -- cascade, rule 0 the Rust's.
-use Prim.Native.Nat.{ℕ, _+_, _*_, _/_, _%_, _^_}
+use Prim.Native.Nat.{ℕ, _+_, _*_, _/_, _%_}
 use mathlib.Core.Bool.{Bool, true, false, cond, _||_}
 use mathlib.Core.Path.{_≡_}
 use lib.Dec.{ltb, eqb}
@@ -36,7 +36,7 @@ use Rattle.vpic.specs.Words.{PicState}
 abbrev pub chips : PicState → Chip → Chip → PicState
 chips p m s = record { rule = p .rule; master = m; slave = s; spare = p .spare }
 
--- a new pair of either rule, with the bases of the PC's first BIOS
+-- a new pair of either rule, with the bases that the PC's BIOS gives them (the slave's is 0x70)
 unfoldable pub newState : ℕ → PicState
 newState rule = record { rule = rule; master = opened 0x08; slave = opened 0x70; spare = 0 }
 
@@ -48,7 +48,7 @@ isCascade p = eqb (p .rule) 1
 abbrev pub cascadeIrq : PicLine
 cascadeIrq = record { 0 = 2 }
 
--- what is done at the end of every call. Rule 1: the slave's output drives the master's line 2. D-13, rule 0: it drives no line: request 2 is a latch, set by a
+-- what is done after a latch, an acknowledgement, a served write and a restore. Rule 1: the slave's output drives the master's line 2. D-13, rule 0: it drives no line: request 2 is a latch, set by a
 -- slave's edge and cleared by an acknowledgement, so that nothing is left to do
 unfoldable pub settled : PicState → PicState
 settled p = cond (isCascade p) (chips p (driven (p .master) 2 (asks (p .slave))) (p .slave)) p

@@ -150,7 +150,7 @@ impl PicValue {
     }
 }
 
-// ---- A claim on its way through the private functions: one number, so that it stays in a register. 0 is none; `specs/Words.antt` has its bits.
+// ---- A claim on its way through the private functions: one number, so that it stays in a register. 0 is none; `specs/Claim.antt` has its bits.
 
 struct Claim(u64);
 
@@ -199,16 +199,23 @@ fn is_cascade(words: &[u64; 4]) -> bool
     words[2] == RULE_CASCADE as u64
 }
 
-fn master(words: &[u64; 4]) -> PicChip
+// The pair's registers: the two chips, and which rule it follows.
+pub fn master(words: &[u64; 4]) -> PicChip
     ensures { λ r. ⌜ chipIn (r .0) ≡ view (now (words .entry)) .master ⌝ }
 {
     PicChip(words[0])
 }
 
-fn slave(words: &[u64; 4]) -> PicChip
+pub fn slave(words: &[u64; 4]) -> PicChip
     ensures { λ r. ⌜ chipIn (r .0) ≡ view (now (words .entry)) .slave ⌝ }
 {
     PicChip(words[1])
+}
+
+pub fn rule(words: &[u64; 4]) -> u64
+    ensures { λ r. ⌜ r ≡ view (now (words .entry)) .rule ⌝ }
+{
+    words[2]
 }
 
 // Nothing: lent as a slice, the words are known to be four.
@@ -270,15 +277,21 @@ pub fn port_ranges() -> PortRanges
 
 // ---- Lines and claims.
 
-// What every call does last: by the cascade rule the master's request 2 follows the slave's output.
+// After a latch, an acknowledgement, a served write and a restore: by the cascade rule the master's request 2 follows the slave's output.
 fn settle(words: &mut [u64; 4])
     ensures { λ _. ⌜ view (now (words .exit)) ≡ settled (view (now (words .entry))) ⌝ }
 {
     if !is_cascade(&*words) {
         return;
     }
-    let up = slave(&*words).asks();
-    let driven = master(&*words).drive_cascade(up);
+    let second = slave(&*words);
+    // As mostly, and found at once.
+    if second.request() == 0 {
+        let lowered = master(&*words).drive_cascade(false);
+        set_master(&mut *words, lowered);
+        return;
+    }
+    let driven = master(&*words).drive_cascade(second.asks());
     set_master(&mut *words, driven);
 }
 
@@ -351,18 +364,8 @@ fn take_slave(words: &mut [u64; 4], irq: PicLine) -> Claim
     )
 }
 
-// The same with the usual mode apart, in which a line taken is in service: the compiler then knows the claim's flags.
-fn claim_master(words: &mut [u64; 4], irq: PicLine) -> Claim
-    requires { ⌜ pendingPlace (view (now words)) ≡ place.Master irq ⌝ }
-    ensures { λ r. ⌜ stateClaim (view (now (words .exit))) (claimIn (r .0)) ≡ masterTaken (view (now (words .entry))) irq ⌝ }
-{
-    if master(&*words).auto_eoi() {
-        return take_master(&mut *words, irq);
-    }
-    take_master(&mut *words, irq)
-}
-
-// A slave's line that goes into service leaves nothing to settle: no other of the slave's lines counts then.
+// A slave's line that goes into service leaves nothing to settle: no other of the slave's lines counts then. Where one call stands in two arms of a test, both say the
+// same: the compiler then knows the claim's flags.
 fn claim_slave(words: &mut [u64; 4], irq: PicLine) -> Claim
     requires { ⌜ pendingPlace (view (now words)) ≡ place.Slave irq ⌝ }
     ensures { λ r. ⌜ stateClaim (view (now (words .exit))) (claimIn (r .0)) ≡ slaveClaim (view (now (words .entry))) irq ⌝ }
@@ -383,7 +386,7 @@ fn take(words: &mut [u64; 4]) -> Claim
     ensures { λ r. ⌜ stateClaim (view (now (words .exit))) (claimIn (r .0)) ≡ takenAt (view (now (words .entry))) (pendingPlace (view (now (words .entry)))) ⌝ }
 {
     match pending_place(&*words) {
-        PicPlace::Master(k) => claim_master(&mut *words, k),
+        PicPlace::Master(k) => take_master(&mut *words, k),
         PicPlace::Slave(k) => claim_slave(&mut *words, k),
         PicPlace::Nowhere => Claim(0),
     }

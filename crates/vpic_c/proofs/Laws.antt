@@ -1,12 +1,10 @@
 -- A call's answer, its reply and the reply's code; numbers that no line and no claim has. Assumes nothing.
-use mathlib.Core.Path.{_≡_, refl, sym, ap, _∙_}
+use mathlib.Core.Path.{_≡_, refl, ap, _∙_}
 use mathlib.Core.Bool.{Bool, true, false, cond}
 use mathlib.Core.List.{List}
-use Prim.Native.Nat.{ℕ, _/_, _%_, _^_, _<_, _≤_}
-use native.Mathlib.Omega.{arith}
+use Prim.Native.Nat.{ℕ, _/_, _%_, _^_}
 use lib.Dec.{ltb}
 use lib.ListN.{set}
-use borrow.Author.Tests.{ltb-false, le-ltb}
 use Rattle.types.specs.declared.PicLine.{PicLine}
 use Rattle.types.specs.declared.Refusal.the-variants.{OutOfRange}
 use Rattle.types.specs.declared.Reply.{Reply}
@@ -21,7 +19,7 @@ use Rattle.vpic.specs.declared.PicInterruptClaim.{PicInterruptClaim}
 use Rattle.vpic.specs.declared.PicValue.{PicValue}
 use Rattle.vpic.specs.declared.PortRanges.{PortRanges}
 use Rattle.vpic.specs.Words.{PicState}
-use Rattle.vpic.specs.Pair.{StateClaim, claimReply, doneReply, valueReply, claimOutcome, vectorOutcome, doneOutcome, valueOutcome, claimIrq, claimPending, withClaim, withVector, refused, restoreInterrupt, portRanges}
+use Rattle.vpic.specs.Pair.{claimReply, doneReply, valueReply, claimOutcome, vectorOutcome, doneOutcome, valueOutcome, claimIrq, withClaim, withVector, refused, restoreInterrupt, portRanges}
 use Rattle.vpic_c.proofs.Claims.{parts-same}
 use Rattle.vpic_c.specs.Calls.{shown, coded, lent, line, lineOf, rangeWords, claimWith, isClaim, claimOf, restoreCode}
 

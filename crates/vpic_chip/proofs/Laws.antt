@@ -1,17 +1,17 @@
 -- Laws of one chip: which requests count, and a law for each way out of its functions, over free records. Assumes nothing.
 use mathlib.Core.Path.{_≡_, refl, sym, ap, ap₂, subst, _∙_}
 use mathlib.Core.Bool.{Bool, true, false, not, cond, _&&_}
-use Prim.Native.Nat.{ℕ, _+_, _/_, _%_, _^_, _<_, _≤_}
+use Prim.Native.Nat.{ℕ, _%_, _^_, _<_, _≤_}
 use native.Mathlib.Omega.{arith}
 use native.Mathlib.Nat.{mod-lt, zero-div}
 use lib.Dec.{ltb, eqb}
 use lib.Pow.{pow-pos}
 use borrow.Author.Tests.{ltb-true, ltb-false, lt-ltb, le-ltb, ne-eqb, eqb-true, eqb-false, not-true, not-false}
 use Rattle.utils.specs.Set.{bit, with, without, outside, setOf, first, below, lowest}
-use Rattle.utils.specs.Cases.{and-left-no, and-right-no}
+use Rattle.utils.specs.Cases.{cases, and-left-no, and-right-no}
 use Rattle.utils.proofs.Bools.{never, and-true, and-false, and-one}
 use Rattle.utils.proofs.Search.{first-same, first-none, first-holds, first-before}
-use Rattle.utils.proofs.Laws.{bit-above, bit-setOf, bit-outside, bit-cut, outside-lt, setOf-lt, setOf-same, setOf-bits, lowest-le, lowest-before, without-member, bit-with-same, bit-without-other}
+use Rattle.utils.proofs.Laws.{bit-above, bit-setOf, bit-outside, bit-cut, setOf-lt, setOf-same, setOf-bits, lowest-before, without-member, bit-with-same, bit-without-other}
 use Rattle.utils.proofs.Lowest.{lowest-in-byte}
 use Rattle.types.specs.declared.PicLine.{PicLine}
 use Rattle.types.specs.declared.Vector.{Vector}
@@ -184,7 +184,7 @@ module _ (c d : Chip) (k : ℕ) (b : Bool) (f : b ≡ c .«auto_eoi») (ed : d �
 
 pub ack-none : (c : Chip) (l : PicLine) → 8 ≤ l .0 → _≡_ {A = Outcome Chip} (record { state = c; reply = reply.Nothing }) (acknowledge c l)
 unfolding acknowledge
-ack-none c l h = rw (le-ltb (l .0) 8 h)
+ack-none c l h = search cases
 
 pub ack-done : (c d : Chip) (l : PicLine) (b : ℕ) (v : Vector) → l .0 < 8 → b ≡ c .«vector_base» → v ≡ lineVector b l → d ≡ acknowledged c (l .0)
     → _≡_ {A = Outcome Chip} (record { state = d; reply = reply.One (v .0) }) (acknowledge c l)

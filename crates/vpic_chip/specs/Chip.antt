@@ -1,8 +1,8 @@
 -- One 8259A chip: initialization command words ICW1 to ICW4, operation command words OCW1 to OCW3, fully nested mode, end of interrupt,
 -- automatic end of interrupt mode, reading the 8259A status. A set of the chip's eight lines is a number (`Rattle.utils.specs.Set`).
 -- Departures from the data sheet are marked D-nn and stand in docs/DIFFERENCES.md.
-use Prim.Native.Nat.{ℕ, _+_, _*_, _/_, _%_}
-use mathlib.Core.Bool.{Bool, true, false, not, cond, _&&_}
+use Prim.Native.Nat.{ℕ, _*_, _/_, _%_}
+use mathlib.Core.Bool.{Bool, false, not, cond, _&&_}
 use lib.Dec.{ltb, eqb}
 use Rattle.utils.specs.Set.{bit, with, without, first, lowest}
 use Rattle.types.specs.declared.PicLine.{PicLine}

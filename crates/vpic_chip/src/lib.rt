@@ -355,10 +355,10 @@ impl PicChip {
         ensures { λ r. ⌜ r ≡ pendingIrq (chipIn (self .0)) ⌝ }
     {
         let irq = highest_priority(self.waiting());
-        if irq.0 >= 8 {
-            return PendingIrq::Nothing;
+        if irq.0 < 8 {
+            return PendingIrq::Irq(irq);
         }
-        PendingIrq::Irq(irq)
+        PendingIrq::Nothing
     }
 
     // The output, INT: whether a request counts.

@@ -1,11 +1,11 @@
 -- A claim that is restored at once gives back the pair as it was, and serves the highest request of each chip. Assumes nothing.
-use mathlib.Core.Path.{_≡_, refl, sym, ap, ap₂, subst, _∙_}
-use mathlib.Core.Bool.{Bool, true, false, cond, not, true≢false}
-use Prim.Native.Nat.{ℕ, _+_, _-_, _^_, _<_, _≤_}
+use mathlib.Core.Path.{_≡_, refl, ap, ap₂, subst, _∙_}
+use mathlib.Core.Bool.{Bool, true, false, cond}
+use Prim.Native.Nat.{ℕ, _+_, _-_, _^_, _<_}
 use native.Mathlib.Omega.{arith}
 use lib.Dec.{ltb, eqb}
 use lib.Pow.{pow-pos}
-use borrow.Author.Tests.{lt-ltb, le-ltb, ltb-true, eqb-true}
+use borrow.Author.Tests.{lt-ltb, le-ltb, eqb-true}
 use Rattle.utils.specs.Set.{bit, with, without, lowest}
 use Rattle.utils.proofs.Laws.{with-without, without-with}
 use Rattle.types.specs.declared.PicLine.{PicLine}
@@ -18,10 +18,9 @@ use Rattle.vpic_chip.specs.declared.PendingIrq.{PendingIrq}
 use Rattle.vpic_chip.specs.declared.PendingIrq.the-variants.{Irq, Nothing}
 use Rattle.vpic.specs.Words.{PicState}
 use Rattle.vpic.specs.declared.PicInterruptClaim.{PicInterruptClaim}
-use Rattle.vpic.specs.declared.PicClaim.{PicClaim}
 use Rattle.vpic.specs.declared.PicClaim.the-variants.{Claimed, Nothing as NoClaim}
-use Rattle.vpic_chip.specs.Chip.{opened, commanded, fed, pulsed, counts, pendingLine, pendingIrq, acknowledged, unacknowledged, specificEoi}
-use Rattle.vpic.specs.Pair.{StateClaim, Keeps, chips, grew, newState, settled, latchedAt, latched, cascadeIrq, claimed, masterClaim, slaveClaim, cascadePlace, placeFrom, claimAt, claimPending, claimIrq, portWritten, writtenAt, restored, restoreInterrupt}
+use Rattle.vpic_chip.specs.Chip.{opened, commanded, fed, pulsed, counts, pendingLine, pendingIrq, acknowledged, unacknowledged}
+use Rattle.vpic.specs.Pair.{StateClaim, Keeps, chips, grew, newState, settled, latchedAt, latched, cascadeIrq, masterClaim, slaveClaim, cascadePlace, placeFrom, claimAt, claimPending, claimIrq, portWritten, writtenAt, restored, restoreInterrupt}
 use Rattle.vpic_chip.proofs.Laws.{Pending, pended}
 use Rattle.vpic_theorems.specs.Rule.{LatchedKeeps}
 use Rattle.vpic_theorems.proofs.Settled.{settled-between}

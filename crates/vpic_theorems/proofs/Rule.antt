@@ -1,15 +1,15 @@
 -- Every call keeps the cascade rule, and by it no slave request that counts goes unheard. Assumes nothing.
-use mathlib.Core.Path.{_≡_, refl, sym, ap, ap₂, subst, _∙_}
+use mathlib.Core.Path.{_≡_, refl, sym, ap, _∙_}
 use mathlib.Core.Bool.{Bool, true, false, cond, not, _&&_, true≢false}
 use mathlib.Core.List.{List, [], _∷_}
-use Prim.Native.Nat.{ℕ, zero, suc, _+_, _%_, _<_, _≤_}
+use Prim.Native.Nat.{ℕ, _%_, _<_, _≤_}
 use native.Mathlib.Omega.{arith}
 use lib.Dec.{ltb, eqb}
 use borrow.Author.Tests.{lt-ltb, ltb-true, ltb-false}
 use Rattle.utils.specs.Set.{bit, with, without, first, lowest}
 use Rattle.utils.specs.Cases.{and-left-no}
 use Rattle.utils.proofs.Bools.{and-true}
-use Rattle.utils.proofs.Search.{first-le, first-is, first-holds, first-before}
+use Rattle.utils.proofs.Search.{first-is, first-holds, first-before}
 use Rattle.utils.proofs.Laws.{lowest-le, lowest-in}
 use Rattle.types.specs.declared.PicLine.{PicLine}
 use Rattle.types.specs.declared.PicPlace.{PicPlace}
@@ -19,12 +19,11 @@ use Rattle.types.specs.declared.Refusal.the-variants.{Unsupported, OutOfRange}
 use Rattle.types.specs.Counters.{placeOf}
 use Rattle.types.specs.Reply.{Outcome}
 use Rattle.vpic_chip.specs.Registers.{Chip}
-use Rattle.vpic_chip.specs.declared.PendingIrq.the-variants.{Irq, Nothing}
 use Rattle.vpic.specs.Words.{PicState}
 use Rattle.vpic_chip.specs.Chip.{opened, commanded, fed, pulsed, asks, driven, counts, pendingLine, pendingIrq, acknowledged, unacknowledged}
-use Rattle.vpic.specs.Pair.{chips, Keeps, newState, cascadeIrq, isCascade, settled, latchedAt, latched, masterClaim, slaveClaim, pendingPlace, claimAt, claimPending, claimIrq, nothingClaimed, restoredAt, restored, restoreInterrupt, isPort, writtenAt, portWritten, portRead, valueReply, refused}
+use Rattle.vpic.specs.Pair.{chips, Keeps, newState, cascadeIrq, settled, latchedAt, latched, masterClaim, slaveClaim, pendingPlace, claimAt, claimPending, claimIrq, nothingClaimed, restoredAt, restored, isPort, writtenAt, portWritten, portRead, valueReply, refused}
 use Rattle.vpic_theorems.specs.Statements.{Call, claim-irq, claim-pending-interrupt, pulse-irq, next-interrupt, restore-interrupt, handle-read, handle-write, outcome}
-use Rattle.vpic_theorems.specs.Rule.{AsksIfCounts, Highest, CountsIfAsks, run, NewKeeps, CallsKeep, CallsKeepNumber, RunsKeep, ReadsUnchanged, LineTwoLatchesNothing, Clear, Heard, SlaveHeard, SecondCallerHeard, LineTwoUnanswered, UnkeptNotRestored}
+use Rattle.vpic_theorems.specs.Rule.{AsksIfCounts, Highest, CountsIfAsks, run, NewKeeps, CallsKeep, CallsKeepNumber, RunsKeep, ReadsUnchanged, LineTwoLatchesNothing, Clear, SlaveHeard, SecondCallerHeard, LineTwoUnanswered, UnkeptNotRestored}
 use Rattle.vpic_theorems.proofs.Settled.{settled-cascade, driven-with}
 use Rattle.vpic.proofs.Settled.{settled-keeps, settled-kept}
 use Rattle.vpic_theorems.proofs.Restore.{latched-keeps}

@@ -3,7 +3,7 @@ use mathlib.Core.Path.{_≡_, refl, sym, ap, _∙_}
 use mathlib.Core.Bool.{Bool, true, false, cond}
 use Prim.Native.Nat.{ℕ, _+_, _-_, _^_, _<_}
 use native.Mathlib.Omega.{arith}
-use lib.Dec.{ltb, eqb}
+use lib.Dec.{eqb}
 use borrow.Author.Tests.{lt-ltb, eqb-true, eqb-false}
 use Rattle.utils.specs.Set.{bit, with, without}
 use Rattle.utils.proofs.Laws.{bit-with-same, bit-with-other, bit-without-same, bit-without-other, bit-at-least, with-without, without-with, with-member, without-member}

@@ -2,12 +2,11 @@
 -- goes unheard.
 use Prim.Native.Nat.{ℕ, _+_, _<_, _≤_}
 use mathlib.Core.Path.{_≡_}
-use mathlib.Core.Bool.{Bool, true, false}
+use mathlib.Core.Bool.{true, false}
 use mathlib.Core.List.{List, [], _∷_}
 use Rattle.utils.specs.Set.{bit}
 use Rattle.types.specs.declared.Reply.the-variants as reply
 use Rattle.types.specs.declared.PicLine.{PicLine}
-use Rattle.types.specs.Counters.{lineVector}
 use Rattle.vpic_chip.specs.Registers.{Chip}
 use Rattle.vpic.specs.Words.{PicState}
 use Rattle.vpic.specs.declared.PicInterruptClaim.{PicInterruptClaim}

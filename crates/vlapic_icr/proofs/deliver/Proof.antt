@@ -1,3 +1,5 @@
+use mathlib.Core.Path.{ap, _∙_}
+use Rattle.vlapic_icr.specs.Icr.{send}
 use borrow.Author.Needs.{needs}
 use Rattle.vlapic_icr.proofs.deliver.Statement.{statement}
 use Rattle.vlapic_icr.proofs.deliver.Tie as tie
@@ -15,7 +17,7 @@ enum-known-dest-2 : tie.Need-enum-known-dest-2
 enum-known-dest-2 c = search needs
 
 returns : tie.Need-returns
-returns c = rw (c .before .before .before .dest .given .1, ← c .before .below .ensures) (c .send .ensures)
+returns c = rw (c .before .before .before .dest .given .1) (c .send .ensures ∙ ap (send (c .before .before .before .before .before .args .lo)) (c .before .below .ensures))
 
 returns-2 : tie.Need-returns-2
 returns-2 c = rw (c .before .dest2 .given .1)

@@ -1,4 +1,4 @@
-use Rattle.vlapic_words.proofs.Search.{found-7, found-6, found-5, left-4, found-4, found-3, or-last, found-2, found-1, found-none}
+use Rattle.vlapic_words.proofs.Search.{found-7, found-6, found-5, or-last-2, found-4, found-3, found-2, found-1, found-none}
 use borrow.Author.Needs.{needs}
 use Rattle.vlapic_words.proofs.find_isrv.Statement.{statement}
 use Rattle.vlapic_words.proofs.find_isrv.Tie as tie
@@ -8,6 +8,12 @@ add-word c = search needs
 
 word-requires : tie.Need-word-requires
 word-requires c κs = search needs
+
+in-word-requires : tie.Need-in-word-requires
+in-word-requires c κs = search needs
+
+returns : tie.Need-returns
+returns c = search found-7
 
 add-word-2 : tie.Need-add-word-2
 add-word-2 c = search needs
@@ -27,12 +33,6 @@ add-word-4 c = search needs
 word-requires-4 : tie.Need-word-requires-4
 word-requires-4 c κs = search needs
 
-in-word-requires : tie.Need-in-word-requires
-in-word-requires c κs = search needs
-
-returns : tie.Need-returns
-returns c = search found-7
-
 in-word-requires-2 : tie.Need-in-word-requires-2
 in-word-requires-2 c κs = search needs
 
@@ -46,7 +46,7 @@ returns-3 : tie.Need-returns-3
 returns-3 c = search found-5
 
 in-word-requires-4 : tie.Need-in-word-requires-4
-in-word-requires-4 c κs = (search needs, search left-4)
+in-word-requires-4 c κs = (search needs, search or-last-2)
 
 returns-4 : tie.Need-returns-4
 returns-4 c = search found-4
@@ -57,20 +57,20 @@ add-word-5 c = search needs
 word-requires-5 : tie.Need-word-requires-5
 word-requires-5 c κs = search needs
 
-add-word-6 : tie.Need-add-word-6
-add-word-6 c = search needs
-
-word-requires-6 : tie.Need-word-requires-6
-word-requires-6 c κs = search needs
-
 in-word-requires-5 : tie.Need-in-word-requires-5
 in-word-requires-5 c κs = search needs
 
 returns-5 : tie.Need-returns-5
 returns-5 c = search found-3
 
+add-word-6 : tie.Need-add-word-6
+add-word-6 c = search needs
+
+word-requires-6 : tie.Need-word-requires-6
+word-requires-6 c κs = search needs
+
 in-word-requires-6 : tie.Need-in-word-requires-6
-in-word-requires-6 c κs = (search needs, search or-last)
+in-word-requires-6 c κs = search needs
 
 returns-6 : tie.Need-returns-6
 returns-6 c = search found-2
@@ -96,14 +96,14 @@ find-isrv-spec =
     (tie.spec
     add-word
     word-requires
+    in-word-requires
+    returns
     add-word-2
     word-requires-2
     add-word-3
     word-requires-3
     add-word-4
     word-requires-4
-    in-word-requires
-    returns
     in-word-requires-2
     returns-2
     in-word-requires-3
@@ -112,10 +112,10 @@ find-isrv-spec =
     returns-4
     add-word-5
     word-requires-5
-    add-word-6
-    word-requires-6
     in-word-requires-5
     returns-5
+    add-word-6
+    word-requires-6
     in-word-requires-6
     returns-6
     add-word-7

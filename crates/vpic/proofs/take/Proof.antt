@@ -9,8 +9,8 @@ pending-place-requires c κs = search needs
 enum-known-k : tie.Need-enum-known-k
 enum-known-k c = search needs
 
-claim-master-requires : tie.Need-claim-master-requires
-claim-master-requires c κs = search place-known
+take-master-requires : tie.Need-take-master-requires
+take-master-requires c κs = search place-known
 
 enum-known-k-2 : tie.Need-enum-known-k-2
 enum-known-k-2 c = search needs
@@ -36,7 +36,7 @@ take-spec =
     (tie.spec
     pending-place-requires
     enum-known-k
-    claim-master-requires
+    take-master-requires
     enum-known-k-2
     claim-slave-requires
     enum-told

@@ -7,7 +7,7 @@ put-new-requires : tie.Need-put-new-requires
 put-new-requires c κs = search needs
 
 returns : tie.Need-returns
-returns c = search new-default
+returns c = (search new-default, c .put-new .ensures)
 
 pub new-default-spec : {M : Type 1} → statement M
 new-default-spec = tie.close (tie.spec put-new-requires returns)

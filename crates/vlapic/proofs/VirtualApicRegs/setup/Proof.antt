@@ -1,6 +1,7 @@
-use mathlib.Core.Path.{sym, _∙_}
+use mathlib.Core.Path.{sym, ap, _∙_}
 use native.Mathlib.Omega.{arith}
-use Rattle.utils.specs.Cases.{cases}
+use Rattle.utils.specs.Cases.{cond-no, cases}
+use Rattle.vlapic.specs.Answers.{done}
 use Rattle.vlapic.proofs.Range.{in-range}
 use Rattle.vlapic.specs.Calls.{setup}
 use borrow.Author.Needs.{needs}
@@ -30,7 +31,7 @@ ok-requires c κs = search needs
 
 returns-2 : tie.Need-returns-2
 unfolding setup
-returns-2 c = rw (← c .before .reset .ensures) (search cases)
+returns-2 c = cond-no _ _ _ _ _ (sym (c .before .before .before .is-out-of-range .ensures) ∙ c .before .before .if1 .left) (c .ok .ensures ∙ ap done (c .before .reset .ensures))
 
 pub setup-spec : {M : Type 1} → statement M
 setup-spec =

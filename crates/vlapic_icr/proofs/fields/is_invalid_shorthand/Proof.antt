@@ -1,3 +1,4 @@
+use borrow.Author.Tests.{le-leb}
 use Rattle.utils.specs.Cases.{cases}
 use borrow.Author.Needs.{needs}
 use Rattle.vlapic_icr.proofs.fields.is_invalid_shorthand.Statement.{statement}
@@ -7,7 +8,7 @@ includes-self-requires : tie.Need-includes-self-requires
 includes-self-requires c κs = search needs
 
 returns : tie.Need-returns
-returns c = search cases
+returns c = rw (← c .before .before .includes-self .ensures, c .before .if1 .taken, le-leb _ _ (c .if2 .taken))
 
 returns-2 : tie.Need-returns-2
 returns-2 c = search cases

@@ -10,10 +10,10 @@ highest-priority-requires : tie.Need-highest-priority-requires
 highest-priority-requires c κs = search needs
 
 returns : tie.Need-returns
-returns c = search pending-none
+returns c = search pending-some
 
 returns-2 : tie.Need-returns-2
-returns-2 c = search pending-some
+returns-2 c = search pending-none
 
 pub pending-irq-spec : {M : Type 1} → statement M
 pending-irq-spec =

@@ -1,0 +1,21 @@
+-- Fields at the borders of what is good, computed.
+use mathlib.Core.List.{[], _∷_}
+use mathlib.Core.Path.{_≡_, refl}
+use Rattle.script_format.specs.declared.Body.the-variants.{Malformed}
+use Rattle.script_format.specs.declared.Field.the-variants.{Bad}
+use Rattle.script_format.specs.Format.{numberAt, decoded}
+use Rattle.script_format.specs.Fields.{fieldAt}
+
+-- there is no version 0x12, and no rule 2
+pub no-version : decoded 0x06 (0x12 ∷ []) ≡ Malformed
+unfolding decoded numberAt
+no-version = refl
+
+pub no-rule : decoded 0x16 (2 ∷ []) ≡ Malformed
+unfolding decoded numberAt
+no-rule = refl
+
+-- a claim whose line is cut off
+pub cut-off : fieldAt (0x12 ∷ 1 ∷ 0 ∷ []) 0 ≡ Bad
+unfolding fieldAt decoded numberAt
+cut-off = refl
