@@ -4,7 +4,6 @@ use mathlib.Core.Bool.{Bool, not, cond}
 use mathlib.Core.List.{List, [], _∷_}
 use mathlib.Core.Path.{_≡_}
 use lib.Dec.{eqb}
-use Rattle.utils.specs.Set.{with, without}
 use Rattle.types.specs.Reply.{refusalNumber, Outcome}
 use Rattle.types.specs.declared.Refusal.{Refusal}
 use Rattle.types.specs.declared.Reply.{Reply}
@@ -44,14 +43,13 @@ Fits (Three a b c) = (a < 2 ^ 16) × (b < 2 ^ 16) × (c < 2 ^ 16)
 abbrev pub isUp : ℕ → Bool
 isUp n = not (eqb n 0)
 
--- a set of flags with k up or down
-abbrev pub marked : ℕ → ℕ → Bool → ℕ
-marked s k up = cond up (with s k) (without s k)
-
 -- what a call over lent words leaves: the words after it, and its answer's code. Every promise of an exported call is an equation of these
 pub record Lent : Type 0 where
   pub words : List ℕ
   pub code : ℕ
+
+abbrev pub lent : List ℕ → ℕ → Lent
+lent l c = record { words = l; code = c }
 
 -- a refused call leaves the words as they were
 abbrev pub refusing : List ℕ → Refusal → Lent

@@ -11,6 +11,7 @@ use types::Gsi;
 use types::Refusal;
 use types::Reply;
 use types::Vector;
+use utils::seen;
 use utils::set32;
 use utils::set64;
 use vioapic_entry::Entry;
@@ -261,9 +262,6 @@ pub fn entry(words: &[u64; 32], gsi: Gsi) -> Entry
         input_level: false,
     }
 }
-
-// Nothing: lent as a slice, the words are known to be 32.
-fn seen(words: &[u64]) {}
 
 fn entry_in(words: &[u64; 32], g: usize) -> Entry
     requires { ⌜ g < 24 ⌝ }

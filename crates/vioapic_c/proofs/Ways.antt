@@ -10,13 +10,13 @@ use Rattle.types.specs.declared.Refusal.{Refusal}
 use Rattle.types.specs.declared.Refusal.the-variants.{OutOfRange}
 use Rattle.types.specs.declared.Reply.{Reply}
 use Rattle.types.specs.declared.Reply.the-variants.{Refused, Nothing, Two}
-use Rattle.reply_code.specs.Lent.{Lent, replyCode}
+use Rattle.reply_code.specs.Lent.{Lent, replyCode, lent}
 use Rattle.vioapic.specs.Answers.{rangeReply}
 use Rattle.vioapic.specs.State.{IoApicState, view}
 use Rattle.vioapic.specs.IoApic.{Untouched, newOr, Leaves, Makes, setGsiLevel, endOfInterrupt, addressRange}
 use Rattle.vioapic.specs.declared.AddressRange.{AddressRange}
 use Rattle.vioapic.specs.declared.AddressRange.the-variants.{Between, NoRange}
-use Rattle.vioapic_c.specs.Calls.{lent, Coded, Made, endNumber, rangeWords}
+use Rattle.vioapic_c.specs.Calls.{Coded, Made, endNumber, rangeWords}
 
 module _ (l w : List ℕ) (r x : Reply) (n : ℕ) (same : x ≡ r) (en : n ≡ replyCode x) where
   pub coded : (o : Outcome IoApicState) → Leaves l w r o → Coded l w n o

@@ -9,13 +9,9 @@ use Rattle.types.specs.Reply.{Outcome}
 use Rattle.types.specs.declared.Refusal.the-variants.{OutOfRange}
 use Rattle.types.specs.declared.Reply.{Reply}
 use Rattle.types.specs.declared.Reply.the-variants.{Refused, Nothing, One, Two, Three}
-use Rattle.reply_code.specs.Lent.{Lent, Shows, refusing, answering}
+use Rattle.reply_code.specs.Lent.{Lent, Shows, refusing, answering, lent}
 use Rattle.vioapic.specs.State.{IoApicState, view, spare}
 use Rattle.vioapic.specs.IoApic.{Untouched, newOr, refuse, endOfInterrupt, addressRange}
-
--- what a call left
-abbrev pub lent : List ℕ → ℕ → Lent
-lent l c = record { words = l; code = c }
 
 -- the state after a call and its code are those of the outcome; refused, the words are untouched; and what isn't looked at stays as it is
 pub record Coded (before after : List ℕ) (code : ℕ) (o : Outcome IoApicState) : Type 0 where

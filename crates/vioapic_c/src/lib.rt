@@ -2,10 +2,10 @@
 // their layout), its reply as a code.
 
 ghost use mathlib.Core.Path.{_≡_};
-ghost use Rattle.reply_code.specs.Lent.{replyCode, isUp};
+ghost use Rattle.reply_code.specs.Lent.{replyCode, isUp, lent};
 ghost use Rattle.vioapic.specs.State.{view, newWords};
 ghost use Rattle.vioapic.specs.IoApic.{createdVersion, vectorForGsi, assertGsi, setGsiLevel, handleRead, handleWrite};
-ghost use Rattle.vioapic_c.specs.Calls.{lent, Coded, Made, endNumber, rangeWords};
+ghost use Rattle.vioapic_c.specs.Calls.{Coded, Made, endNumber, rangeWords};
 use reply_code::code;
 use reply_code::is_up;
 use types::Gsi;

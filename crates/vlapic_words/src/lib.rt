@@ -20,6 +20,7 @@ ghost use Rattle.vlapic_words.specs.Steps.{startWords, served, marked, m
 use types::Refusal;
 use types::VcpuId;
 use types::Vector;
+use utils::seen;
 use vlapic::EoiAnswer;
 use vlapic::ReadAnswer;
 use vlapic::WriteAnswer;
@@ -73,9 +74,6 @@ const LVT_ERROR: usize = 17;
 const ISR: usize = 18;
 
 const TMR: usize = 26;
-
-// Nothing: lent as a slice, the words are known to be 48.
-fn seen(words: &[u64]) {}
 
 fn word(words: &[u64; 48], k: usize) -> u32
     requires { ⌜ k < 48 ⌝ }

@@ -17,6 +17,7 @@ use types::PicPlace;
 use types::Refusal;
 use types::Reply;
 use types::Vector;
+use utils::seen;
 use vpic_chip::CASCADE_IRQ;
 use vpic_chip::PendingIrq;
 use vpic_chip::PicChip;
@@ -217,9 +218,6 @@ pub fn rule(words: &[u64; 4]) -> u64
 {
     words[2]
 }
-
-// Nothing: lent as a slice, the words are known to be four.
-fn seen(words: &[u64]) {}
 
 fn set_master(words: &mut [u64; 4], chip: PicChip)
     ensures { λ _. ⌜ view (now (words .exit)) ≡ chips (view (now (words .entry))) (chipIn (chip .0)) (view (now (words .entry)) .slave) ⌝ }

@@ -10,7 +10,7 @@ use Rattle.types.specs.declared.Refusal.the-variants.{OutOfRange}
 use Rattle.types.specs.declared.Reply.{Reply}
 use Rattle.types.specs.declared.Reply.the-variants.{Nothing}
 use Rattle.types.specs.Reply.{Outcome}
-use Rattle.reply_code.specs.Lent.{replyCode}
+use Rattle.reply_code.specs.Lent.{replyCode, lent}
 use Rattle.vpic_chip.specs.declared.PicVector.{PicVector}
 use Rattle.vpic_chip.specs.Chip.{vectorReply}
 use Rattle.vpic.specs.declared.PicClaim.{PicClaim}
@@ -21,7 +21,7 @@ use Rattle.vpic.specs.declared.PortRanges.{PortRanges}
 use Rattle.vpic.specs.Words.{PicState}
 use Rattle.vpic.specs.Pair.{claimReply, doneReply, valueReply, claimOutcome, vectorOutcome, doneOutcome, valueOutcome, claimIrq, withClaim, withVector, refused, restoreInterrupt, portRanges}
 use Rattle.vpic_c.proofs.Claims.{parts-same}
-use Rattle.vpic_c.specs.Calls.{shown, coded, lent, line, lineOf, rangeWords, claimWith, isClaim, claimOf, restoreCode}
+use Rattle.vpic_c.specs.Calls.{shown, coded, line, lineOf, rangeWords, claimWith, isClaim, claimOf, restoreCode}
 
 -- a line that is there is itself, and all others claim nothing
 same-claim : (p : PicState) (irq : ℕ) → claimIrq p (lineOf irq) ≡ claimIrq p (line irq)

@@ -10,7 +10,7 @@ use Rattle.types.specs.declared.PicLine.{PicLine}
 use Rattle.types.specs.declared.Refusal.the-variants.{OutOfRange}
 use Rattle.types.specs.declared.Reply.the-variants.{Nothing}
 use Rattle.types.specs.Reply.{Outcome}
-use Rattle.reply_code.specs.Lent.{Lent, replyCode}
+use Rattle.reply_code.specs.Lent.{Lent, replyCode, lent}
 use Rattle.vpic.specs.declared.PicInterruptClaim.{PicInterruptClaim}
 use Rattle.vpic.specs.Words.{PicState}
 use Rattle.vpic.specs.Pair.{portRanges, refused, restoreInterrupt}
@@ -27,9 +27,6 @@ abbrev pub coded : Outcome PicState → Coded
 coded o = record { state = o .state; code = replyCode (o .reply) }
 
 -- the first and the last port of each chip
-abbrev pub lent : List ℕ → ℕ → Lent
-lent l c = record { words = l; code = c }
-
 abbrev pub rangeWords : List ℕ → Lent
 rangeWords l =
     lent (set (set (set (set l 0 (portRanges .master .start)) 1 (portRanges .master .end)) 2 (portRanges .slave .start)) 3 (portRanges .slave .end)) (replyCode Nothing)

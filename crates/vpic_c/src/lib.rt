@@ -5,7 +5,8 @@
 ghost use mathlib.Core.Path.{_≡_};
 ghost use Rattle.vpic.specs.Words.{view};
 ghost use Rattle.vpic.specs.Pair.{newRule, claimIrq, claimPending, withClaim, withVector, handleRead, handleWrite};
-ghost use Rattle.vpic_c.specs.Calls.{shown, coded, lent, line, lineOf, rangeWords, isClaim, claimedLine, claimOf, restoreCode};
+ghost use Rattle.reply_code.specs.Lent.{lent};
+ghost use Rattle.vpic_c.specs.Calls.{shown, coded, line, lineOf, rangeWords, isClaim, claimedLine, claimOf, restoreCode};
 use reply_code::code;
 use types::PicLine;
 use types::Reply;
