@@ -56,7 +56,7 @@ extern "C" {
  *   30       bit g: entry g is in flight, the same as bit 14 of its register
  *   31       spare: 0 in a new state, and no call reads or writes it
  *
- * Bits of words 24 to 26 and 30 that stand for nothing are ignored; a call keeps those of 24, 25 and 30.
+ * Bits of words 24 to 26 and 30 that stand for nothing are ignored; a new state has them 0, and every other call keeps them.
  * Word 30 is there so that an EOI looks only at the entries in flight: it decides which ones, on any words. A new state's agrees with the registers, and so
  * it does after every call on words where it agreed. A caller that writes a register's bit 14 itself has to write word 30 too: an EOI passes over an entry whose
  * bit is missing there.
@@ -66,7 +66,8 @@ extern "C" {
 /* A new I/O APIC of version 0x11. Refused: 4 where base + size is 2^64 or more. */
 uint64_t sillwander_ioapic_new(uint64_t words[32], uint64_t base, uint64_t size);
 
-/* A new I/O APIC of version 0x11 or 0x20. Refused: 1 for another version, then 4 as above. */
+/* A new I/O APIC of version 0x11 or 0x20. Refused: 1 for another number, then 4 as above. The refusal 1 is the boundary's own: behind it a version is one of the
+   two, and nothing else can be said. */
 uint64_t sillwander_ioapic_new_version(uint64_t words[32], uint64_t base, uint64_t size, uint64_t version);
 
 /* A new I/O APIC of version 0x11 at 0xfec00000, of size 0x1000. Answers 0. */
@@ -117,7 +118,7 @@ uint64_t sillwander_ioapic_handle_write(uint64_t words[32], uint64_t addr, uint6
 /* A new pair of rule 0. Answers 0. */
 uint64_t sillwander_pic_new(uint64_t words[4]);
 
-/* A new pair of rule 0 or 1. Refused: 1 for another number. */
+/* A new pair of rule 0 or 1. Refused: 1 for another number. That refusal is the boundary's own: in the core the rule is a type of two values, and a new pair is never refused. */
 uint64_t sillwander_pic_new_rule(uint64_t words[4], uint64_t rule);
 
 /* Writes the first and last port of the master and of the slave to ranges[0..3]. Answers 0. */

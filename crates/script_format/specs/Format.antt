@@ -4,8 +4,8 @@ use mathlib.Core.Bool.{Bool, true, not, cond, _&&_, _||_}
 use mathlib.Core.List.{List, [], _∷_, _++_}
 use lib.Dec.{eqb}
 use lib.ListN.{length, getD}
-use Rattle.vioapic.specs.IoApic.{isVersion}
-use Rattle.vpic.specs.Pair.{isRule}
+use Rattle.vioapic.specs.IoApic.{isVersion, versionOf}
+use Rattle.vpic.specs.Pair.{isRule, ruleIn}
 use Rattle.script_format.specs.declared.IoCall.the-variants as io
 use Rattle.script_format.specs.declared.PicCall.the-variants as pic
 use Rattle.script_format.specs.declared.ApicCall.the-variants as apic
@@ -68,7 +68,7 @@ ioFormats =
     ∷ format 0x03 anything (1 ∷ 1 ∷ []) (λ n. Io (io.SetGsiLevel (record { 0 = n 0 }) (nonzero (n 1))))  -- GSI, up
     ∷ format 0x04 anything (1 ∷ []) (λ n. Io (io.AssertGsi (record { 0 = n 0 })))  -- GSI
     ∷ format 0x05 anything (1 ∷ []) (λ n. Io (io.EndOfInterrupt (record { 0 = n 0 })))  -- vector
-    ∷ format 0x06 isVersion (1 ∷ []) (λ n. IoVersion (n 0))  -- version: 0x11 or 0x20
+    ∷ format 0x06 isVersion (1 ∷ []) (λ n. IoVersion (versionOf (n 0)))  -- version: 0x11 or 0x20
     ∷ []
 
 -- the pair's
@@ -85,7 +85,7 @@ picFormats =
       «master_in_service» = bit0 (n 2);
       «slave_in_service» = bit1 (n 2);
     })))
-    ∷ format 0x16 isRule (1 ∷ []) (λ n. PicRule (n 0))  -- rule: 0 or 1
+    ∷ format 0x16 isRule (1 ∷ []) (λ n. PicRule (ruleIn (n 0)))  -- rule: 0 or 1
     ∷ []
 
 -- the local APIC's

@@ -3,15 +3,16 @@
 ghost use mathlib.Core.Path.{_≡_};
 ghost use Prim.Native.Nat.{_+_, _<_, _^_};
 ghost use Rattle.script_format.specs.Format.{numberAt, isWidth, checked, ioFormats, picFormats, apicFormats, decodedIn, decoded};
-ghost use Rattle.vpic.specs.Pair.{isRule};
 ghost use Rattle.script_format.specs.Chips.{chipOf, isChoice};
 ghost use Rattle.script_format.specs.Fields.{fieldOf, fieldAt};
 use types::Gsi;
 use types::PicLine;
 use types::VcpuId;
 use types::Vector;
+use vioapic::IoApicVersion;
 use vioapic::is_version;
 use vpic::PicInterruptClaim;
+use vpic::PicRule;
 
 // Calls of the I/O APIC.
 pub enum IoCall {
@@ -52,9 +53,9 @@ pub enum ApicCall {
 // A call of a chip, or a choice, which makes a new one: of the I/O APIC's version, of the pair's rule.
 pub enum Call {
     Io(IoCall),
-    IoVersion(u8),
+    IoVersion(IoApicVersion),
     Pic(PicCall),
-    PicRule(u8),
+    PicRule(PicRule),
     Apic(ApicCall),
 }
 
@@ -160,15 +161,6 @@ fn is_width(code: u8) -> bool
     code == 8
 }
 
-fn is_rule(rule: u8) -> bool
-    ensures { λ r. ⌜ r ≡ isRule rule ⌝ }
-{
-    if rule == 0 {
-        return true;
-    }
-    rule == 1
-}
-
 // The call, if the body has its size and its first number is one that may stand there.
 fn checked(body: &[u8], size: usize, may_start: bool, call: Call) -> Body
     ensures { λ r. ⌜ r ≡ checked (now (body .entry)) size «may_start» call ⌝ }
@@ -217,13 +209,9 @@ fn decode_io(tag: u8, body: &[u8]) -> Body
             checked(body, 1, true, Call::Io(call))
         }
         0x06 => {
-            let version = byte(body, 0);
-            checked(
-                body,
-                1,
-                is_version(version as u64),
-                Call::IoVersion(version),
-            )
+            let number = byte(body, 0) as u64;
+            let call = Call::IoVersion(IoApicVersion::of(number));
+            checked(body, 1, is_version(number), call)
         }
         _ => Body::Malformed,
     }
@@ -270,8 +258,9 @@ fn decode_pic(tag: u8, body: &[u8]) -> Body
             checked(body, 3, true, Call::Pic(call))
         }
         0x16 => {
-            let rule = byte(body, 0);
-            checked(body, 1, is_rule(rule), Call::PicRule(rule))
+            let number = byte(body, 0) as u64;
+            let call = Call::PicRule(PicRule::from_number(number));
+            checked(body, 1, PicRule::is_number(number), call)
         }
         _ => Body::Malformed,
     }

@@ -6,10 +6,15 @@ use Rattle.types.specs.Reply.{Outcome, outcomeOf}
 use Rattle.types.specs.declared.Reply.{Reply}
 use Rattle.vioapic.specs.State.{IoApicState}
 use Rattle.vioapic.specs.State as io-words
+use Rattle.types.specs.declared.Reply.the-variants.{Nothing}
+use Rattle.vioapic.specs.declared.IoApicVersion.{IoApicVersion}
+use Rattle.vioapic.specs.declared.IoApicVersion.the-variants.{V11}
 use Rattle.vioapic.specs.IoApic.{Makes, createdVersion}
 use Rattle.vioapic.specs.Calls.{outcome}
 use Rattle.vpic.specs.Words as pic-words
-use Rattle.vpic.specs.Pair.{newState, newRule}
+use Rattle.vpic.specs.declared.PicRule.{PicRule as Rule}
+use Rattle.vpic.specs.declared.PicRule.the-variants.{Latch}
+use Rattle.vpic.specs.Pair.{newState}
 use Rattle.vlapic_words.specs.Calls.{IsNew}
 use Rattle.script_format.specs.declared.IoCall.{IoCall}
 use Rattle.script_format.specs.declared.PicCall.{PicCall}
@@ -33,20 +38,21 @@ module _ (io pair l : List ℕ) (vm vm′ : Vm) (call : Call) (r : Reply) (e : v
   unfolding performed machineIn
   perform-io io′ c k h = rw (e, k, ← h)
 
-  pub perform-version : (io′ : List ℕ) (version : ℕ) → call ≡ IoVersion version → outcomeOf (io-words.view io′) r ≡ chosen (io-words.view io) version
+  pub perform-version : (io′ : List ℕ) (version : IoApicVersion) → call ≡ IoVersion version → outcomeOf (io-words.view io′) r ≡ createdVersion (io-words.view io) 0xfec00000 0x1000 version
       → outcomeOf (machineIn io′ pair l vm′) r ≡ performed (machineIn io pair l vm) call
-  unfolding performed machineIn
-  perform-version io′ version k h = rw (e, k, ← h)
+  unfolding performed machineIn createdVersion
+  perform-version io′ version k h =
+      rw (e, k) (ap (λ (o : Outcome IoApicState). outcomeOf (record { ioapic = o .state; pic = pic-words.view pair; local = localIn l vm; used = usedAfter (vm .used) (IoVersion version) }) (o .reply)) h)
 
   pub perform-pic : (pair′ : List ℕ) (c : PicCall) → call ≡ Pic c → outcomeOf (pic-words.view pair′) r ≡ picOutcome (pic-words.view pair) c
       → outcomeOf (machineIn io pair′ l vm′) r ≡ performed (machineIn io pair l vm) call
   unfolding performed machineIn
   perform-pic pair′ c k h = rw (e, k, ← h)
 
-  pub perform-rule : (pair′ : List ℕ) (rule : ℕ) → call ≡ PicRule rule → outcomeOf (pic-words.view pair′) r ≡ newRule (pic-words.view pair) rule
-      → outcomeOf (machineIn io pair′ l vm′) r ≡ performed (machineIn io pair l vm) call
+  pub perform-rule : (pair′ : List ℕ) (rule : Rule) → call ≡ PicRule rule → pic-words.view pair′ ≡ newState rule
+      → outcomeOf (machineIn io pair′ l vm′) Nothing ≡ performed (machineIn io pair l vm) call
   unfolding performed machineIn
-  perform-rule pair′ rule k h = rw (e, k, ← h)
+  perform-rule pair′ rule k h = rw (e, k, h)
 
   pub perform-local : (l′ : List ℕ) (vm″ : Vm) (c : ApicCall) → call ≡ Apic c → vm″ .used ≡ vm′ .used → outcomeOf (localIn l′ vm″) r ≡ localOutcome (localIn l vm′) c
       → outcomeOf (machineIn io pair l′ vm″) r ≡ performed (machineIn io pair l vm) call
@@ -57,7 +63,7 @@ module _ (io pair l : List ℕ) (vm vm′ : Vm) (call : Call) (r : Reply) (e : v
       rw (w, k) (ap (λ (o : Outcome Local). outcomeOf (record { ioapic = io-words.view io; pic = pic-words.view pair; local = o .state; used = usedAfter (vm .used) (Apic c) }) (o .reply)) q)
 
 -- a new machine
-pub new-machine : (before io pair l new : List ℕ) (m : IoApicState) (r : Reply) → Makes before io r (createdVersion m 0xfec00000 0x1000 0x11) new → pic-words.view pair ≡ newState 0 → IsNew l
+pub new-machine : (before io pair l new : List ℕ) (m : IoApicState) (r : Reply) → Makes before io r (createdVersion m 0xfec00000 0x1000 V11) new → pic-words.view pair ≡ newState Latch → IsNew l
     → machineIn io pair l (record { «vcpu_num» = 1; «active_vcpus» = 1; used = unused }) ≡ newMachine
 unfolding machineIn newMachine createdVersion
 new-machine before io pair l new m r h p n = rw (ap (λ (o : Outcome IoApicState). o .state) (h .outcome), p, n .registers)

@@ -1,6 +1,7 @@
 -- Runs and calls, computed.
 use mathlib.Core.List.{[], _∷_}
 use mathlib.Core.Path.{_≡_, refl}
+use Rattle.vpic.specs.declared.PicRule.the-variants.{Latch}
 use Rattle.vpic.specs.Pair.{newState}
 use Rattle.script_format.specs.declared.Call.the-variants.{PicRule}
 use Rattle.script_format.specs.Format.{numberAt, decoded}
@@ -15,6 +16,6 @@ unfolding fieldCount fieldFor fieldAt decoded numberAt
 bad-uncounted = refl
 
 -- the rule that is chosen
-pub rule-chosen : performed newMachine (PicRule 0) .state .pic .rule ≡ 0
+pub rule-chosen : performed newMachine (PicRule Latch) .state .pic .rule ≡ 0
 unfolding performed newMachine newState
 rule-chosen = refl

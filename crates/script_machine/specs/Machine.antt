@@ -6,12 +6,15 @@ use lib.Dec.{eqb}
 use Rattle.types.specs.Reply.{Outcome, outcomeOf, replyNumber}
 use Rattle.types.specs.declared.VcpuId.{VcpuId}
 use Rattle.types.specs.declared.Reply.{Reply}
+use Rattle.types.specs.declared.Reply.the-variants.{Nothing}
 use Rattle.vioapic.specs.State.{IoApicState}
 use Rattle.vioapic.specs.State as io-words
-use Rattle.vioapic.specs.IoApic.{newDefault, createdVersion}
+use Rattle.vioapic.specs.declared.IoApicVersion.{IoApicVersion}
+use Rattle.vioapic.specs.IoApic.{chipOf, versionNumber, newDefault}
 use Rattle.vioapic.specs.Calls as ioapic
 use Rattle.vpic.specs.Words.{PicState}
 use Rattle.vpic.specs.Words as pic-words
+use Rattle.vpic.specs.declared.PicRule.the-variants.{Latch}
 use Rattle.vpic.specs.Pair as vpic
 use Rattle.vlapic.specs.declared.VirtualApicRegs.{VirtualApicRegs}
 use Rattle.vlapic.specs.Regs.{start}
@@ -86,7 +89,7 @@ unused = record { io = false; pic = false }
 unfoldable pub newMachine : Machine
 newMachine = record {
   ioapic = newDefault;
-  pic = vpic.newState 0;
+  pic = vpic.newState Latch;
   local = record { apic = start false 0; «vcpu_num» = 1; «active_vcpus» = 1 };
   used = unused;
 }
@@ -102,8 +105,8 @@ ioCall (io.AssertGsi gsi) = ioapic.AssertGsi gsi
 ioCall (io.EndOfInterrupt vector) = ioapic.EndOfInterrupt vector
 
 -- the choice of its version makes a new one of it, at the usual address
-abbrev pub chosen : IoApicState → ℕ → Outcome IoApicState
-chosen m version = createdVersion m 0xfec00000 0x1000 version
+abbrev pub chosen : IoApicVersion → IoApicState
+chosen version = chipOf (versionNumber version) 0xfec00000 0x1000
 
 unfoldable pub picOutcome : PicState → PicCall → Outcome PicState
 picOutcome p (pair.HandleRead port width) = vpic.handleRead p port width
@@ -138,9 +141,9 @@ inMachine put o = record { state = put (o .state); reply = o .reply }
 -- what a call does to its chip
 abbrev pub applied : Machine → Call → Outcome Machine
 applied m (Io c) = inMachine (withIoapic m) (ioapic.outcome (m .ioapic) (ioCall c))
-applied m (IoVersion version) = inMachine (withIoapic m) (chosen (m .ioapic) version)
+applied m (IoVersion version) = outcomeOf (withIoapic m (chosen version)) Nothing
 applied m (Pic c) = inMachine (withPic m) (picOutcome (m .pic) c)
-applied m (PicRule rule) = inMachine (withPic m) (vpic.newRule (m .pic) rule)
+applied m (PicRule rule) = outcomeOf (withPic m (vpic.newState rule)) Nothing
 applied m (Apic c) = inMachine (withLocal m) (localOutcome (m .local) c)
 
 -- what a machine has beside its chips, after a call

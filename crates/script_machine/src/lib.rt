@@ -243,7 +243,7 @@ pub fn perform(
                 &mut *ioapic,
                 IOAPIC_BASE,
                 IOAPIC_SIZE,
-                version as u64,
+                version,
             ).reply();
             Performed { vm, reply }
         }
@@ -252,8 +252,11 @@ pub fn perform(
             Performed { vm, reply }
         }
         Call::PicRule(rule) => {
-            let reply = vpic::new_rule(&mut *pic, rule as u64).reply();
-            Performed { vm, reply }
+            vpic::new_rule(&mut *pic, rule);
+            Performed {
+                vm,
+                reply: Reply::Nothing,
+            }
         }
         Call::Apic(c) => call_apic(&mut *apic, vm, c),
     }

@@ -10,10 +10,9 @@ use Rattle.vioapic_theorems.specs.Heard20.{eoisAt}
 use Rattle.vioapic_theorems.proofs.Keeps.{new-keeps-rules, calls-keep-rules, calls-keep-version}
 use Rattle.vioapic_theorems.proofs.Demand.{heard-from-rules}
 use Rattle.vioapic_theorems.proofs.Heard20.{heard-20}
-use Rattle.utils.proofs.Bools.{both}
-use Rattle.types.specs.Reply.{Outcome}
 use Rattle.vioapic.specs.State.{IoApicState}
-use Rattle.vioapic.specs.IoApic.{isVersion, createdVersion}
+use Rattle.vioapic.specs.declared.IoApicVersion.{IoApicVersion}
+use Rattle.vioapic.specs.IoApic.{versionNumber}
 use Rattle.vioapic_theorems.specs.Rules.{ChipRules}
 use Rattle.vioapic.specs.Calls.{outcome, run}
 use Rattle.script_format.specs.declared.Call.{Call}
@@ -81,17 +80,13 @@ new-rules : MachineRules newMachine
 unfolding newMachine
 new-rules = record { rules = new-keeps-rules 0x11 0xfec00000 0x1000; place = refl }
 
-made-keeps : (m : IoApicState) (v : ℕ) → ChipRules m → m .base ≡ 0xfec00000 → ChipRules (chosen m v .state) × (chosen m v .state .base ≡ 0xfec00000)
-unfolding createdVersion
-made-keeps m v k p = both (λ (o : Outcome IoApicState). ChipRules (o .state) × (o .state .base ≡ 0xfec00000)) (isVersion v) _ _ (new-keeps-rules v 0xfec00000 0x1000, refl) (k, p)
-
 one-keeps : (m : Machine) (c : Call) → MachineRules m → MachineRules (performed m c .state)
 unfolding performed
 one-keeps m (Io c) k = record {
   rules = calls-keep-rules (m .ioapic) (ioCall c) (k .rules);
   place = calls-keep-version (m .ioapic) (ioCall c) .1 ∙ k .place;
 }
-one-keeps m (IoVersion v) k = let q = made-keeps (m .ioapic) v (k .rules) (k .place) in record { rules = q .0; place = q .1 }
+one-keeps m (IoVersion v) k = record { rules = new-keeps-rules (versionNumber v) 0xfec00000 0x1000; place = refl }
 one-keeps m (Pic c) k = record { rules = k .rules; place = k .place }
 one-keeps m (PicRule rule) k = record { rules = k .rules; place = k .place }
 one-keeps m (Apic c) k = record { rules = k .rules; place = k .place }

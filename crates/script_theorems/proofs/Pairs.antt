@@ -4,13 +4,10 @@ use mathlib.Core.Bool.{Bool, true, false, cond, not, _&&_}
 use mathlib.Core.List.{List, [], _∷_}
 use mathlib.Core.Path.{_≡_, refl, ap, _∙_}
 use native.Mathlib.Omega.{arith}
-use Rattle.utils.proofs.Bools.{both}
 use Rattle.types.specs.Reply.{Outcome}
-use Rattle.types.specs.declared.Refusal.the-variants.{Unsupported}
-use Rattle.types.specs.declared.Reply.the-variants.{Nothing}
 use Rattle.vpic.specs.Words.{PicState}
-use Rattle.vpic.specs.Pair.{isRule, newState, refused, newRule}
-use Rattle.vpic.specs.Pair.{Keeps}
+use Rattle.vpic.specs.declared.PicRule.the-variants.{Latch}
+use Rattle.vpic.specs.Pair.{newState, Keeps}
 use Rattle.vpic_theorems.proofs.Rule.{new-keeps, calls-keep, calls-keep-number, slave-heard}
 use Rattle.script_format.specs.declared.Call.{Call}
 use Rattle.script_format.specs.declared.Call.the-variants.{Io, IoVersion, Pic, PicRule, Apic}
@@ -27,14 +24,6 @@ use Rattle.script_theorems.proofs.Calls.{picCall, as-call, later}
 
 kept-number : (p : PicState) (c : PicCall) → picOutcome p c .state .rule ≡ p .rule
 kept-number p c = ap (λ (o : Outcome PicState). o .state .rule) (as-call p c) ∙ calls-keep-number p (picCall c)
-
-ruled-number : (p : PicState) (n : ℕ) → newRule p n .state .rule ≡ cond (isRule n) n (p .rule)
-unfolding newState
-ruled-number p n = go (isRule n)
-  where
-    go : (b : Bool) → cond b (record { state = newState n; reply = Nothing }) (refused p Unsupported) .state .rule ≡ cond b n (p .rule)
-    go true = refl
-    go false = refl
 
 -- once the pair was used no rule is chosen
 no-rule : (used : Used) (rule : ℕ) (cs : List Call) → used .pic ≡ true → inTime used cs ≡ true → ruleChosen rule cs ≡ rule
@@ -58,21 +47,17 @@ pair-rule used m (Pic c ∷ cs) h =
 pair-rule used m (PicRule n ∷ cs) h =
     pair-rule (usedAfter used (PicRule n)) (performed m (PicRule n) .state) cs (later used (PicRule n) cs h)
     ∙ no-rule (usedAfter used (PicRule n)) (performed m (PicRule n) .state .pic .rule) cs refl (later used (PicRule n) cs h)
-    ∙ ruled-number (m .pic) n
 pair-rule used m (Apic c ∷ cs) h =
     pair-rule (usedAfter used (Apic c)) (performed m (Apic c) .state) cs (later used (Apic c) cs h)
 
 -- ---- the rule kept
-
-ruled-keeps : (p : PicState) (n : ℕ) → Keeps p → Keeps (newRule p n .state)
-ruled-keeps p n k = both (λ (o : Outcome PicState). Keeps (o .state)) (isRule n) _ _ (new-keeps n) k
 
 one-keeps : (m : Machine) (c : Call) → Keeps (m .pic) → Keeps (performed m c .state .pic)
 unfolding performed
 one-keeps m (Io c) k = k
 one-keeps m (IoVersion v) k = k
 one-keeps m (Pic c) k = rw (as-call (m .pic) c) (calls-keep (m .pic) (picCall c) k)
-one-keeps m (PicRule rule) k = ruled-keeps (m .pic) rule k
+one-keeps m (PicRule rule) k = new-keeps rule
 one-keeps m (Apic c) k = k
 
 all-keep : (m : Machine) (cs : List Call) → Keeps (m .pic) → Keeps (afterCalls m cs .pic)
@@ -82,7 +67,7 @@ all-keep m (c ∷ cs) k = all-keep (performed m c .state) cs (one-keeps m c k)
 
 new-machine-keeps : Keeps (newMachine .pic)
 unfolding newMachine
-new-machine-keeps = new-keeps 0
+new-machine-keeps = new-keeps Latch
 
 pub pair-keeps : PairKeeps
 pair-keeps s a = all-keep newMachine (callsFrom s (newMachine .used) 0 a) new-machine-keeps

@@ -10,10 +10,7 @@ use Rattle.types.specs.declared.Reply.{Reply}
 use Rattle.types.specs.declared.Reply.the-variants as reply
 use Rattle.vioapic_theorems.proofs.Keeps.{refused-keeps}
 use Rattle.vpic.specs.Words.{PicState}
-use Rattle.vpic.specs.Pair.{isRule, newState, refused, newRule}
 use Rattle.vioapic.specs.State.{IoApicState}
-use Rattle.vioapic.specs.IoApic.{fits, isVersion, chipOf, refuse, createdVersion}
-use Rattle.types.specs.declared.Refusal.the-variants.{Unsupported, InvalidAddress}
 use Rattle.vpic_theorems.proofs.Calls.{refused-unchanged}
 use Rattle.vlapic.specs.declared.VirtualApicRegs.{VirtualApicRegs}
 use Rattle.vlapic.specs.Priority.{findIsrv, broadcasts, acceptInterrupt, endOf, handleEoi}
@@ -84,32 +81,10 @@ local-kept l (local.HandleRead offset) n = refl
 local-kept l (local.Setup x2apic id num active) n =
     setup-kept l (vlapic.setup (l .apic) x2apic id num) num active (λ r. setup-left (l .apic) x2apic id num r) n
 
--- a refused choice
-made-kept : (m : IoApicState) (base size version : ℕ) → (replyNumber (createdVersion m base size version .reply) ≡ 0 → ⊥) → createdVersion m base size version .state ≡ m
-unfolding createdVersion
-made-kept m base size version n = go (isVersion version) (fits base size) n
-  where
-    made : Outcome IoApicState
-    made = record { state = chipOf version base size; reply = reply.Nothing }
-
-    go : (b d : Bool) → (replyNumber (cond b (cond d made (refuse m InvalidAddress)) (refuse m Unsupported) .reply) ≡ 0 → ⊥)
-        → cond b (cond d made (refuse m InvalidAddress)) (refuse m Unsupported) .state ≡ m
-    go true true r = absurd (r refl)
-    go true false r = refl
-    go false d r = refl
-
-ruled-kept : (p : PicState) (rule : ℕ) → (replyNumber (newRule p rule .reply) ≡ 0 → ⊥) → newRule p rule .state ≡ p
-ruled-kept p rule n = go (isRule rule) n
-  where
-    go : (b : Bool) → (replyNumber (cond b (record { state = newState rule; reply = reply.Nothing }) (refused p Unsupported) .reply) ≡ 0 → ⊥)
-        → cond b (record { state = newState rule; reply = reply.Nothing }) (refused p Unsupported) .state ≡ p
-    go true r = absurd (r refl)
-    go false r = refl
-
 pub machine-unchanged : RefusedUnchanged
 unfolding performed
 machine-unchanged m (Io c) n = ap (put-io m (Io c)) (refused-keeps (m .ioapic) (ioCall c) n)
-machine-unchanged m (IoVersion version) n = ap (put-io m (IoVersion version)) (made-kept (m .ioapic) 0xfec00000 0x1000 version n)
+machine-unchanged m (IoVersion version) n = absurd (n refl)
 machine-unchanged m (Pic c) n = ap (put-pic m (Pic c)) (pair-kept (m .pic) c n)
-machine-unchanged m (PicRule rule) n = ap (put-pic m (PicRule rule)) (ruled-kept (m .pic) rule n)
+machine-unchanged m (PicRule rule) n = absurd (n refl)
 machine-unchanged m (Apic c) n = ap (withLocal m) (local-kept (m .local) c n)

@@ -7,8 +7,9 @@ use Prim.Native.Nat.{ℕ, zero, suc, _+_, _≤_, _<_}
 use native.Mathlib.Nat.{suc-add, zero-add}
 use native.Mathlib.Omega.{arith}
 use lib.Dec.{leb, ltb}
-use lib.ListN.{length, getD}
-use borrow.Author.Tests.{le-leb, leb-true, ltb-false}
+use lib.ListN.{length, getD, take, drop, length-append, length-drop, List·getD-append}
+use lib.Seq.{take-append-le, drop-append-le}
+use borrow.Author.Tests.{le-leb, lt-leb, le-ltb, leb-true, ltb-false}
 use Rattle.utils.proofs.Bools.{or-false}
 use Rattle.types.specs.declared.Reply.{Reply}
 use Rattle.script_format.specs.declared.Call.{Call}
@@ -21,8 +22,8 @@ use Rattle.script_format.specs.declared.Body.the-variants.{Says, Malformed}
 use Rattle.script_format.specs.declared.Cursor.{Cursor}
 use Rattle.script_format.specs.declared.Field.{Field}
 use Rattle.script_format.specs.declared.Field.the-variants.{Good, Bad, End}
-use Rattle.script_format.specs.Format.{decoded}
-use Rattle.script_format.specs.Fields.{endAt, bodyAt, fieldOf, fieldAt}
+use Rattle.script_format.specs.Format.{numberAt, decoded}
+use Rattle.script_format.specs.Fields.{lengthAt, endAt, bodyAt, fieldOf, fieldAt}
 use Rattle.script_machine.specs.declared.Used.{Used}
 use Rattle.script_machine.specs.declared.Stop.{Stop}
 use Rattle.script_machine.specs.declared.Stop.the-variants as stop
@@ -30,7 +31,7 @@ use Rattle.script_machine.specs.Late.{wasUsed, nowUsed, isLate, usedAfter, take
 use Rattle.script_machine.specs.Machine.{Machine, unused, newMachine, performed}
 use Rattle.script_machine.specs.Run.{Run, byField, fieldCount, placeAfter, stopAfter, callsFrom, afterCalls, replies, runOf}
 use Rattle.script_machine.proofs.Runs.{remembers}
-use Rattle.script_theorems.specs.Runs.{Counted, Together, InTwo, answersOf, AnsweredInTwo, bars, barred, Remembered, LateIsBad, inTime, InTime, Within, Beyond, Ended, Ends}
+use Rattle.script_theorems.specs.Runs.{Counted, Together, InTwo, answersOf, AnsweredInTwo, bars, barred, Remembered, LateIsBad, inTime, InTime, Within, Beyond, Ended, Ends, NothingAtBad, NothingBehindBad}
 
 -- ---- the count
 
@@ -146,18 +147,22 @@ body-within : (tag next : ℕ) (b : Body) (tag′ : ℕ) (c : Call) (after : Cur
 body-within tag next (Says call) tag′ c after e = ap (λ (f : Field). byField f (λ call at. at) 0 0) (sym e)
 body-within tag next Malformed tag′ c after e = let z : _≡_ {A = ℕ} 0 1 = cc in absurd (omega arith)
 
-good-within : (s : List ℕ) (at tag : ℕ) (c : Call) (next : Cursor) → fieldAt s at ≡ Good tag c next → next .at ≤ length s
+-- the field at the place is all there, if it is good
+good-whole : (s : List ℕ) (at tag : ℕ) (c : Call) (next : Cursor) → fieldAt s at ≡ Good tag c next → (next .at ≡ endAt s at) × (endAt s at ≤ length s)
 unfolding fieldAt
-good-within s at tag c next e = go (leb (length s) at) (ltb (length s) (at + 3)) (ltb (length s) (endAt s at)) refl e
+good-whole s at tag c next e = go (leb (length s) at) (ltb (length s) (at + 3)) (ltb (length s) (endAt s at)) refl e
   where
     go : (b₁ b₂ b₃ : Bool) → ltb (length s) (endAt s at) ≡ b₃
         → cond b₁ End (cond b₂ Bad (cond b₃ Bad (fieldOf (getD s at 0) (decoded (getD s at 0) (bodyAt s at)) (endAt s at)))) ≡ Good tag c next
-        → next .at ≤ length s
+        → (next .at ≡ endAt s at) × (endAt s at ≤ length s)
     go true b₂ b₃ t p = let z : _≡_ {A = ℕ} 0 1 = cc in absurd (omega arith)
     go false true b₃ t p = let z : _≡_ {A = ℕ} 0 1 = cc in absurd (omega arith)
     go false false true t p = let z : _≡_ {A = ℕ} 0 1 = cc in absurd (omega arith)
     go false false false t p =
-        omega (arith, ltb-false (length s) (endAt s at) t, body-within (getD s at 0) (endAt s at) (decoded (getD s at 0) (bodyAt s at)) tag c next p)
+        (body-within (getD s at 0) (endAt s at) (decoded (getD s at 0) (bodyAt s at)) tag c next p, ltb-false (length s) (endAt s at) t)
+
+good-within : (s : List ℕ) (at tag : ℕ) (c : Call) (next : Cursor) → fieldAt s at ≡ Good tag c next → next .at ≤ length s
+good-within s at tag c next e = let w = good-whole s at tag c next e in omega (arith, w .0, w .1)
 
 pub within : Within
 unfolding placeAfter
@@ -276,3 +281,58 @@ answered-in-two s m at (suc a) b = go (fieldFor s (m .used) at) refl (λ m′ ne
         rw (suc-add a b, e) (ap (λ (l : List Reply). performed m c .reply ∷ l) h)
     go Bad e ih = rw (suc-add a b, e) (sym (idle-bad s m at b e .answers))
     go End e ih = rw (suc-add a b, e) (sym (idle-end s m at b e .answers))
+
+-- ---- a bad field
+
+pub nothing-at-bad : NothingAtBad
+nothing-at-bad s m at n e h =
+    let i = idle-bad s m at n e in rw (i .machine, i .done, i .place, i .stop h)
+
+-- a field that is all there is the same with bytes behind it
+module _ (s x : List ℕ) (at : ℕ) where
+  length-behind : at + 3 ≤ length s → lengthAt (s ++ x) at ≡ lengthAt s at
+  unfolding numberAt
+  length-behind h = rw (List·getD-append s x 0 (at + 1) (omega arith), List·getD-append s x 0 (suc (at + 1)) (omega arith))
+
+  body-behind : endAt s at ≤ length s → bodyAt (s ++ x) at ≡ bodyAt s at
+  body-behind h =
+      rw (length-behind (omega arith), drop-append-le (at + 3) s x (omega arith))
+      (take-append-le (lengthAt s at) (drop (at + 3) s) x (omega (arith, length-drop (at + 3) s)))
+
+  field-behind : endAt s at ≤ length s → fieldAt (s ++ x) at ≡ fieldAt s at
+  unfolding fieldAt
+  field-behind h =
+      let n = length-append s x in
+      rw (body-behind h, length-behind (omega arith), List·getD-append s x 0 at (omega arith), lt-leb (length s) at (omega arith), le-ltb (length s) (at + 3) (omega arith), le-ltb (length s) (endAt s at) h, lt-leb (length (s ++ x)) at (omega arith), le-ltb (length (s ++ x)) (at + 3) (omega arith), le-ltb (length (s ++ x)) (endAt s at) (omega arith))
+
+for-behind : (s x : List ℕ) (used : Used) (at : ℕ) → endAt s at ≤ length s → fieldFor (s ++ x) used at ≡ fieldFor s used at
+unfolding fieldFor
+for-behind s x used at h = ap (taken used) (field-behind s x at h)
+
+-- what is read off the bytes, of both scripts
+record Alike (s t : List ℕ) (used : Used) (at n : ℕ) : Type 0 where
+  calls : callsFrom t used at n ≡ callsFrom s used at n
+  done : fieldCount t used at n ≡ fieldCount s used at n
+  place : placeAfter t used at n ≡ placeAfter s used at n
+  stop : stopAfter t used at n ≡ stopAfter s used at n
+
+alike-behind : (s x : List ℕ) (used : Used) (at n : ℕ) → stopAfter s used at n ≡ stop.BadField → endAt s (placeAfter s used at n) ≤ length s → Alike s (s ++ x) used at n
+unfolding callsFrom fieldCount placeAfter stopAfter
+alike-behind s x used at zero b h = let z : _≡_ {A = ℕ} 0 1 = cc in absurd (omega arith)
+alike-behind s x used at (suc n) b h = go (fieldFor s used at) refl b h (λ u next. alike-behind s x u next n)
+  where
+    go : (f : Field) → fieldFor s used at ≡ f
+        → byField f (λ call next. stopAfter s (usedAfter used call) next n) stop.BadField stop.End ≡ stop.BadField
+        → endAt s (byField f (λ call next. placeAfter s (usedAfter used call) next n) at at) ≤ length s
+        → ((u : Used) (next : ℕ) → stopAfter s u next n ≡ stop.BadField → endAt s (placeAfter s u next n) ≤ length s → Alike s (s ++ x) u next n)
+        → Alike s (s ++ x) used at (suc n)
+    go (Good tag c next) e p w ih =
+        let a = ih (usedAfter used c) (next .at) p w in
+        let f = for-behind s x used at (good-whole s at tag c next (good-at s used at tag c next e) .1) in
+        record { calls = rw (f, e, a .calls); done = rw (f, e, a .done); place = rw (f, e, a .place); stop = rw (f, e, a .stop) }
+    go Bad e p w ih = let f = for-behind s x used at w in record { calls = rw (f, e); done = rw (f, e); place = rw (f, e); stop = rw (f, e) }
+    go End e p w ih = let z : _≡_ {A = ℕ} 0 1 = cc in absurd (omega arith)
+
+pub nothing-behind-bad : NothingBehindBad
+nothing-behind-bad s x m at n b h =
+    let a = alike-behind s x (m .used) at n b h in (rw (a .calls, a .done, a .place, a .stop), rw (a .calls))

@@ -1,7 +1,7 @@
 -- The numbered examples 1 to 12 of document 01, about the definitions: one list under one statement, computed. Each is a list of calls on a new machine, what
 -- each of them says back (the number, and then the values), and what is looked at in the machine after them. And four more of the same form: of T-01, last spring's lines in
 -- both versions; of T-02, examples 7 and 8 under the cascade rule.
-use Prim.Native.Nat.{ℕ}
+use Prim.Native.Nat.{ℕ, suc}
 use mathlib.Core.Bool.{Bool, true, false}
 use mathlib.Core.List.{List, [], _∷_, map}
 use mathlib.Core.Path.{_≡_, refl}
@@ -13,6 +13,9 @@ use Rattle.vioapic.specs.Table as table
 use Rattle.vioapic.specs.Registers as window
 use Rattle.vioapic.specs.IoApic as vioapic
 use Rattle.vioapic.specs.Calls as ioapic
+use Rattle.vioapic.specs.declared.IoApicVersion.{IoApicVersion}
+use Rattle.vioapic.specs.declared.IoApicVersion.the-variants.{V11, V20}
+use Rattle.vpic.specs.declared.PicRule.the-variants.{Cascade}
 use Rattle.vpic_chip.specs.Chip as chip
 use Rattle.vpic.specs.Pair as pair
 use Rattle.vlapic_regs.specs.Register as register
@@ -40,10 +43,12 @@ pub record Example : Type 0 where
 abbrev pub numbers : Reply → List ℕ
 numbers r = replyNumber r ∷ replyValues r
 
-abbrev pub Holds : List Example → Type 0
-Holds [] = Unit
-Holds (e ∷ es) =
-    ((map numbers (replies newMachine (e .calls)) ≡ e .says) × (e .look (afterCalls newMachine (e .calls)) ≡ e .seen)) × Holds es
+-- the examples with these numbers, from the first to the last and in their order: each says what it should, and leaves what it should
+abbrev pub Holds : ℕ → ℕ → List Example → Type 0
+Holds first last [] = first ≡ suc last
+Holds first last (e ∷ es) =
+    ((e .number ≡ first) × (map numbers (replies newMachine (e .calls)) ≡ e .says) × (e .look (afterCalls newMachine (e .calls)) ≡ e .seen))
+    × Holds (suc first) last es
 
 -- ---- the calls of the examples
 
@@ -176,10 +181,10 @@ examples =
     }
     ∷ record {
       number = 9;
-      calls = outb 0x20 0x11 ∷ outb 0x21 0x20 ∷ outb 0x21 4 ∷ outb 0x21 1 ∷ inb 0x21 ∷ [];
-      says = (0 ∷ []) ∷ (0 ∷ []) ∷ (0 ∷ []) ∷ (0 ∷ []) ∷ (0 ∷ 255 ∷ []) ∷ [];
+      calls = outb 0x21 0x5a ∷ outb 0x20 0x11 ∷ outb 0x21 0x20 ∷ outb 0x21 4 ∷ outb 0x21 1 ∷ inb 0x21 ∷ [];
+      says = (0 ∷ []) ∷ (0 ∷ []) ∷ (0 ∷ []) ∷ (0 ∷ []) ∷ (0 ∷ []) ∷ (0 ∷ 0x5a ∷ []) ∷ [];
       look = λ m. m .pic .master .«vector_base» ∷ m .pic .master .mask ∷ [];
-      seen = 0x20 ∷ 255 ∷ [];
+      seen = 0x20 ∷ 0x5a ∷ [];
     }
     ∷ record {
       number = 10;
@@ -204,14 +209,14 @@ examples =
     }
     ∷ []
 
-pub examples-hold : Holds examples
+pub examples-hold : Holds 1 12 examples
 unfolding set.with set.without set.outside set.lowest set.highest set.lastSet32 redirection.sendEntry redirection.raiseEntry redirection.lowerEntry redirection.endEntry redirection.writeLow redirection.writeHigh table.interruptForEntry table.setLevel table.firstAwaiting table.endOfEntry table.endOf table.vectorFor window.readFixed window.readWord window.readSelected window.writeWord window.writeSelected window.readAt window.writeAt vioapic.assertGsi vioapic.setGsiLevel vioapic.endOfInterrupt vioapic.vectorForGsi vioapic.addressRange vioapic.handleRead vioapic.handleWrite ioapic.outcome ioapic.run chip.opened chip.commanded chip.fed chip.commandRead chip.pulsed chip.counts chip.pendingLine chip.pendingIrq chip.asks chip.driven chip.acknowledged chip.acknowledge chip.unacknowledged pair.newState pair.settled pair.latched pair.masterClaim pair.slaveClaim pair.claimPending pair.claimIrq pair.restored pair.portRead pair.writtenAt pair.portWritten vectors.highestFrom icr.destFieldMatched icr.destNoShorthand icr.calculateDest icr.command icr.selfIpi register.priority priority.updatePpr priority.acceptInterrupt priority.handleEoi registers.handleRead registers.stored registers.writeStored vlapic.setup vlapic.writeIcr vlapic.writeIcrLow vlapic.writeSelfIpi vlapic.handleWrite newMachine machine.picOutcome machine.localOutcome performed afterCalls replies
-examples-hold = ((refl, refl), ((refl, refl), ((refl, refl), ((refl, refl), ((refl, refl), ((refl, refl), ((refl, refl), ((refl, refl), ((refl, refl), ((refl, refl), ((refl, refl), ((refl, refl), tt))))))))))))
+examples-hold = ((refl, refl, refl), ((refl, refl, refl), ((refl, refl, refl), ((refl, refl, refl), ((refl, refl, refl), ((refl, refl, refl), ((refl, refl, refl), ((refl, refl, refl), ((refl, refl, refl), ((refl, refl, refl), ((refl, refl, refl), ((refl, refl, refl), refl))))))))))))
 
 -- ---- T-01: lines 3 and 5 are held with one vector. In version 0x11 an EOI reaches line 3 alone, and a write at offset 0x40 is none; in version 0x20 both reach both lines
 -- (40 is 8 + 32), each is sent again while it is up, and a line that was dropped is cleared and not sent
 
-abbrev held : ℕ → List Call
+abbrev held : IoApicVersion → List Call
 held version =
     IoVersion version ∷ select 1 ∷ read ∷ select 0x16 ∷ write 0x8041 ∷ select 0x1a ∷ write 0x8041 ∷ line 3 true ∷ line 5 true
     ∷ eoi 0x41 ∷ eoiWrite 0x141 ∷ line 3 false ∷ eoiWrite 0x41 ∷ eoi 0x41 ∷ line 5 false ∷ eoi 0x41 ∷ eoi 0x41 ∷ []
@@ -220,7 +225,7 @@ abbrev pub springs : List Example
 springs =
     record {
       number = 1;
-      calls = held 0x11;
+      calls = held V11;
       says =
           (0 ∷ []) ∷ (0 ∷ []) ∷ (0 ∷ 0x00170011 ∷ []) ∷ (0 ∷ []) ∷ (0 ∷ []) ∷ (0 ∷ []) ∷ (0 ∷ []) ∷ (0 ∷ 0x41 ∷ 1 ∷ []) ∷ (0 ∷ 0x41 ∷ 1 ∷ [])
           ∷ (0 ∷ 3 ∷ 0x41 ∷ 1 ∷ []) ∷ (0 ∷ []) ∷ (0 ∷ []) ∷ (0 ∷ []) ∷ (0 ∷ 3 ∷ []) ∷ (0 ∷ []) ∷ (0 ∷ 5 ∷ []) ∷ (0 ∷ []) ∷ [];
@@ -229,7 +234,7 @@ springs =
     }
     ∷ record {
       number = 2;
-      calls = held 0x20;
+      calls = held V20;
       says =
           (0 ∷ []) ∷ (0 ∷ []) ∷ (0 ∷ 0x00170020 ∷ []) ∷ (0 ∷ []) ∷ (0 ∷ []) ∷ (0 ∷ []) ∷ (0 ∷ []) ∷ (0 ∷ 0x41 ∷ 1 ∷ []) ∷ (0 ∷ 0x41 ∷ 1 ∷ [])
           ∷ (0 ∷ 40 ∷ 40 ∷ []) ∷ (0 ∷ 40 ∷ 40 ∷ []) ∷ (0 ∷ []) ∷ (0 ∷ 40 ∷ 32 ∷ []) ∷ (0 ∷ 32 ∷ 32 ∷ []) ∷ (0 ∷ []) ∷ (0 ∷ 32 ∷ 0 ∷ []) ∷ (0 ∷ []) ∷ [];
@@ -238,9 +243,9 @@ springs =
     }
     ∷ []
 
-pub springs-hold : Holds springs
+pub springs-hold : Holds 1 2 springs
 unfolding vioapic.createdVersion set.with set.without set.outside set.lowest set.highest set.lastSet32 redirection.sendEntry redirection.raiseEntry redirection.lowerEntry redirection.endEntry redirection.endEntry20 redirection.writeLow redirection.writeHigh table.interruptForEntry table.setLevel table.firstAwaiting table.endOfEntry table.endOfEvery table.endOf table.vectorFor window.readFixed window.readWord window.readSelected window.writeWord window.writeSelected window.readAt window.writeEoi window.writeAt vioapic.assertGsi vioapic.setGsiLevel vioapic.endOfInterrupt vioapic.vectorForGsi vioapic.addressRange vioapic.handleRead vioapic.handleWrite ioapic.outcome ioapic.run newMachine machine.picOutcome machine.localOutcome performed afterCalls replies
-springs-hold = ((refl, refl), ((refl, refl), tt))
+springs-hold = ((refl, refl, refl), ((refl, refl, refl), refl))
 
 -- ---- T-02: examples 7 and 8 under the cascade rule. Line 14 is answered once line 13 is done, and its request is gone; line 2, raised or restored, is no request
 
@@ -248,7 +253,7 @@ abbrev pub cascades : List Example
 cascades =
     record {
       number = 7;
-      calls = PicRule 1 ∷ seventh;
+      calls = PicRule Cascade ∷ seventh;
       says =
           (0 ∷ []) ∷ (0 ∷ []) ∷ (0 ∷ []) ∷ (0 ∷ 0x74 ∷ 12 ∷ 3 ∷ []) ∷ (0 ∷ []) ∷ (0 ∷ []) ∷ (0 ∷ []) ∷ (0 ∷ []) ∷ (0 ∷ 0x75 ∷ 13 ∷ 3 ∷ []) ∷ (0 ∷ []) ∷ (0 ∷ [])
           ∷ (0 ∷ 0x76 ∷ 14 ∷ 3 ∷ []) ∷ (0 ∷ 0 ∷ []) ∷ [];
@@ -257,13 +262,13 @@ cascades =
     }
     ∷ record {
       number = 8;
-      calls = PicRule 1 ∷ eighth;
+      calls = PicRule Cascade ∷ eighth;
       says = (0 ∷ []) ∷ (0 ∷ []) ∷ (0 ∷ []) ∷ (0 ∷ []) ∷ (0 ∷ []) ∷ [];
       look = masterLines;
       seen = 0 ∷ 0 ∷ [];
     }
     ∷ []
 
-pub cascades-hold : Holds cascades
+pub cascades-hold : Holds 7 8 cascades
 unfolding set.with set.without set.outside set.lowest set.highest set.lastSet32 chip.opened chip.commanded chip.fed chip.commandRead chip.pulsed chip.counts chip.pendingLine chip.pendingIrq chip.asks chip.driven chip.acknowledged chip.acknowledge chip.unacknowledged pair.newState pair.settled pair.latched pair.masterClaim pair.slaveClaim pair.claimPending pair.claimIrq pair.restored pair.portRead pair.writtenAt pair.portWritten newMachine machine.picOutcome machine.localOutcome performed afterCalls replies
-cascades-hold = ((refl, refl), ((refl, refl), tt))
+cascades-hold = ((refl, refl, refl), ((refl, refl, refl), refl))

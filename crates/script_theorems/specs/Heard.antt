@@ -32,7 +32,7 @@ ioCalls (c ∷ cs) = byPart (ioPart c) (λ d. d ∷ ioCalls cs) (λ version. ioC
 -- the chip that they are made on: a new one of the version chosen, where that is in time; else the machine's
 unfoldable pub startOf : IoApicState → List Call → IoApicState
 startOf chip [] = chip
-startOf chip (c ∷ cs) = byPart (ioPart c) (λ d. chip) (λ version. chosen chip version .state) (startOf chip cs)
+startOf chip (c ∷ cs) = byPart (ioPart c) (λ d. chip) (λ version. chosen version) (startOf chip cs)
 
 -- what the I/O APIC's fields among them answer, 06 apart
 unfoldable pub ioReplies : Machine → List Call → List Reply

@@ -1,13 +1,12 @@
 -- The pair in scripts (document 02, T-02): it has the rule that field 16 chooses, if there is one, to the script's end; after every field of every script it keeps that
 -- rule; and by rule 1 no slave request that counts goes unheard there.
 use Prim.Native.Nat.{ℕ}
-use mathlib.Core.Bool.{true, cond}
+use mathlib.Core.Bool.{true}
 use mathlib.Core.List.{List, [], _∷_}
 use mathlib.Core.Path.{_≡_}
 use Rattle.vpic_chip.specs.Chip.{counts, pendingLine}
 use Rattle.vpic.specs.Words.{PicState}
-use Rattle.vpic.specs.Pair.{isCascade, isRule}
-use Rattle.vpic.specs.Pair.{Keeps}
+use Rattle.vpic.specs.Pair.{ruleNumber, isCascade, Keeps}
 use Rattle.vpic_theorems.specs.Rule.{Clear, Heard}
 use Rattle.script_format.specs.declared.Call.{Call}
 use Rattle.script_machine.specs.declared.Used.{Used}
@@ -16,10 +15,10 @@ use Rattle.script_machine.specs.Run.{afterCalls, runOf}
 use Rattle.script_theorems.specs.Parts.{picPart, byPart}
 use Rattle.script_theorems.specs.Runs.{inTime}
 
--- the rule that calls choose: the one of the first of fields 10 to 16, if that is a 16 and names one; else it stays
+-- the rule that calls choose: the one of the first of fields 10 to 16, if that is a 16; else it stays
 unfoldable pub ruleChosen : ℕ → List Call → ℕ
 ruleChosen rule [] = rule
-ruleChosen rule (c ∷ cs) = byPart (picPart c) (λ d. rule) (λ n. cond (isRule n) n rule) (ruleChosen rule cs)
+ruleChosen rule (c ∷ cs) = byPart (picPart c) (λ d. rule) (λ chosen. ruleNumber chosen) (ruleChosen rule cs)
 
 -- the pair has it after them, if none is late, as in every run (`InTime`)
 abbrev pub PairRule : Type 0

@@ -9,7 +9,7 @@ use Rattle.types.specs.declared.Reply.{Reply}
 use Rattle.script_format.specs.declared.Call.{Call}
 use Rattle.script_format.specs.declared.Cursor.{Cursor}
 use Rattle.script_format.specs.declared.Field.the-variants.{Good, Bad}
-use Rattle.script_format.specs.Fields.{fieldAt}
+use Rattle.script_format.specs.Fields.{endAt, fieldAt}
 use Rattle.script_format.specs.Chips.{chipOf, isChoice, same}
 use Rattle.script_machine.specs.Late.{isLate, usedAfter, fieldFor}
 use Rattle.script_machine.specs.Machine.{Machine, unused, newMachine}
@@ -98,3 +98,21 @@ Ended r s n =
 
 abbrev pub Ends : Type 0
 Ends = (s : List ℕ) (m : Machine) (at n : ℕ) → Ended (runOf s m at n) s n
+
+-- ---- a bad field
+
+-- nothing is performed at a bad field, however many are allowed: the machine is the one that the calls before it left
+abbrev pub NothingAtBad : Type 0
+NothingAtBad =
+    (s : List ℕ) (m : Machine) (at n : ℕ)
+    → fieldFor s (m .used) at ≡ Bad
+    → 0 < n
+    → runOf s m at n ≡ record { machine = m; done = 0; next = record { at = at }; stop = stop.BadField }
+
+-- nor do the bytes behind it matter, if all of the field is there: a script with others behind it runs the same, and answers the same. (One that is cut off they could make good.)
+abbrev pub NothingBehindBad : Type 0
+NothingBehindBad =
+    (s x : List ℕ) (m : Machine) (at n : ℕ)
+    → runOf s m at n .stop ≡ stop.BadField
+    → endAt s (runOf s m at n .next .at) ≤ length s
+    → (runOf (s ++ x) m at n ≡ runOf s m at n) × (answersOf (s ++ x) m at n ≡ answersOf s m at n)

@@ -1,15 +1,20 @@
 -- What callers use of the counters' conversions. Assumes nothing.
 use mathlib.Core.Path.{_≡_, refl, sym, ap, _∙_}
 use mathlib.Core.Bool.{Bool, true, false, cond}
-use Prim.Native.Nat.{ℕ, _+_, _-_, _^_, _≤_, _<_}
+use Prim.Native.Nat.{ℕ, _+_, _-_, _%_, _^_, _≤_, _<_}
+use native.Mathlib.Nat.{mod-eq-of-lt}
 use native.Mathlib.Omega.{arith}
-use lib.Dec.{ltb}
-use borrow.Author.Tests.{ltb-true, ltb-false, lt-ltb, le-ltb}
+use lib.Dec.{eqb, ltb}
+use borrow.Author.Tests.{ltb-true, ltb-false, lt-ltb, le-ltb, ne-eqb}
+use Rattle.utils.specs.Set.{bit}
+use Rattle.utils.proofs.Laws.{bit-none}
+use Rattle.utils.proofs.Bits.{bit-power}
 use Rattle.types.specs.declared.Gsi.{Gsi}
 use Rattle.types.specs.declared.PicLine.{PicLine}
+use Rattle.types.specs.declared.VcpuId.{VcpuId}
 use Rattle.types.specs.declared.PicPlace.{PicPlace}
 use Rattle.types.specs.declared.PicPlace.the-variants.{Master, Slave, Nowhere}
-use Rattle.types.specs.Counters.{entryIndex, placeOf}
+use Rattle.types.specs.Counters.{entryIndex, placeOf, vcpuMask, apicId, vcpuOf}
 
 -- a GSI below 24 is its entry's index
 pub entry-is : (g : Gsi) → g .0 < 24 → entryIndex g ≡ g .0
@@ -35,3 +40,21 @@ slave-line l k e = go (ltb (l .0) 8) refl (ltb (l .0) 16) refl e
         let d : l .0 - 8 ≡ k .0 = ap (λ (x : PicLine). x .0) s in
         (omega (arith, ltb-false (l .0) 8 p), omega (arith, ltb-true (l .0) 16 t))
     go false p false t q = let z : _≡_ {A = ℕ} 0 1 = cc in absurd (omega arith)
+
+-- a vCPU's mask: whom it has among those that a mask can hold, and its number
+pub mask-bit : (id : VcpuId) (i : ℕ) → i < 64 → bit (vcpuMask id) i ≡ eqb i (id .0)
+mask-bit id i h = go (ltb (id .0) 64) refl
+  where
+    go : (b : Bool) → ltb (id .0) 64 ≡ b → bit (cond b (2 ^ (id .0)) 0) i ≡ eqb i (id .0)
+    go true e = bit-power (id .0) i
+    go false e = bit-none i ∙ sym (ne-eqb i (id .0) (λ q. omega (arith, ltb-false (id .0) 64 e)))
+
+pub mask-is : (id : VcpuId) → id .0 < 64 → vcpuMask id ≡ 2 ^ (id .0)
+mask-is id h = rw (lt-ltb (id .0) 64 h)
+
+-- from an APIC's id to its vCPU and back, and the other way round for numbers of 32 bits
+pub apic-back : (n : ℕ) → n < 2 ^ 32 → apicId (vcpuOf n) ≡ n
+apic-back n h = mod-eq-of-lt h
+
+pub vcpu-back : (id : VcpuId) → id .0 < 2 ^ 32 → vcpuOf (apicId id) ≡ id
+vcpu-back id h = ap vcpuOf (mod-eq-of-lt h)

@@ -9,7 +9,7 @@ use Rattle.types.specs.declared.Refusal.{Refusal}
 use Rattle.types.specs.declared.Refusal.the-variants.{Unsupported, InvalidRegister, InvalidDelivery, InvalidAddress, OutOfRange, BadField, ScriptTooLong}
 use Rattle.types.specs.declared.Reply.{Reply}
 use Rattle.types.specs.declared.Reply.the-variants.{Refused, Nothing, One, Two, Three}
-use Rattle.types.specs.Reply.{refusalNumber, replyNumber, replyValues, flag, Outcome}
+use Rattle.types.specs.Reply.{refusalNumber, replyNumber, replyValues, flag, Outcome, Kept}
 
 pub refused-no-values : (r : Reply) → (replyNumber r ≡ 0 → ⊥) → replyValues r ≡ []
 refused-no-values (Refused why) h = refl
@@ -17,6 +17,14 @@ refused-no-values Nothing h = refl
 refused-no-values (One a) h = absurd (h refl)
 refused-no-values (Two a b) h = absurd (h refl)
 refused-no-values (Three a b c) h = absurd (h refl)
+
+-- words that are as they were are kept
+pub kept-same : (l : List ℕ) (r : Reply) → Kept r l l
+kept-same l (Refused why) = refl
+kept-same l Nothing = tt
+kept-same l (One a) = tt
+kept-same l (Two a b) = tt
+kept-same l (Three a b c) = tt
 
 -- no refusal has the number of a call that is done
 pub refused-not-done : (why : Refusal) → refusalNumber why ≡ 0 → ⊥

@@ -27,3 +27,10 @@ lineVector base line = record { 0 = (base + line .0) % 256 }
 -- the set of the one vCPU, and the empty set for an id that no mask can hold
 abbrev pub vcpuMask : VcpuId → ℕ
 vcpuMask id = cond (ltb (id .0) 64) (2 ^ (id .0)) 0
+
+-- a vCPU's local APIC has its number as its id, a word of 32 bits; and the vCPU of an APIC's id
+abbrev pub apicId : VcpuId → ℕ
+apicId id = id .0 % 2 ^ 32
+
+abbrev pub vcpuOf : ℕ → VcpuId
+vcpuOf apicId = record { 0 = apicId }

@@ -1,6 +1,7 @@
 -- Refusals and replies in the numbers of document 01, "Refusal numbers": 0 for a call that is done, its values, and a number for each reason to refuse.
 use Prim.Native.Nat.{ℕ}
 use mathlib.Core.List.{List, [], _∷_}
+use mathlib.Core.Path.{_≡_}
 use mathlib.Core.Bool.{Bool, true, false}
 use Rattle.types.specs.declared.Refusal.{Refusal}
 use Rattle.types.specs.declared.Refusal.the-variants.{Unsupported, InvalidRegister, InvalidDelivery, InvalidAddress, OutOfRange, BadField, ScriptTooLong}
@@ -43,3 +44,11 @@ pub record Outcome (S : Type 0) : Type 0 where
 
 abbrev pub outcomeOf : {S : Type 0} → S → Reply → Outcome S
 outcomeOf s r = record { state = s; reply = r }
+
+-- of a call in place: where its reply is a refusal, the words after it are those in `kept`
+abbrev pub Kept : Reply → List ℕ → List ℕ → Type 0
+Kept (Refused why) kept after = after ≡ kept
+Kept Nothing kept after = Unit
+Kept (One a) kept after = Unit
+Kept (Two a b) kept after = Unit
+Kept (Three a b c) kept after = Unit

@@ -7,7 +7,8 @@
 // numbers, so that one can't be passed for another; `X86VlapicError` became `Refusal`, with document 01's numbers; `Reply` was added.
 
 ghost use mathlib.Core.Path.{_≡_};
-ghost use Rattle.types.specs.Counters.{entryIndex, placeOf, lineVector, vcpuMask};
+ghost use Rattle.utils.specs.Set.{without};
+ghost use Rattle.types.specs.Counters.{entryIndex, placeOf, lineVector, vcpuMask, apicId, vcpuOf};
 ghost use Rattle.types.specs.Reply.{refusalNumber, replyNumber, flag};
 
 // A global system interrupt: an input of the I/O APIC.
@@ -71,6 +72,30 @@ impl VcpuId {
             return 1 << self.0;
         }
         0
+    }
+
+    // A set of vCPUs without this one.
+    pub fn removed_from(self, set: u64) -> u64
+        ensures { λ r. ⌜ r ≡ without set (self .0) ⌝ }
+    {
+        if self.0 < 64 {
+            return utils::set64::without(set, self.0 as u64);
+        }
+        set
+    }
+
+    // The id of its local APIC: the same number, in 32 bits.
+    pub fn apic_id(self) -> u32
+        ensures { λ r. ⌜ r ≡ apicId self ⌝ }
+    {
+        (self.0 % 0x1_0000_0000) as u32
+    }
+
+    // The vCPU whose local APIC has this id.
+    pub fn of_apic(apic_id: u32) -> VcpuId
+        ensures { λ r. ⌜ r ≡ vcpuOf «apic_id» ⌝ }
+    {
+        VcpuId(apic_id as usize)
     }
 }
 

@@ -10,10 +10,7 @@ use borrow.Author.Tests.{eqb-true, eqb-false, ltb-true, ltb-false}
 use Rattle.utils.specs.Cases.{and-right-no}
 use Rattle.utils.specs.Set.{bit, without, first, lowest}
 use Rattle.utils.proofs.Search.{first-same, first-is, first-none}
-use Rattle.utils.proofs.Laws.{bit-above, same-bits, bit-at-least, bit-without-same, bit-without-other, lowest-in, lowest-before}
-
-pub bit-none : (k : ℕ) → bit 0 k ≡ false
-bit-none k = bit-above 0 0 k (omega arith) zero-le
+use Rattle.utils.proofs.Laws.{bit-none, same-bits, bit-at-least, bit-without-same, bit-without-other, lowest-in, lowest-before}
 
 pub without-lt : (n k : ℕ) → bit n k ≡ true → without n k < n
 unfolding without

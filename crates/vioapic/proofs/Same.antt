@@ -1,6 +1,16 @@
 -- Nothing is lost in an outcome: each answer can be read back from its reply, so equal outcomes come from equal results. Assumes nothing.
-use Prim.Native.Nat.{ℕ}
-use mathlib.Core.Path.{_≡_, refl, ap}
+use Prim.Native.Nat.{ℕ, zero, suc, _+_, _-_, _/_, _%_, _^_, _<_}
+use native.Mathlib.Nat.{mod-lt}
+use native.Mathlib.Omega.{arith}
+use mathlib.Core.Bool.{Bool, true, false}
+use mathlib.Core.List.{List}
+use mathlib.Core.Path.{_≡_, refl, sym, _∙_, ap}
+use borrow.Author.Tests.{ltb-true, ltb-false}
+use lib.Dec.{ltb, lit<}
+use lib.ListN.{length, getD}
+use lib.Seq.{ext-getD}
+use Rattle.utils.specs.Set.{bit}
+use Rattle.utils.proofs.Laws.{same-bits, bit-cut}
 use Rattle.types.specs.Reply.{Outcome}
 use Rattle.types.specs.declared.Reply.{Reply}
 use Rattle.types.specs.declared.Reply.the-variants.{Refused, Nothing, One, Two, Three}
@@ -9,9 +19,11 @@ use Rattle.vioapic_entry.specs.declared.IoApicInterrupt.{IoApicInterrupt}
 use Rattle.vioapic_entry.specs.declared.Routed.{Routed}
 use Rattle.vioapic_entry.specs.declared.Routed.the-variants.{NotRouted, Interrupt}
 use Rattle.vioapic.specs.Answers.{eoiReply, gsiVectorReply, readReply, writtenReply, rangeReply}
-use Rattle.vioapic.specs.State.{IoApicState}
-use Rattle.vioapic.specs.Table.{Routing, Ending, routing, ending}
+use Rattle.vioapic_entry.specs.declared.Entry.{Entry}
+use Rattle.vioapic.specs.State.{IoApicState, entryIn, view, spare, Whole}
+use Rattle.vioapic.specs.Table.{Routing, Ending, routing, ending, entryAt}
 use Rattle.vioapic.specs.Registers.{Writing, writing}
+use Rattle.vioapic.proofs.Words.{view-at}
 use Rattle.vioapic.specs.IoApic.{routingOutcome, endingOutcome, writingOutcome}
 use Rattle.vioapic.specs.declared.Eoi.{Eoi}
 use Rattle.vioapic.specs.declared.Eoi.the-variants.{NotEnded, Ended, EndedAll}
@@ -121,3 +133,49 @@ pub writing-same : (a b : Writing) → writingOutcome a ≡ writingOutcome b →
 writing-same =
     same writingOutcome (λ (o : Outcome IoApicState). writing (o .state) (writtenOf (o .reply)))
     (λ a. ap (writing (a .state)) (written-back (a .answer)))
+
+-- ---- words
+
+module _ (a b : List ℕ) (v : view a ≡ view b) (s : spare a ≡ spare b) where
+  entry : (g : ℕ) → g < 24 → entryIn a g ≡ entryIn b g
+  entry g h = sym (view-at a g h) ∙ ap (λ (m : IoApicState). entryAt m g) v ∙ view-at b g h
+
+  -- a word of flags: its lower bits are the entries'
+  flags : (k : ℕ) → ((g : ℕ) → g < 24 → bit (getD a k 0) g ≡ bit (getD b k 0) g) → getD a k 0 % 2 ^ 24 ≡ getD b k 0 % 2 ^ 24
+  flags k h =
+      same-bits 24 (getD a k 0 % 2 ^ 24) (getD b k 0 % 2 ^ 24) (mod-lt (getD a k 0) (lit< tt)) (mod-lt (getD b k 0) (lit< tt))
+      (λ g l. bit-cut (getD a k 0) 24 g l ∙ h g l ∙ sym (bit-cut (getD b k 0) 24 g l))
+
+  beyond : (k : ℕ) → k < 8 → getD a (24 + k) 0 ≡ getD b (24 + k) 0
+  unfolding view spare
+  beyond zero h =
+      let q : getD a 24 0 / 2 ^ 24 ≡ getD b 24 0 / 2 ^ 24 = ap (λ (l : List ℕ). getD l 0 0) s in
+      let r = flags 24 (λ g l. ap (λ (e : Entry). e .«pending_level») (entry g l)) in
+      omega (arith, q, r)
+  beyond (suc zero) h =
+      let q : getD a 25 0 / 2 ^ 24 ≡ getD b 25 0 / 2 ^ 24 = ap (λ (l : List ℕ). getD l 1 0) s in
+      let r = flags 25 (λ g l. ap (λ (e : Entry). e .«input_level») (entry g l)) in
+      omega (arith, q, r)
+  beyond (suc (suc zero)) h =
+      let q : getD a 26 0 / 2 ^ 32 ≡ getD b 26 0 / 2 ^ 32 = ap (λ (l : List ℕ). getD l 2 0) s in
+      let r : getD a 26 0 % 2 ^ 32 ≡ getD b 26 0 % 2 ^ 32 = ap (λ (m : IoApicState). m .selector) v in
+      omega (arith, q, r)
+  beyond (suc (suc (suc zero))) h = ap (λ (m : IoApicState). m .base) v
+  beyond (suc (suc (suc (suc zero)))) h = ap (λ (m : IoApicState). m .size) v
+  beyond (suc (suc (suc (suc (suc zero))))) h = ap (λ (m : IoApicState). m .version) v
+  beyond (suc (suc (suc (suc (suc (suc zero)))))) h =
+      let q : getD a 30 0 / 2 ^ 24 ≡ getD b 30 0 / 2 ^ 24 = ap (λ (l : List ℕ). getD l 3 0) s in
+      let r : getD a 30 0 % 2 ^ 24 ≡ getD b 30 0 % 2 ^ 24 = ap (λ (m : IoApicState). m .«in_flight») v in
+      omega (arith, q, r)
+  beyond (suc (suc (suc (suc (suc (suc (suc zero))))))) h = ap (λ (l : List ℕ). getD l 4 0) s
+  beyond (suc (suc (suc (suc (suc (suc (suc (suc k)))))))) h = absurd (omega arith)
+
+  each : (i : ℕ) (c : Bool) → ltb i 24 ≡ c → i < 32 → getD a i 0 ≡ getD b i 0
+  each i true e h = ap (λ (d : Entry). d .word) (entry i (ltb-true i 24 e))
+  each i false e h =
+      let l = ltb-false i 24 e in
+      let p : 24 + (i - 24) ≡ i = omega (arith, l) in
+      rw (← p) (beyond (i - 24) (omega (arith, l, h)))
+
+pub whole : Whole
+whole a b h k v s = ext-getD 0 a b (h ∙ sym k) (λ i l. each a b v s i (ltb i 24) refl (omega (arith, h, l)))

@@ -24,9 +24,10 @@ use Rattle.vioapic.specs.Answers.{eoiReply, gsiVectorReply, writtenReply
 use Rattle.vioapic.specs.State.{IoApicState, view, entriesFrom, spare, newWords}
 use Rattle.vioapic.specs.Table.{Routing, Ending, routing, ending, entryAt, put, routeAt, unrouted, interruptForEntry, setLevel, isVersion20, firstAwaiting, endOfEntry, everyAnswer, endOfEvery, endOf, vectorOfEntry, vectorFor}
 use Rattle.vioapic.specs.Registers.{Writing, isEntryWord, entryOf, isLow, readWord, readFixed, readSelected, writeWord, writing, writeSelected, writeAt, done, writtenBy, writeEoi, readAt}
-use Rattle.vioapic.specs.IoApic.{routingOutcome, endingOutcome, writingOutcome, goodWidth, fits, isVersion, chipOf, chipAt, newDefault, refuse, Untouched, Leaves, newOr, Makes, createdVersion, vectorForGsi, addressRange, assertGsi, setGsiLevel, endOfInterrupt, handleRead, handleWrite}
-use Rattle.vioapic.specs.Inside.{Keeps, everyEnd, everyEnding, clearedIn, sentIn}
+use Rattle.vioapic.specs.IoApic.{routingOutcome, endingOutcome, writingOutcome, goodWidth, fits, versionNumber, versionOf, isVersion, chipOf, chipAt, newDefault, refuse, Untouched, Leaves, newOr, Makes, createdVersion, vectorForGsi, addressRange, assertGsi, setGsiLevel, endOfInterrupt, handleRead, handleWrite}
+use Rattle.vioapic.specs.Inside.{Keeps, withLow, everyEnd, everyEnding, clearedIn, sentIn}
 use Rattle.vioapic.specs.declared.Ends.{Ends}
+use Rattle.vioapic.specs.declared.IoApicVersion.{IoApicVersion}
 use Rattle.vioapic.specs.declared.Written.{Written}
 use Rattle.vioapic.specs.declared.Written.the-variants as written
 use Rattle.vioapic.specs.declared.Eoi.{Eoi}
@@ -117,13 +118,15 @@ module _ (l w : List ℕ) (v : Vector) (b : Bool) (is : b ≡ isVersion20 (view 
   unfolding endOfInterrupt endOf
   end-11 r n e = record { outcome = rw (sym is ∙ n) (ap endingOutcome (e .is)); untouched = eoi-served l w r; kept = e .kept }
 
-pub version-is : (l : List ℕ) → eqb (getD l 29 0) 0x20 ≡ isVersion20 (view l)
+version-at : (l : List ℕ) → getD l 29 0 ≡ view l .version
 unfolding view
-version-is l = go (eqb (getD l 29 0) 0x20)
-  where
-    go : (b : Bool) → b ≡ eqb (cond b 0x20 0x11) 0x20
-    go true = refl
-    go false = refl
+version-at l = refl
+
+pub version-is : (l : List ℕ) → eqb (getD l 29 0) 0x20 ≡ isVersion20 (view l)
+version-is l = ap (λ (n : ℕ). eqb n 0x20) (version-at l)
+
+pub version-held : (l : List ℕ) (r : IoApicVersion) → r ≡ versionOf (getD l 29 0) → r ≡ versionOf (view l .version)
+version-held l r e = e ∙ ap versionOf (version-at l)
 
 -- ---- the registers
 
@@ -144,9 +147,9 @@ module _ (l : List ℕ) (sel : ℕ) (b : Bool) (is : sel ≡ view l .selector) (
   unfolding readSelected
   read-entry g r e h a c d = rw (found true h, ← is, ← a, ← c) d
 
-  pub read-other : (v r : ℕ) → b ≡ false → v ≡ view l .version → r ≡ readFixed v sel → r ≡ readSelected (view l)
+  pub read-other : (r : ℕ) → b ≡ false → r ≡ readFixed (getD l 29 0) sel → r ≡ readSelected (view l)
   unfolding readSelected
-  read-other v r h a d = rw (found false h, ← is, ← a) d
+  read-other r h d = rw (found false h, ← is, ← version-at l) d
 
   module _ (x g : ℕ) (w : List ℕ) (c : Bool) (yes : b ≡ true) (which : g ≡ entryOf sel) (low : c ≡ isLow sel) where
     entry-written : (f : Entry → Entry) → ((e : Entry) → f e ≡ writeWord sel e x) → Keeps l w (view w ≡ put (view l) g (f (entryAt (view l) g))) → Keeps l w (done (view w) ≡ writeSelected (view l) x)
@@ -177,9 +180,9 @@ module _ (l : List ℕ) (x : ℕ) (b : Bool) (is : b ≡ isVersion20 (view l)) w
   eoi-written w n r y h e k d = so-that e (λ q. rw (sym is ∙ not-false b h, ← q, d, k))
 
 module _ (l : List ℕ) (offset x : ℕ) where
-  pub at-select : length l ≡ 32 → x < 2 ^ 32 → offset ≡ 0 → Keeps l (set l 26 x) (done (view (set l 26 x)) ≡ writeAt (view l) offset x)
+  pub at-select : (n : ℕ) → length l ≡ 32 → x < 2 ^ 32 → offset ≡ 0 → n ≡ withLow (getD l 26 0) x → Keeps l (set l 26 n) (done (view (set l 26 n)) ≡ writeAt (view l) offset x)
   unfolding writeAt
-  at-select h k e = so-that (view-select l x h k) (λ q. rw (eq-eqb _ _ e) (ap done q))
+  at-select n h k e p = so-that (view-select l x n h k p) (λ q. rw (eq-eqb _ _ e) (ap done q))
 
   module _ (w : List ℕ) (y : Written) where
     pub at-window : (offset ≡ 0 → ⊥) → offset ≡ 16 → Keeps l w (writing (view w) y ≡ writeSelected (view l) x) → Keeps l w (writing (view w) y ≡ writeAt (view l) offset x)
@@ -300,47 +303,34 @@ version-one version h = rw (eq-eqb _ _ h)
 pub version-other : (version : ℕ) → (version ≡ 17 → ⊥) → eqb version 32 ≡ isVersion version
 version-other version h = rw (ne-eqb _ _ h)
 
-the-first : (a b : Bool) → (a || b) ≡ true → b ≡ false → a ≡ true
-the-first true b h e = refl
-the-first false b h e = never h e
-
-pub new-shows : (version base size : ℕ) → isVersion version ≡ true → view (newWords version base size) ≡ chipOf version base size
+pub new-shows : (version base size : ℕ) → view (newWords version base size) ≡ chipOf version base size
 unfolding view entriesFrom
-new-shows version base size h = go (eqb version 0x20) refl
-  where
-    go : (b : Bool) → eqb version 0x20 ≡ b → view (newWords version base size) ≡ chipOf version base size
-    go true e = let v : 0x20 ≡ version = sym (eqb-true version 0x20 e) in rw e (λ i. chipOf (v i) base size)
-    go false e =
-        let v : 0x11 ≡ version = sym (eqb-true version 0x11 (the-first (eqb version 0x11) (eqb version 0x20) h e)) in
-        rw e (λ i. chipOf (v i) base size)
+new-shows version base size = refl
 
-module _ (l : List ℕ) (base size version : ℕ) (b : Bool) (is : b ≡ isVersion version) where
-  pub new-unknown : not b ≡ true → Makes l l (Refused Unsupported) (createdVersion (view l) base size version) (newWords version base size)
+module _ (l : List ℕ) (base size : ℕ) (version : IoApicVersion) (c : Bool) (e : c ≡ fits base size) where
+  pub new-wide : not c ≡ true → Makes l l (Refused InvalidAddress) (createdVersion (view l) base size version) (newWords (versionNumber version) base size)
   unfolding createdVersion
-  new-unknown h = record { outcome = rw (sym is ∙ not-true b h); words = refl }
+  new-wide k = record { outcome = rw (sym e ∙ not-true c k); words = refl }
 
-  module _ (c : Bool) (h : not b ≡ false) (e : c ≡ fits base size) where
-    pub new-wide : not c ≡ true → Makes l l (Refused InvalidAddress) (createdVersion (view l) base size version) (newWords version base size)
-    unfolding createdVersion
-    new-wide k = record { outcome = rw (sym is ∙ not-false b h, sym e ∙ not-true c k); words = refl }
-
-    pub new-done : (w : List ℕ) → not c ≡ false → w ≡ newWords version base size → Makes l w Nothing (createdVersion (view l) base size version) (newWords version base size)
-    unfolding createdVersion
-    new-done w k q =
-        let s : isVersion version ≡ true = sym is ∙ not-false b h in
-        record {
-          outcome = rw (s, sym e ∙ not-false c k) (ap (λ (m : IoApicState). record { state = m; reply = Nothing }) (ap view q ∙ new-shows version base size s));
-          words = q;
-        }
+  pub new-done : (n : ℕ) (w : List ℕ) → not c ≡ false → n ≡ versionNumber version → w ≡ newWords n base size
+      → Makes l w Nothing (createdVersion (view l) base size version) (newWords (versionNumber version) base size)
+  unfolding createdVersion
+  new-done n w k h q =
+      let p : w ≡ newWords (versionNumber version) base size = q ∙ ap (λ (x : ℕ). newWords x base size) h in
+      record {
+        outcome = rw (sym e ∙ not-false c k) (ap (λ (m : IoApicState). record { state = m; reply = Nothing }) (ap view p ∙ new-shows (versionNumber version) base size));
+        words = p;
+      }
 
 -- by value: a new state in the place of one that covers no address
-pub new-value : (l w : List ℕ) (r : Reply) (base size version : ℕ) → l ≡ newWords 0x11 0 0 → Makes l w r (createdVersion (view l) base size version) (newWords version base size)
-    → Makes (newWords 0x11 0 0) w r (createdVersion (chipAt 0 0) base size version) (newWords version base size)
+pub new-value : (l w : List ℕ) (r : Reply) (base size : ℕ) (version : IoApicVersion) → l ≡ newWords 0x11 0 0
+    → Makes l w r (createdVersion (view l) base size version) (newWords (versionNumber version) base size)
+    → Makes (newWords 0x11 0 0) w r (createdVersion (chipAt 0 0) base size version) (newWords (versionNumber version) base size)
 new-value l w r base size version e k =
     record {
-      outcome = k .outcome ∙ ap (λ (m : IoApicState). createdVersion m base size version) (ap view e ∙ new-shows 0x11 0 0 refl);
-      words = k .words ∙ ap (λ (x : List ℕ). newOr r (newWords version base size) x) e;
+      outcome = k .outcome ∙ ap (λ (m : IoApicState). createdVersion m base size version) (ap view e ∙ new-shows 0x11 0 0);
+      words = k .words ∙ ap (λ (x : List ℕ). newOr r (newWords (versionNumber version) base size) x) e;
     }
 
 pub new-default : (l : List ℕ) → l ≡ newWords 0x11 0xfec00000 0x1000 → view l ≡ newDefault
-new-default l e = ap view e ∙ new-shows 0x11 0xfec00000 0x1000 refl
+new-default l e = ap view e ∙ new-shows 0x11 0xfec00000 0x1000

@@ -1,13 +1,13 @@
 -- The state that lent words stand for: an entry of it is the entry in the words, and putting one in the words puts it in the
 -- state. Assumes nothing.
 use Prim.Native.Nat.{ℕ, zero, suc, _+_, _/_, _%_, _^_, _<_, _≤_}
-use native.Mathlib.Nat.{mod-lt, mod-eq-of-lt}
+use native.Mathlib.Nat.{mod-lt}
 use native.Mathlib.Decide.{ℕ-discrete}
 use native.Mathlib.Omega.{arith}
-use mathlib.Core.Bool.{Bool, true, false, cond}
+use mathlib.Core.Bool.{Bool, true, false}
 use mathlib.Core.List.{List, [], _∷_}
 use mathlib.Core.Path.{_≡_, refl, sym, _∙_, ap, ap₂}
-use lib.Dec.{eqb, lit<}
+use lib.Dec.{lit<}
 use lib.ListN.{length, getD, set, length-set}
 use lib.Seq.{getD-set-same, getD-set-other}
 use Rattle.utils.specs.Set.{bit, with, without, marked}
@@ -15,7 +15,7 @@ use Rattle.utils.proofs.Marked.{bit-marked-same, bit-marked-other, marked-cut, 
 use Rattle.types.specs.declared.Vector.{Vector}
 use Rattle.vioapic_entry.specs.Redirection.{withWord, withDeferred, withInput, awaits}
 use Rattle.vioapic.specs.State.{entryIn, entriesFrom, view, spare}
-use Rattle.vioapic.specs.Inside.{Keeps, putFlag, parts}
+use Rattle.vioapic.specs.Inside.{Keeps, putFlag, withLow, parts}
 use Rattle.vioapic.specs.Table.{noEntry, entryAt, withFlight}
 use Rattle.vioapic.specs.Registers.{withSelector}
 use Rattle.vioapic_entry.specs.declared.Entry.{Entry}
@@ -83,18 +83,18 @@ module _ (l : List ℕ) (long : length l ≡ 32) where
       let b = getD-set-other l g 25 x 0 (omega arith) in
       let c = getD-set-other l g 30 x 0 (omega arith) in
       let d = getD-set-other l g 31 x 0 (omega arith) in
-      let e = getD-set-other l g 29 x 0 (omega arith) in
-      λ i. a i / 2 ^ 24 ∷ b i / 2 ^ 24 ∷ c i / 2 ^ 24 ∷ d i ∷ e i ∷ []
+      let e = getD-set-other l g 26 x 0 (omega arith) in
+      λ i. a i / 2 ^ 24 ∷ b i / 2 ^ 24 ∷ e i / 2 ^ 32 ∷ c i / 2 ^ 24 ∷ d i ∷ []
 
-  pub spare-select : (x : ℕ) → spare (set l 26 x) ≡ spare l
+  pub spare-select : (x : ℕ) → x / 2 ^ 32 ≡ getD l 26 0 / 2 ^ 32 → spare (set l 26 x) ≡ spare l
   unfolding spare
-  spare-select x =
+  spare-select x q =
       let a = getD-set-other l 26 24 x 0 (omega arith) in
       let b = getD-set-other l 26 25 x 0 (omega arith) in
       let c = getD-set-other l 26 30 x 0 (omega arith) in
       let d = getD-set-other l 26 31 x 0 (omega arith) in
-      let e = getD-set-other l 26 29 x 0 (omega arith) in
-      λ i. a i / 2 ^ 24 ∷ b i / 2 ^ 24 ∷ c i / 2 ^ 24 ∷ d i ∷ e i ∷ []
+      let e = ap (λ (n : ℕ). n / 2 ^ 32) (getD-set-same l 26 x 0 (omega arith)) ∙ q in
+      λ i. a i / 2 ^ 24 ∷ b i / 2 ^ 24 ∷ e i ∷ c i / 2 ^ 24 ∷ d i ∷ []
 
   -- a flag's word, and any other
   upper : (at g : ℕ) (up : Bool) → at < 32 → g < 24 → (k : ℕ) → getD (putFlag l at g up) k 0 / 2 ^ 24 ≡ getD l k 0 / 2 ^ 24
@@ -104,15 +104,15 @@ module _ (l : List ℕ) (long : length l ≡ 32) where
       go (yes e) = rw e (ap (λ (n : ℕ). n / 2 ^ 24) (getD-set-same l at (marked (getD l at 0) g up) 0 (omega arith)) ∙ marked-above 24 (getD l at 0) g up j)
       go (no e) = ap (λ (n : ℕ). n / 2 ^ 24) (getD-set-other l at k _ 0 e)
 
-  pub spare-flag : (at g : ℕ) (up : Bool) → at < 31 → (at ≡ 29 → ⊥) → g < 24 → spare (putFlag l at g up) ≡ spare l
+  pub spare-flag : (at g : ℕ) (up : Bool) → at < 31 → (at ≡ 26 → ⊥) → g < 24 → spare (putFlag l at g up) ≡ spare l
   unfolding spare
   spare-flag at g up h n j =
       let a = upper at g up (omega arith) j 24 in
       let b = upper at g up (omega arith) j 25 in
       let c = upper at g up (omega arith) j 30 in
       let d = getD-set-other l at 31 (marked (getD l at 0) g up) 0 (omega arith) in
-      let e = getD-set-other l at 29 (marked (getD l at 0) g up) 0 (λ q. n (sym q)) in
-      λ i. a i ∷ b i ∷ c i ∷ d i ∷ e i ∷ []
+      let e = ap (λ (n : ℕ). n / 2 ^ 32) (getD-set-other l at 26 (marked (getD l at 0) g up) 0 (λ q. n (sym q))) in
+      λ i. a i ∷ b i ∷ e i ∷ c i ∷ d i ∷ []
 
 -- a step that leaves the words as they are, and one step after another
 pub still : {A : Type 0} (l : List ℕ) → A → Keeps l l A
@@ -157,7 +157,7 @@ module _ (l w : List ℕ) (g : ℕ) (e : Entry) (here : g < 24) (is : entryIn w 
   view-parts =
       let b = beyond 27 (omega arith) in
       let z = beyond 28 (omega arith) in
-      let v = ap {B = ℕ} (λ (x : ℕ). cond (eqb x 0x20) 0x20 0x11) (beyond 29 (omega arith)) in
+      let v = beyond 29 (omega arith) in
       let s = ap (λ (x : ℕ). x % 2 ^ 32) (beyond 26 (omega arith)) in
       let n = ap (λ (x : ℕ). x % 2 ^ 24) (beyond 30 (omega arith)) in
       let t = within 0 24 g (omega arith) here (omega arith) in
@@ -215,7 +215,7 @@ unfolding view
 flight-is l w g up h k q =
     let b = getD-set-other l 30 27 _ 0 (omega arith) in
     let z = getD-set-other l 30 28 _ 0 (omega arith) in
-    let v = ap {B = ℕ} (λ (y : ℕ). cond (eqb y 0x20) 0x20 0x11) (getD-set-other l 30 29 _ 0 (omega arith)) in
+    let v = getD-set-other l 30 29 _ 0 (omega arith) in
     let s = ap (λ (y : ℕ). y % 2 ^ 32) (getD-set-other l 30 26 _ 0 (omega arith)) in
     let f = ap (λ (y : ℕ). y % 2 ^ 24) (getD-set-same l 30 (marked (getD l 30 0) g up) 0 (omega arith)) ∙ marked-cut 24 (getD l 30 0) g up k in
     let t = same-entries (putFlag l 30 g up) l (λ i j. getD-set-other l 30 i _ 0 (omega arith)) 0 24 (omega arith) in
@@ -224,16 +224,19 @@ flight-is l w g up h k q =
       kept = ap spare q ∙ spare-flag l h 30 g up (omega arith) (λ e. omega arith) k;
     }
 
-pub view-select : (l : List ℕ) (x : ℕ) → length l ≡ 32 → x < 2 ^ 32 → Keeps l (set l 26 x) (view (set l 26 x) ≡ withSelector (view l) x)
+pub view-select : (l : List ℕ) (x n : ℕ) → length l ≡ 32 → x < 2 ^ 32 → n ≡ withLow (getD l 26 0) x
+    → Keeps l (set l 26 n) (view (set l 26 n) ≡ withSelector (view l) x)
 unfolding view
-view-select l x h k =
-    let b = getD-set-other l 26 27 x 0 (omega arith) in
-    let z = getD-set-other l 26 28 x 0 (omega arith) in
-    let v = ap {B = ℕ} (λ (y : ℕ). cond (eqb y 0x20) 0x20 0x11) (getD-set-other l 26 29 x 0 (omega arith)) in
-    let s = ap (λ (y : ℕ). y % 2 ^ 32) (getD-set-same l 26 x 0 (omega arith)) ∙ mod-eq-of-lt k in
-    let f = ap (λ (y : ℕ). y % 2 ^ 24) (getD-set-other l 26 30 x 0 (omega arith)) in
-    let t = same-entries (set l 26 x) l (λ i j. getD-set-other l 26 i x 0 (omega arith)) 0 24 (omega arith) in
+view-select l x n h k q =
+    let low : n % 2 ^ 32 ≡ x = omega (arith, q, k) in
+    let high : n / 2 ^ 32 ≡ getD l 26 0 / 2 ^ 32 = omega (arith, q, k) in
+    let b = getD-set-other l 26 27 n 0 (omega arith) in
+    let z = getD-set-other l 26 28 n 0 (omega arith) in
+    let v = getD-set-other l 26 29 n 0 (omega arith) in
+    let s = ap (λ (y : ℕ). y % 2 ^ 32) (getD-set-same l 26 n 0 (omega arith)) ∙ low in
+    let f = ap (λ (y : ℕ). y % 2 ^ 24) (getD-set-other l 26 30 n 0 (omega arith)) in
+    let t = same-entries (set l 26 n) l (λ i j. getD-set-other l 26 i n 0 (omega arith)) 0 24 (omega arith) in
     record {
       is = λ i. record { base = b i; size = z i; version = v i; selector = s i; «in_flight» = f i; entries = t i };
-      kept = spare-select l h x;
+      kept = spare-select l h n high;
     }

@@ -1,5 +1,5 @@
 -- What private functions promise of the words. No promise of a public call uses a definition of this file.
-use Prim.Native.Nat.{ℕ, _/_, _%_, _^_}
+use Prim.Native.Nat.{ℕ, _+_, _*_, _/_, _%_, _^_}
 use mathlib.Core.Bool.{Bool, cond}
 use mathlib.Core.List.{List}
 use mathlib.Core.Path.{_≡_}
@@ -21,6 +21,10 @@ pub record Keeps (before after : List ℕ) (fact : Type 0) : Type 0 where
 -- the words with a flag of entry g moved, in word `at`
 abbrev pub putFlag : List ℕ → ℕ → ℕ → Bool → List ℕ
 putFlag l at g up = set l at (marked (getD l at 0) g up)
+
+-- a word with another lower half
+abbrev pub withLow : ℕ → ℕ → ℕ
+withLow w x = w / 2 ^ 32 * 2 ^ 32 + x
 
 -- entry g replaced, without a look at the word of lines in flight
 abbrev pub parts : IoApicState → ℕ → Entry → IoApicState

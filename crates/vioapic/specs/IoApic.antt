@@ -14,6 +14,8 @@ use Rattle.types.specs.declared.Refusal.the-variants.{Unsupported, InvalidAddre
 use Rattle.types.specs.declared.Reply.{Reply}
 use Rattle.types.specs.declared.Reply.the-variants.{Refused, Nothing, One, Two, Three}
 use Rattle.vioapic_entry.specs.Answers.{routedReply}
+use Rattle.vioapic.specs.declared.IoApicVersion.{IoApicVersion}
+use Rattle.vioapic.specs.declared.IoApicVersion.the-variants.{V11, V20}
 use Rattle.vioapic.specs.Answers.{eoiReply, gsiVectorReply, writtenReply}
 use Rattle.vioapic.specs.State.{IoApicState, view, spare}
 use Rattle.vioapic.specs.Table.{Routing, Ending, newEntry, interruptForEntry, setLevel, endOf, vectorFor}
@@ -42,7 +44,8 @@ Untouched (One a) before after = Unit
 Untouched (Two a b) before after = Unit
 Untouched (Three a b c) before after = Unit
 
--- a call over lent words, with its reply: its outcome; refused, the words untouched; and what isn't looked at stays as it is
+-- a call over lent words, with its reply: its outcome; refused, the words untouched; and what isn't looked at stays as it is. Outcome and
+-- `kept` say what every bit is (`Whole` of State.antt); `untouched` says the same of a refused call in one word
 pub record Leaves (before after : List ℕ) (r : Reply) (o : Outcome IoApicState) : Type 0 where
   pub outcome : record { state = view after; reply = r } ≡ o
   pub untouched : Untouched r before after
@@ -62,6 +65,17 @@ pub record Makes (before after : List ℕ) (r : Reply) (o : Outcome IoApicState)
 
 -- ---- a new state
 
+-- a version's number, as IOAPICVER has it; the version of a number, 0x11 for any but 0x20; whether there is one of that number
+abbrev pub versionNumber : IoApicVersion → ℕ
+versionNumber V11 = 0x11
+versionNumber V20 = 0x20
+
+abbrev pub versionOf : ℕ → IoApicVersion
+versionOf n = cond (eqb n 0x20) V20 V11
+
+abbrev pub isVersion : ℕ → Bool
+isVersion n = eqb n 0x11 || eqb n 0x20
+
 -- the range ends below 2^64
 abbrev pub fits : ℕ → ℕ → Bool
 fits base size = leb (base + size) (2 ^ 64 - 1)
@@ -75,17 +89,12 @@ chipOf version base size =
 abbrev pub chipAt : ℕ → ℕ → IoApicState
 chipAt base size = chipOf 0x11 base size
 
--- there are two versions
-abbrev pub isVersion : ℕ → Bool
-isVersion version = eqb version 0x11 || eqb version 0x20
-
 abbrev pub made : IoApicState → Outcome IoApicState
 made s = record { state = s; reply = Nothing }
 
--- `new_version`, and `new` with version 0x11, in the place of the state m
-unfoldable pub createdVersion : IoApicState → ℕ → ℕ → ℕ → Outcome IoApicState
-createdVersion m base size version =
-    cond (isVersion version) (cond (fits base size) (made (chipOf version base size)) (refuse m InvalidAddress)) (refuse m Unsupported)
+-- `new_version`, and `new` with version 0x11, in the place of the state m: its range alone can be refused
+unfoldable pub createdVersion : IoApicState → ℕ → ℕ → IoApicVersion → Outcome IoApicState
+createdVersion m base size version = cond (fits base size) (made (chipOf (versionNumber version) base size)) (refuse m InvalidAddress)
 
 -- `new_default`
 abbrev pub newDefault : IoApicState

@@ -8,10 +8,9 @@
 --   30       bit g: entry g is in flight
 --   31       spare
 use Prim.Native.Nat.{ℕ, zero, suc, _/_, _%_, _^_}
-use mathlib.Core.Bool.{cond}
 use mathlib.Core.List.{List, [], _∷_, _++_}
-use lib.Dec.{eqb}
-use lib.ListN.{getD, replicate}
+use mathlib.Core.Path.{_≡_}
+use lib.ListN.{length, getD, replicate}
 use Rattle.utils.specs.Set.{bit}
 use Rattle.vioapic_entry.specs.declared.Entry.{Entry}
 
@@ -37,15 +36,19 @@ unfoldable pub view : List ℕ → IoApicState
 view l = record {
   base = getD l 27 0;
   size = getD l 28 0;
-  version = cond (eqb (getD l 29 0) 0x20) 0x20 0x11;
+  version = getD l 29 0;
   selector = getD l 26 0 % 2 ^ 32;
   «in_flight» = getD l 30 0 % 2 ^ 24;
   entries = entriesFrom l 0 24;
 }
 
--- what isn't looked at, and stays as it is: the upper bits of words 24, 25 and 30, the spare word, and which number the version is
+-- what isn't looked at, and stays as it is: the upper bits of words 24, 25, 26 and 30, and the spare word; every other bit is the state's
 unfoldable pub spare : List ℕ → List ℕ
-spare l = getD l 24 0 / 2 ^ 24 ∷ getD l 25 0 / 2 ^ 24 ∷ getD l 30 0 / 2 ^ 24 ∷ getD l 31 0 ∷ getD l 29 0 ∷ []
+spare l = getD l 24 0 / 2 ^ 24 ∷ getD l 25 0 / 2 ^ 24 ∷ getD l 26 0 / 2 ^ 32 ∷ getD l 30 0 / 2 ^ 24 ∷ getD l 31 0 ∷ []
+
+-- nothing else is in the words, so that an equation of both is one of all of them
+abbrev pub Whole : Type 0
+Whole = (a b : List ℕ) → length a ≡ 32 → length b ≡ 32 → view a ≡ view b → spare a ≡ spare b → a ≡ b
 
 -- a new state's words: every entry masked, the lines down, nothing deferred
 abbrev pub newWords : ℕ → ℕ → ℕ → List ℕ

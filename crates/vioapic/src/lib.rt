@@ -24,11 +24,12 @@ ghost use Rattle.vioapic_entry.specs.Answers.{routedReply};
 ghost use Rattle.vioapic_entry.specs.Redirection.{vectorOf, remoteIrr, isLevel, withRemoteIrr, withoutRemoteIrr, withWord, withDeferred, withInput, awaits, sendEntry, raiseEntry, lowerEntry, endEntry, endEntry20, writeLow, writeHigh};
 ghost use Rattle.vioapic_entry.specs.declared.Routed.the-variants.{Interrupt};
 ghost use Rattle.vioapic.specs.Answers.{eoiReply, everyReply, gsiVectorReply, readReply, writtenReply, rangeReply, endedReply};
+ghost use Rattle.vioapic.specs.declared.IoApicVersion.the-variants.{V11};
 ghost use Rattle.vioapic.specs.State.{view, newWords};
 ghost use Rattle.vioapic.specs.Table.{isVersion20, entryAt, put, routing, routeAt, ending, firstAwaiting, endOfEntry, everyAnswer, endOfEvery, vectorOfEntry};
 ghost use Rattle.vioapic.specs.Registers.{isEntryWord, isLow, entryOf, versionWord, readFixed, readWord, readSelected, writing, writeSelected, readAt, writtenBy, writeEoi, writeAt};
-ghost use Rattle.vioapic.specs.IoApic.{goodWidth, fits, isVersion, chipAt, newDefault, Leaves, Makes, createdVersion, vectorForGsi, addressRange, assertGsi, setGsiLevel, endOfInterrupt, handleRead, handleWrite};
-ghost use Rattle.vioapic.specs.Inside.{Keeps, putFlag, everyEnd, endNext, everyEnding, clearedIn, sentIn};
+ghost use Rattle.vioapic.specs.IoApic.{goodWidth, fits, versionNumber, versionOf, isVersion, chipAt, newDefault, Leaves, Makes, createdVersion, vectorForGsi, addressRange, assertGsi, setGsiLevel, endOfInterrupt, handleRead, handleWrite};
+ghost use Rattle.vioapic.specs.Inside.{Keeps, putFlag, withLow, everyEnd, endNext, everyEnding, clearedIn, sentIn};
 
 pub const IOAPIC_BASE: u64 = 0xfec0_0000;
 
@@ -57,10 +58,9 @@ const IOAPIC_VERSION_VALUE: u64 = 0x0017_0011;
 
 const IOAPIC_VERSION_20_VALUE: u64 = 0x0017_0020;
 
-pub const VERSION_11: u64 = 0x11;
+const VERSION_11: u64 = 0x11;
 
-// That of Intel's I/O Controller Hubs.
-pub const VERSION_20: u64 = 0x20;
+const VERSION_20: u64 = 0x20;
 
 const ENTRIES: usize = 24;
 
@@ -77,6 +77,14 @@ const SIZE: usize = 28;
 const VERSION: usize = 29;
 
 const IN_FLIGHT: usize = 30;
+
+// The versions that there are.
+pub enum IoApicVersion {
+    // The 82093AA's.
+    V11,
+    // That of Intel's I/O Controller Hubs.
+    V20,
+}
 
 // Result of a virtual IO APIC EOI broadcast: the GSI whose remote-IRR state was cleared, and the interrupt that should be injected now.
 pub struct IoApicEoi {
@@ -118,6 +126,28 @@ pub enum Written {
 pub enum AddressRange {
     Between(u64, u64),
     NoRange(Refusal),
+}
+
+impl IoApicVersion {
+    // As IOAPICVER has it.
+    pub fn number(self) -> u64
+        ensures { λ r. ⌜ r ≡ versionNumber self ⌝ }
+    {
+        match self {
+            IoApicVersion::V11 => VERSION_11,
+            IoApicVersion::V20 => VERSION_20,
+        }
+    }
+
+    // That of a number, which is 0x11 where it isn't 0x20 (`is_version` says whether there is one of that number).
+    pub fn of(number: u64) -> IoApicVersion
+        ensures { λ r. ⌜ r ≡ versionOf number ⌝ }
+    {
+        if number == VERSION_20 {
+            return IoApicVersion::V20;
+        }
+        IoApicVersion::V11
+    }
 }
 
 impl IoApicEoi {
@@ -226,13 +256,10 @@ pub fn size(words: &[u64; 32]) -> u64
     words[SIZE]
 }
 
-pub fn version(words: &[u64; 32]) -> u64
-    ensures { λ r. ⌜ r ≡ view (now (words .entry)) .version ⌝ }
+pub fn version(words: &[u64; 32]) -> IoApicVersion
+    ensures { λ r. ⌜ r ≡ versionOf (view (now (words .entry)) .version) ⌝ }
 {
-    if words[VERSION] == VERSION_20 {
-        return VERSION_20;
-    }
-    VERSION_11
+    IoApicVersion::of(words[VERSION])
 }
 
 pub fn selector(words: &[u64; 32]) -> u32
@@ -620,7 +647,7 @@ fn read_selected_register(words: &[u64; 32]) -> u64
     if is_entry_word(selected) {
         return read_word(selected, entry_in(words, entry_of(selected)));
     }
-    read_fixed(version(words), selected)
+    read_fixed(words[VERSION], selected)
 }
 
 fn read_at(words: &[u64; 32], offset: u64) -> u64
@@ -717,12 +744,19 @@ fn write_eoi(words: &mut [u64; 32], value: u32) -> Written
         .written()
 }
 
+// The word with another lower half.
+fn with_low(word: u64, value: u32) -> u64
+    ensures { λ r. ⌜ r ≡ withLow word value ⌝ }
+{
+    word / 0x1_0000_0000 * 0x1_0000_0000 + value as u64
+}
+
 fn write_at(words: &mut [u64; 32], offset: u64, value: u32) -> Written
     ensures { λ r. ⌜ Keeps (now (words .entry)) (now (words .exit)) (writing (view (now (words .exit))) r ≡ writeAt (view (now (words .entry))) offset value) ⌝ }
 {
     if offset == IOREGSEL {
         seen(&*words);
-        words[SELECTOR] = value as u64;
+        words[SELECTOR] = with_low(words[SELECTOR], value);
         return Written::Done;
     }
     if offset == IOWIN {
@@ -748,13 +782,14 @@ pub fn handle_write(words: &mut [u64; 32], addr: u64, width: u64, value: u64) ->
     write_at(&mut *words, addr - start, (value % 0x1_0000_0000) as u32)
 }
 
-pub fn is_version(version: u64) -> bool
-    ensures { λ r. ⌜ r ≡ isVersion version ⌝ }
+// Whether there is a version of that number.
+pub fn is_version(number: u64) -> bool
+    ensures { λ r. ⌜ r ≡ isVersion number ⌝ }
 {
-    if version == VERSION_11 {
+    if number == VERSION_11 {
         return true;
     }
-    version == VERSION_20
+    number == VERSION_20
 }
 
 fn put_new(words: &mut [u64; 32], version: u64, base: u64, size: u64)
@@ -796,30 +831,27 @@ fn put_new(words: &mut [u64; 32], version: u64, base: u64, size: u64)
     ];
 }
 
-// Create a new IO APIC, of version 0x11 or 0x20.
-pub fn new_version(words: &mut [u64; 32], base: u64, size: u64, version: u64) -> Written
-    ensures { λ r. ⌜ Makes (now (words .entry)) (now (words .exit)) (writtenReply r) (createdVersion (view (now (words .entry))) base size version) (newWords version base size) ⌝ }
+// Create a new IO APIC, of either version: its range alone can be refused.
+pub fn new_version(words: &mut [u64; 32], base: u64, size: u64, version: IoApicVersion) -> Written
+    ensures { λ r. ⌜ Makes (now (words .entry)) (now (words .exit)) (writtenReply r) (createdVersion (view (now (words .entry))) base size version) (newWords (versionNumber version) base size) ⌝ }
 {
-    if !is_version(version) {
-        return Written::NotWritten(Refusal::Unsupported);
-    }
     if !fits(base, size) {
         return Written::NotWritten(Refusal::InvalidAddress);
     }
-    put_new(&mut *words, version, base, size);
+    put_new(&mut *words, version.number(), base, size);
     Written::Done
 }
 
 // Of version 0x11.
 pub fn new(words: &mut [u64; 32], base: u64, size: u64) -> Written
-    ensures { λ r. ⌜ Makes (now (words .entry)) (now (words .exit)) (writtenReply r) (createdVersion (view (now (words .entry))) base size 0x11) (newWords 0x11 base size) ⌝ }
+    ensures { λ r. ⌜ Makes (now (words .entry)) (now (words .exit)) (writtenReply r) (createdVersion (view (now (words .entry))) base size V11) (newWords 0x11 base size) ⌝ }
 {
-    new_version(&mut *words, base, size, VERSION_11)
+    new_version(&mut *words, base, size, IoApicVersion::V11)
 }
 
 // Create an IO APIC at the default PC-compatible GPA.
 pub fn new_default(words: &mut [u64; 32]) -> Written
-    ensures { λ r. ⌜ Makes (now (words .entry)) (now (words .exit)) (writtenReply r) (createdVersion (view (now (words .entry))) 0xfec00000 0x1000 0x11) (newWords 0x11 0xfec00000 0x1000) ⌝ }
+    ensures { λ r. ⌜ Makes (now (words .entry)) (now (words .exit)) (writtenReply r) (createdVersion (view (now (words .entry))) 0xfec00000 0x1000 V11) (newWords 0x11 0xfec00000 0x1000) ⌝ }
 {
     new(&mut *words, IOAPIC_BASE, IOAPIC_SIZE)
 }
@@ -937,14 +969,14 @@ impl EmulatedIoApic {
     // Create a new `EmulatedIoApic`, of version 0x11. Where base and size don't fit, nothing is created: beside the refusal stands
     // a chip that covers no address.
     pub fn new(base: u64, size: u64) -> IoApicWriting
-        ensures { λ r. ⌜ Makes (newWords 0x11 0 0) (r .chip .words) (writtenReply (r .answer)) (createdVersion (chipAt 0 0) base size 0x11) (newWords 0x11 base size) ⌝ }
+        ensures { λ r. ⌜ Makes (newWords 0x11 0 0) (r .chip .words) (writtenReply (r .answer)) (createdVersion (chipAt 0 0) base size V11) (newWords 0x11 base size) ⌝ }
     {
-        EmulatedIoApic::new_version(base, size, VERSION_11)
+        EmulatedIoApic::new_version(base, size, IoApicVersion::V11)
     }
 
-    // The same of version 0x11 or 0x20; another number is refused likewise.
-    pub fn new_version(base: u64, size: u64, version: u64) -> IoApicWriting
-        ensures { λ r. ⌜ Makes (newWords 0x11 0 0) (r .chip .words) (writtenReply (r .answer)) (createdVersion (chipAt 0 0) base size version) (newWords version base size) ⌝ }
+    // The same of either version.
+    pub fn new_version(base: u64, size: u64, version: IoApicVersion) -> IoApicWriting
+        ensures { λ r. ⌜ Makes (newWords 0x11 0 0) (r .chip .words) (writtenReply (r .answer)) (createdVersion (chipAt 0 0) base size version) (newWords (versionNumber version) base size) ⌝ }
     {
         let mut words = [0; 32];
         put_new(&mut words, VERSION_11, 0, 0);

@@ -9,15 +9,14 @@ use Rattle.vioapic.proofs.Agree.{new-agrees, calls-agree}
 use Rattle.vioapic.proofs.Ways.{new-shows}
 use Rattle.vioapic.specs.Agreement.{Agrees}
 use Rattle.vioapic.specs.Calls.{Call, EndOfInterrupt, outcome}
-use Rattle.vioapic.specs.IoApic.{isVersion}
 use Rattle.vioapic.specs.State.{IoApicState, view, newWords}
 use Rattle.vioapic_c.specs.Calls.{Coded, endNumber}
 
 abbrev pub AgreesIn : List ℕ → Type 0
 AgreesIn l = Agrees (view l)
 
-pub new-words-agree : (version base size : ℕ) → isVersion version ≡ true → AgreesIn (newWords version base size)
-new-words-agree version base size h = subst⁻¹ (λ (m : IoApicState). Agrees m) (new-shows version base size h) (new-agrees version base size)
+pub new-words-agree : (version base size : ℕ) → AgreesIn (newWords version base size)
+new-words-agree version base size = subst⁻¹ (λ (m : IoApicState). Agrees m) (new-shows version base size) (new-agrees version base size)
 
 module _ (l w : List ℕ) (n : ℕ) (agrees : AgreesIn l) where
   -- assert_gsi, set_gsi_level and handle_write

@@ -1,22 +1,26 @@
 -- A call's answer, its reply and the reply's code: l are the words before, w those after. Assumes nothing.
 use Prim.Native.Nat.{ℕ, _<_, _≤_}
-use mathlib.Core.Bool.{Bool}
+use mathlib.Core.Bool.{Bool, true, false, not, cond, _||_}
 use mathlib.Core.List.{List, [], _∷_}
 use mathlib.Core.Path.{_≡_, refl, sym, ap, _∙_, subst}
-use borrow.Author.Tests.{lt-ltb, le-ltb}
+use borrow.Author.Tests.{lt-ltb, le-ltb, eqb-true, not-true, not-false}
+use lib.Dec.{eqb}
+use Rattle.utils.proofs.Bools.{never}
 use Rattle.types.specs.Reply.{Outcome}
 use Rattle.types.specs.declared.Gsi.{Gsi}
 use Rattle.types.specs.declared.Refusal.{Refusal}
-use Rattle.types.specs.declared.Refusal.the-variants.{OutOfRange}
+use Rattle.types.specs.declared.Refusal.the-variants.{Unsupported, OutOfRange}
 use Rattle.types.specs.declared.Reply.{Reply}
 use Rattle.types.specs.declared.Reply.the-variants.{Refused, Nothing, Two}
 use Rattle.reply_code.specs.Lent.{Lent, replyCode, lent}
 use Rattle.vioapic.specs.Answers.{rangeReply}
-use Rattle.vioapic.specs.State.{IoApicState, view}
-use Rattle.vioapic.specs.IoApic.{Untouched, newOr, Leaves, Makes, setGsiLevel, endOfInterrupt, addressRange}
+use Rattle.vioapic.specs.State.{IoApicState, view, newWords}
+use Rattle.vioapic.specs.IoApic.{Untouched, newOr, versionNumber, versionOf, isVersion, Leaves, Makes, createdVersion, setGsiLevel, endOfInterrupt, addressRange}
+use Rattle.vioapic.specs.declared.IoApicVersion.{IoApicVersion}
+use Rattle.vioapic.specs.declared.IoApicVersion.the-variants.{V11, V20}
 use Rattle.vioapic.specs.declared.AddressRange.{AddressRange}
 use Rattle.vioapic.specs.declared.AddressRange.the-variants.{Between, NoRange}
-use Rattle.vioapic_c.specs.Calls.{Coded, Made, endNumber, rangeWords}
+use Rattle.vioapic_c.specs.Calls.{Coded, Made, newNumber, endNumber, rangeWords}
 
 module _ (l w : List ℕ) (r x : Reply) (n : ℕ) (same : x ≡ r) (en : n ≡ replyCode x) where
   pub coded : (o : Outcome IoApicState) → Leaves l w r o → Coded l w n o
@@ -46,6 +50,32 @@ module _ (l w : List ℕ) (r x : Reply) (n : ℕ) (same : x ≡ r) (en : n ≡ r
 pub end-wide : (l : List ℕ) (v n : ℕ) → 256 ≤ v → n ≡ replyCode (Refused OutOfRange) → Coded l l n (endNumber (view l) v)
 unfolding endNumber
 end-wide l v n h e = rw (le-ltb _ _ h) (record { shows = (refl, e); untouched = refl; kept = refl })
+
+-- new_version: the number of the version of a number
+number-of : (n : ℕ) → isVersion n ≡ true → versionNumber (versionOf n) ≡ n
+number-of n h = go (eqb n 0x11) (eqb n 0x20) refl refl h
+  where
+    go : (a b : Bool) → eqb n 0x11 ≡ a → eqb n 0x20 ≡ b → (a || b) ≡ true → versionNumber (cond b V20 V11) ≡ n
+    go a true p q s = sym (eqb-true n 0x20 q)
+    go true false p q s = sym (eqb-true n 0x11 p)
+    go false false p q s = never s refl
+
+module _ (l : List ℕ) (base size version : ℕ) (b : Bool) (is : b ≡ isVersion version) where
+  pub new-unknown : (n : ℕ) → not b ≡ true → n ≡ replyCode (Refused Unsupported) → Made l l n (newNumber (view l) base size version) (newWords version base size)
+  unfolding newNumber
+  new-unknown n h e = rw (sym is ∙ not-true b h) (record { shows = (refl, e); words = refl })
+
+  pub new-known : (w : List ℕ) (v : IoApicVersion) (r x : Reply) (n : ℕ) → not b ≡ false → v ≡ versionOf version
+      → Makes l w r (createdVersion (view l) base size v) (newWords (versionNumber v) base size) → x ≡ r → n ≡ replyCode x
+      → Made l w n (newNumber (view l) base size version) (newWords version base size)
+  unfolding newNumber
+  new-known w v r x n h q k same en =
+      let s : isVersion version ≡ true = sym is ∙ not-false b h in
+      let p = ap (λ (z : ℕ). newWords z base size) (ap versionNumber q ∙ number-of version s) in
+      let o = ap (createdVersion (view l) base size) q in
+      rw s (subst (Made l w n (createdVersion (view l) base size (versionOf version))) p
+      (subst (λ (z : Outcome IoApicState). Made l w n z (newWords (versionNumber v) base size)) o
+      (made l w r x n same en (createdVersion (view l) base size v) (newWords (versionNumber v) base size) k)))
 
 -- a call that only reads
 pub told : (r x y : Reply) (n : ℕ) → x ≡ r → r ≡ y → n ≡ replyCode x → n ≡ replyCode y

@@ -6,12 +6,12 @@ use mathlib.Core.List.{List, [], _∷_}
 use mathlib.Core.Path.{_≡_}
 use lib.Dec.{ltb}
 use Rattle.types.specs.Reply.{Outcome}
-use Rattle.types.specs.declared.Refusal.the-variants.{OutOfRange}
+use Rattle.types.specs.declared.Refusal.the-variants.{Unsupported, OutOfRange}
 use Rattle.types.specs.declared.Reply.{Reply}
 use Rattle.types.specs.declared.Reply.the-variants.{Refused, Nothing, One, Two, Three}
 use Rattle.reply_code.specs.Lent.{Lent, Shows, refusing, answering, lent}
 use Rattle.vioapic.specs.State.{IoApicState, view, spare}
-use Rattle.vioapic.specs.IoApic.{Untouched, newOr, refuse, endOfInterrupt, addressRange}
+use Rattle.vioapic.specs.IoApic.{Untouched, newOr, refuse, versionOf, isVersion, createdVersion, endOfInterrupt, addressRange}
 
 -- the state after a call and its code are those of the outcome; refused, the words are untouched; and what isn't looked at stays as it is
 pub record Coded (before after : List ℕ) (code : ℕ) (o : Outcome IoApicState) : Type 0 where
@@ -23,6 +23,10 @@ pub record Coded (before after : List ℕ) (code : ℕ) (o : Outcome IoApicState
 pub record Made (before after : List ℕ) (code : ℕ) (o : Outcome IoApicState) (new : List ℕ) : Type 0 where
   pub shows : Shows view (lent after code) o
   pub words : after ≡ newOr (o .reply) new before
+
+-- new_version: a version comes as a number, and one that there isn't is refused before the range is looked at
+unfoldable pub newNumber : IoApicState → ℕ → ℕ → ℕ → Outcome IoApicState
+newNumber m base size version = cond (isVersion version) (createdVersion m base size (versionOf version)) (refuse m Unsupported)
 
 -- end_of_interrupt: a vector has eight bits
 unfoldable pub endNumber : IoApicState → ℕ → Outcome IoApicState

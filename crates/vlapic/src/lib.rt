@@ -9,7 +9,7 @@
 
 ghost use mathlib.Core.Path.{_≡_};
 ghost use mathlib.Core.Bool.{false};
-ghost use Prim.Native.Nat.{_<_, _≤_};
+ghost use Prim.Native.Nat.{_<_};
 ghost use Rattle.types.specs.declared.Reply.the-variants.{One};
 ghost use Rattle.vlapic.specs.Regs.{start, withIsr, withTmr, withTpr, withLdr, withDfr, withSvr, withErrors, withPending, withIcrHi};
 ghost use Rattle.vlapic.specs.Answers.{eoiReply, readReply, writeReply, eoiOutcome, writeOutcome, done, refused};
@@ -126,13 +126,13 @@ impl WriteAnswer {
 }
 
 // More vCPUs than a mask has bits, or an id that no mask can hold.
-pub fn is_out_of_range(vcpu_num: usize, vcpu_id: usize) -> bool
-    ensures { λ r. ⌜ r ≡ outOfRange «vcpu_num» «vcpu_id» ⌝ }
+pub fn is_out_of_range(vcpu_num: usize, vcpu_id: VcpuId) -> bool
+    ensures { λ r. ⌜ r ≡ outOfRange «vcpu_num» («vcpu_id» .0) ⌝ }
 {
     if vcpu_num > 64 {
         return true;
     }
-    vcpu_id > 63
+    vcpu_id.0 > 63
 }
 
 // The start, by id and mode.
@@ -176,11 +176,10 @@ impl VirtualApicRegs {
     pub fn setup(self, x2apic: bool, vcpu_id: VcpuId, vcpu_num: usize) -> Written
         ensures { λ r. ⌜ writeOutcome r ≡ setup self x2apic «vcpu_id» «vcpu_num» ⌝ }
     {
-        let id = vcpu_id.0;
-        if is_out_of_range(vcpu_num, id) {
+        if is_out_of_range(vcpu_num, vcpu_id) {
             return self.refuse(Refusal::OutOfRange);
         }
-        reset(x2apic, id as u32).ok()
+        reset(x2apic, vcpu_id.apic_id()).ok()
     }
 
     fn ok(self) -> Written
@@ -206,7 +205,7 @@ impl VirtualApicRegs {
         ensures { λ r. ⌜ r .0 ≡ findIsrv self ⌝ }
     {
         let isr = self.isr;
-        Vector(vectors::find_isrv(isr))
+        vectors::find_isrv(isr)
     }
 
     fn update_ppr(mut self) -> VirtualApicRegs
@@ -476,7 +475,6 @@ impl VirtualApicRegs {
 
     // Puts the command's words, the delivery status cleared, and carries the command out.
     fn write_icr(mut self, lo: u32, hi: u32, vcpu_num: usize, active_vcpus: u64) -> Written
-        requires { ⌜ («vcpu_num» ≤ 64) × (self .«vapic_id» ≤ 63) ⌝ }
         ensures { λ r. ⌜ writeOutcome r ≡ writeIcr self lo hi «vcpu_num» «active_vcpus» ⌝ }
     {
         self.icr_lo = vlapic_icr::fields::idle(lo);
@@ -494,7 +492,6 @@ impl VirtualApicRegs {
 
     // A write of the ICR's low word; in x2APIC mode of both words.
     fn write_icr_low(self, val: u64, width: u8, vcpu_num: usize, active_vcpus: u64) -> Written
-        requires { ⌜ («vcpu_num» ≤ 64) × (self .«vapic_id» ≤ 63) ⌝ }
         ensures { λ r. ⌜ writeOutcome r ≡ writeIcrLow self val width «vcpu_num» «active_vcpus» ⌝ }
     {
         if vlapic_icr::fields::is_icr_width(self.x2apic, width) {
@@ -507,12 +504,11 @@ impl VirtualApicRegs {
 
     // A write of the self-IPI register, which x2APIC mode alone has.
     fn write_self_ipi(self, val: u64) -> Written
-        requires { ⌜ self .«vapic_id» ≤ 63 ⌝ }
         ensures { λ r. ⌜ writeOutcome r ≡ writeSelfIpi self val ⌝ }
     {
         if self.x2apic {
             let vector = Vector((val % 256) as u8);
-            return self.answer(vlapic_icr::handle_self_ipi(VcpuId(self.vapic_id as usize), vector));
+            return self.answer(vlapic_icr::handle_self_ipi(VcpuId::of_apic(self.vapic_id), vector));
         }
         self.refuse(Refusal::InvalidRegister)
     }
@@ -537,7 +533,7 @@ impl VirtualApicRegs {
     ) -> Written
         ensures { λ r. ⌜ writeOutcome r ≡ handleWrite self offset val width «vcpu_num» «active_vcpus» ⌝ }
     {
-        if is_out_of_range(vcpu_num, self.vapic_id as usize) {
+        if is_out_of_range(vcpu_num, VcpuId::of_apic(self.vapic_id)) {
             return self.refuse(Refusal::OutOfRange);
         }
         match offset {

@@ -28,22 +28,13 @@ use Rattle.vlapic_icr.specs.Icr.{deliver, calculateDest, command, selfIpi}
 use Rattle.vlapic.specs.declared.VirtualApicRegs.{VirtualApicRegs}
 use Rattle.vlapic.specs.Regs.{withCommand}
 use Rattle.vlapic.specs.Calls.{outOfRange, answered, commandOf, writeIcr, writeIcrLow, writeSelfIpi, handleWrite}
-use Rattle.vlapic.specs.Priority.{broadcasts, handleEoi}
 use Rattle.vlapic.specs.Registers.{wordAt, readable, eightFrom, handleRead, inXapic, stored, outcomeAt, writeStored}
 use Rattle.vlapic_words.specs.Words.{word, eight, view}
-use Rattle.vlapic_words.specs.Steps.{served}
 use Rattle.vlapic_words.proofs.Runs.{at-from}
-use Rattle.vlapic_words.proofs.Search.{served-small}
 use Rattle.vlapic_words.proofs.View.{cut-small}
 use Rattle.vlapic_c.specs.Calls.{Coded, coded, Sent, sentCode, sentMask, sent}
 
 -- ---- the chip's replies fit their codes
-
-pub eoi-fits : (l : List ℕ) → Fits (handleEoi (view l) .reply)
-unfolding handleEoi view
-eoi-fits l =
-    let h = served-small l in
-    both (λ (o : Outcome VirtualApicRegs). Fits (o .reply)) (eqb (served l) 0) _ _ tt (both Fits (broadcasts (view l) (served l)) _ _ (omega arith) tt)
 
 abbrev Small : List (ℕ × ℕ) → Type 0
 Small [] = Unit

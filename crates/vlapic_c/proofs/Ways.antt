@@ -9,14 +9,14 @@ use Rattle.types.specs.declared.Refusal.the-variants.{InvalidRegister, OutOfRan
 use Rattle.types.specs.declared.Reply.{Reply}
 use Rattle.types.specs.declared.Reply.the-variants.{Refused, Nothing}
 use Rattle.types.specs.declared.VcpuId.{VcpuId}
-use Rattle.types.specs.Reply.{Outcome}
+use Rattle.types.specs.Reply.{Outcome, Kept}
 use Rattle.reply_code.specs.Lent.{replyCode, isUp}
 use Rattle.vlapic.specs.declared.VirtualApicRegs.{VirtualApicRegs}
 use Rattle.vlapic.specs.Answers.{refused}
 use Rattle.vlapic.specs.Priority.{acceptInterrupt}
 use Rattle.vlapic.specs.Calls.{setup, handleWrite}
 use Rattle.vlapic_words.specs.Words.{view}
-use Rattle.vlapic_words.specs.Calls.{Kept, Leaves, refusedWords}
+use Rattle.vlapic_words.specs.Calls.{Leaves, refusedWords}
 use Rattle.vlapic_words.proofs.Ways.{same, leaves-as}
 use Rattle.vlapic_c.specs.Calls.{coded, Lent, accepting, sentCode, sentMask, sent, LentSent, writing, writingRefused}
 

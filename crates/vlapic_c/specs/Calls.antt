@@ -8,14 +8,14 @@ use lib.ListN.{set}
 use Rattle.types.specs.declared.Refusal.the-variants.{InvalidRegister, OutOfRange}
 use Rattle.types.specs.declared.Reply.{Reply}
 use Rattle.types.specs.declared.Reply.the-variants.{Refused, Nothing, One, Two, Three}
-use Rattle.types.specs.Reply.{Outcome}
+use Rattle.types.specs.Reply.{Outcome, Kept}
 use Rattle.reply_code.specs.Lent.{replyCode, isUp}
 use Rattle.vlapic.specs.declared.VirtualApicRegs.{VirtualApicRegs}
 use Rattle.vlapic.specs.Answers.{refused}
 use Rattle.vlapic.specs.Priority.{acceptInterrupt}
 use Rattle.vlapic.specs.Calls.{handleWrite}
 use Rattle.vlapic_words.specs.Words.{view}
-use Rattle.vlapic_words.specs.Calls.{Kept, Stored, refusedWords}
+use Rattle.vlapic_words.specs.Calls.{Stored, refusedWords}
 
 -- ---- a number
 

@@ -9,7 +9,7 @@ use lib.Pow.{pow-pos}
 use lib.Bits.{bitAnd, and-step, and-le-l}
 use borrow.Author.Tests.{eq-eqb, ne-eqb, ltb-true, ltb-false}
 use Rattle.utils.specs.Set.{bit, first}
-use Rattle.utils.proofs.Laws.{bit-zero, bit-suc, bit-above, same-bits}
+use Rattle.utils.proofs.Laws.{bit-zero, bit-suc, bit-none, same-bits}
 use Rattle.utils.proofs.Search.{first-holds, first-before}
 use Rattle.vlapic_icr.specs.Icr.{share}
 
@@ -30,9 +30,6 @@ bit-and x y (suc k) =
     let e : bitAnd x y / 2 ≡ bitAnd (x / 2) (y / 2) = omega (arith, and-step x y, min-le-left (x % 2) (y % 2)) in
     rw (bit-suc (bitAnd x y) k, bit-suc x k, bit-suc y k, e) (bit-and (x / 2) (y / 2) k)
 
-nothing : (k : ℕ) → bit 0 k ≡ false
-nothing k = bit-above 0 0 k (omega arith) (omega arith)
-
 pub share-and : (a b : ℕ) → a < 256 → not (eqb (bitAnd a b) 0) ≡ share a b
 share-and a b h = go (share a b) refl
   where
@@ -40,10 +37,10 @@ share-and a b h = go (share a b) refl
     go true e =
         let k = first 8 (λ i. bit a i && bit b i) in
         let t : (bit a k && bit b k) ≡ true = first-holds 8 (λ i. bit a i && bit b i) (ltb-true k 8 e) in
-        ap not (ne-eqb (bitAnd a b) 0 (λ z. true≢false (sym t ∙ sym (bit-and a b k) ∙ ap (λ (n : ℕ). bit n k) z ∙ nothing k)))
+        ap not (ne-eqb (bitAnd a b) 0 (λ z. true≢false (sym t ∙ sym (bit-and a b k) ∙ ap (λ (n : ℕ). bit n k) z ∙ bit-none k)))
     go false e =
         let q : 8 ≤ first 8 (λ i. bit a i && bit b i) = ltb-false (first 8 (λ i. bit a i && bit b i)) 8 e in
         ap not
         (eq-eqb (bitAnd a b) 0
         (same-bits 8 (bitAnd a b) 0 (lt-of-le-of-lt (and-le-l a b) h) (pow-pos 8)
-        (λ k l. bit-and a b k ∙ first-before 8 (λ i. bit a i && bit b i) k (omega arith) ∙ sym (nothing k))))
+        (λ k l. bit-and a b k ∙ first-before 8 (λ i. bit a i && bit b i) k (omega arith) ∙ sym (bit-none k))))

@@ -8,6 +8,7 @@ use Rattle.utils.specs.Set.{bit, without, below, first}
 use Rattle.types.specs.declared.Refusal.the-variants.{InvalidDelivery, OutOfRange}
 use Rattle.types.specs.declared.VcpuId.{VcpuId}
 use Rattle.types.specs.declared.Vector.{Vector}
+use Rattle.types.specs.Counters.{vcpuMask, vcpuOf}
 use Rattle.vlapic_icr.specs.declared.InterruptCommand.{InterruptCommand}
 use Rattle.vlapic_icr.specs.declared.DestMatch.{DestMatch}
 use Rattle.vlapic_icr.specs.declared.DestMatch.the-variants.{Matched, Unmatched, ReservedModel}
@@ -61,7 +62,7 @@ destNoShorthand s num active =
 
 unfoldable pub calculateDest : InterruptCommand → ℕ → ℕ → Dest
 calculateDest s num active =
-    cond (eqb (shorthand (s .«icr_lo»)) 1) (Mask (2 ^ (s .«vapic_id»)))
+    cond (eqb (shorthand (s .«icr_lo»)) 1) (Mask (vcpuMask (vcpuOf (s .«vapic_id»))))
     (cond (eqb (shorthand (s .«icr_lo»)) 2) (Mask active)
     (cond (eqb (shorthand (s .«icr_lo»)) 3) (Mask (without active (s .«vapic_id»)))
     (destNoShorthand s num active)))
@@ -90,4 +91,4 @@ command s num active =
 
 -- the self-IPI register: a fixed interrupt to this vCPU alone
 unfoldable pub selfIpi : VcpuId → Vector → IcrAnswer
-selfIpi id vector = cond (ltb (vector .0) 16) SendIllegalVector (Ipi 0 vector (2 ^ (id .0)))  -- D-77: not also "receive illegal vector"
+selfIpi id vector = cond (ltb (vector .0) 16) SendIllegalVector (Ipi 0 vector (vcpuMask id))  -- D-77: not also "receive illegal vector"

@@ -7,11 +7,12 @@
 
 ghost use mathlib.Core.Path.{_≡_};
 ghost use Rattle.vlapic_icr.specs.Fields.{vectorField, deliveryMode, isLogical, shorthand, idle, icrWidth, icrHigh, isReservedMode, isIllegalVector, includesSelf, isInvalidShorthand, isUnsent};
+use types::Vector;
 
-pub fn vector(lo: u32) -> u8
-    ensures { λ r. ⌜ r ≡ vectorField lo ⌝ }
+pub fn vector(lo: u32) -> Vector
+    ensures { λ r. ⌜ r .0 ≡ vectorField lo ⌝ }
 {
-    (lo % 256) as u8
+    Vector((lo % 256) as u8)
 }
 
 // 0 fixed, 1 lowest priority, 2 SMI, 4 NMI, 5 INIT, 6 startup; 3 and 7 are reserved.
@@ -64,7 +65,7 @@ pub fn icr_high(x2apic: bool, val: u64, icr_hi: u32) -> u32
 pub fn is_reserved_mode(lo: u32) -> bool
     ensures { λ r. ⌜ r ≡ isReservedMode lo ⌝ }
 {
-    let mode = lo / 256 % 8;
+    let mode = delivery_mode(lo);
     if mode == 3 {
         return true;
     }
@@ -75,9 +76,8 @@ pub fn is_reserved_mode(lo: u32) -> bool
 pub fn is_illegal_vector(lo: u32) -> bool
     ensures { λ r. ⌜ r ≡ isIllegalVector lo ⌝ }
 {
-    let mode = lo / 256 % 8;
-    if mode == 0 {
-        return lo % 256 < 16;
+    if delivery_mode(lo) == 0 {
+        return vector(lo).0 < 16;
     }
     false
 }
@@ -87,7 +87,7 @@ pub fn is_invalid_shorthand(lo: u32) -> bool
     ensures { λ r. ⌜ r ≡ isInvalidShorthand lo ⌝ }
 {
     if includes_self(lo) {
-        let mode = lo / 256 % 8;
+        let mode = delivery_mode(lo);
         if 4 <= mode {
             return mode <= 6;
         }
@@ -98,7 +98,7 @@ pub fn is_invalid_shorthand(lo: u32) -> bool
 fn includes_self(lo: u32) -> bool
     ensures { λ r. ⌜ r ≡ includesSelf lo ⌝ }
 {
-    let which = lo / 262144 % 4;
+    let which = shorthand(lo);
     if which == 1 {
         return true;
     }
@@ -109,7 +109,7 @@ fn includes_self(lo: u32) -> bool
 pub fn is_unsent(lo: u32) -> bool
     ensures { λ r. ⌜ r ≡ isUnsent lo ⌝ }
 {
-    let mode = lo / 256 % 8;
+    let mode = delivery_mode(lo);
     if mode == 1 {
         return true;
     }

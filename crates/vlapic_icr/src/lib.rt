@@ -7,7 +7,7 @@
 // `Result` became enums; each function has its contract.
 
 ghost use mathlib.Core.Path.{_≡_};
-ghost use Prim.Native.Nat.{_<_, _≤_};
+ghost use Prim.Native.Nat.{_<_};
 ghost use Rattle.vlapic_icr.specs.Icr.{share, matching, inCluster, destField, isBroadcast, destFieldMatched, logicalDest, physicalDest, destNoShorthand, calculateDest, send, deliver, command, selfIpi};
 
 pub mod fields;
@@ -93,14 +93,14 @@ impl InterruptCommand {
     fn is_broadcast(self) -> bool
         ensures { λ r. ⌜ r ≡ isBroadcast self ⌝ }
     {
+        let dest = self.dest_field();
         if self.x2apic {
-            return self.icr_hi == X2APIC_BROADCAST_DEST_ID;
+            return dest == X2APIC_BROADCAST_DEST_ID;
         }
-        self.icr_hi / 0x1000000 == XAPIC_BROADCAST_DEST_ID
+        dest == XAPIC_BROADCAST_DEST_ID
     }
 
     fn calculate_dest_no_shorthand(self, vcpu_num: usize, active_vcpus: u64) -> Dest
-        requires { ⌜ «vcpu_num» ≤ 64 ⌝ }
         ensures { λ r. ⌜ r ≡ destNoShorthand self «vcpu_num» «active_vcpus» ⌝ }
     {
         if self.is_broadcast() {
@@ -110,25 +110,23 @@ impl InterruptCommand {
         if fields::is_logical(self.icr_lo) {
             return logical_dest(self.is_dest_field_matched(dest), vcpu_num, active_vcpus);
         }
-        physical_dest(dest)
+        physical_dest(VcpuId::of_apic(dest))
     }
 
     fn calculate_dest(self, vcpu_num: usize, active_vcpus: u64) -> Dest
-        requires { ⌜ («vcpu_num» ≤ 64) × (self .«vapic_id» ≤ 63) ⌝ }
         ensures { λ r. ⌜ r ≡ calculateDest self «vcpu_num» «active_vcpus» ⌝ }
     {
         let shorthand = fields::shorthand(self.icr_lo);
         match shorthand {
-            1 => physical_dest(self.vapic_id),
+            1 => Dest::Mask(VcpuId::of_apic(self.vapic_id).mask()),
             2 => Dest::Mask(active_vcpus),
-            3 => Dest::Mask(utils::set64::without(active_vcpus, self.vapic_id as u64)),
+            3 => Dest::Mask(VcpuId::of_apic(self.vapic_id).removed_from(active_vcpus)),
             _ => self.calculate_dest_no_shorthand(vcpu_num, active_vcpus),
         }
     }
 
     // Carries out the command that stands in the ICR.
     pub fn carry_out(self, vcpu_num: usize, active_vcpus: u64) -> IcrAnswer
-        requires { ⌜ («vcpu_num» ≤ 64) × (self .«vapic_id» ≤ 63) ⌝ }
         ensures { λ r. ⌜ r ≡ command self «vcpu_num» «active_vcpus» ⌝ }
     {
         let lo = self.icr_lo;
@@ -147,7 +145,6 @@ impl InterruptCommand {
 
 // Sends the command to the vCPUs of its destination.
 fn deliver(lo: u32, dest: Dest, vcpu_num: usize) -> IcrAnswer
-    requires { ⌜ «vcpu_num» ≤ 64 ⌝ }
     ensures { λ r. ⌜ r ≡ deliver lo «vcpu_num» dest ⌝ }
 {
     match dest {
@@ -167,14 +164,13 @@ fn send(lo: u32, mask: u64) -> IcrAnswer
     }
     IcrAnswer::Ipi {
         kind: fields::delivery_mode(lo),
-        vector: Vector(fields::vector(lo)),
+        vector: fields::vector(lo),
         mask,
     }
 }
 
 // A write of the self-IPI register: a fixed interrupt to this vCPU alone.
 pub fn handle_self_ipi(vcpu_id: VcpuId, vector: Vector) -> IcrAnswer
-    requires { ⌜ «vcpu_id» .0 ≤ 63 ⌝ }
     ensures { λ r. ⌜ r ≡ selfIpi «vcpu_id» vector ⌝ }
 {
     if vector.0 < 16 {
@@ -205,17 +201,16 @@ fn matching(same: bool) -> DestMatch
 }
 
 // The one vCPU, by its APIC's id.
-fn physical_dest(dest: u32) -> Dest
-    ensures { λ r. ⌜ r ≡ physicalDest dest ⌝ }
+fn physical_dest(id: VcpuId) -> Dest
+    ensures { λ r. ⌜ r ≡ physicalDest (id .0) ⌝ }
 {
-    if dest < 64 {
-        return Dest::Mask(VcpuId(dest as usize).mask());
+    if id.0 < 64 {
+        return Dest::Mask(id.mask());
     }
     Dest::NoMask(Refusal::OutOfRange)
 }
 
 fn logical_dest(matched: DestMatch, vcpu_num: usize, active_vcpus: u64) -> Dest
-    requires { ⌜ «vcpu_num» ≤ 64 ⌝ }
     ensures { λ r. ⌜ r ≡ logicalDest matched «vcpu_num» «active_vcpus» ⌝ }
 {
     match matched {

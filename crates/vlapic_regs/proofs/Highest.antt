@@ -9,7 +9,7 @@ use lib.Dec.{leb}
 use lib.ListN.{getD}
 use borrow.Author.Tests.{le-leb, lt-leb}
 use Rattle.utils.specs.Set.{bit, last}
-use Rattle.utils.proofs.Laws.{bit-above}
+use Rattle.utils.proofs.Laws.{bit-none}
 use Rattle.utils.proofs.Search.{last-none}
 use Rattle.vlapic_regs.specs.Vectors.{inWords, highestFrom}
 
@@ -53,7 +53,7 @@ none-of : {lowest : ℕ} (words : List ℕ) (w b : ℕ) {n : ℕ} → Left lowes
 none-of words w zero l e hw hb h = moved l (omega arith)
 none-of words w (suc b) l e hw hb h =
     none-of words w b
-    (passed words w b l (omega (arith, add-one b)) (omega arith) (omega arith) (rw h (bit-above 0 0 b (omega arith) (omega arith))))
+    (passed words w b l (omega (arith, add-one b)) (omega arith) (omega arith) (rw h (bit-none b)))
     refl hw (omega arith) h
 
 pub empty : {lowest : ℕ} (words : List ℕ) (w : ℕ) {n : ℕ} → Left lowest words n → n ≡ w * 32 + 32 → lowest ≤ w * 32 → getD words w 0 ≡ 0 → Left lowest words (w * 32)

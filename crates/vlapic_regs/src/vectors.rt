@@ -10,13 +10,13 @@ ghost use Rattle.vlapic_regs.specs.Vectors.{inWords, withVector, without
 use types::Vector;
 
 // The highest vector in service from 32 to 255, or 0: words 7 down to 1, and in each its bits from 31 down; the first set bit ends both loops.
-pub fn find_isrv(isr: [u32; 8]) -> u8
-    ensures { λ r. ⌜ r ≡ highestFrom 32 isr ⌝ }
+pub fn find_isrv(isr: [u32; 8]) -> Vector
+    ensures { λ r. ⌜ r .0 ≡ highestFrom 32 isr ⌝ }
 {
     let mut word: usize = 8;
     'search: loop {
         if word <= 1 {
-            break 'search 0;
+            break 'search Vector(0);
         }
         word -= 1;
         let held = isr[word];
@@ -27,7 +27,7 @@ pub fn find_isrv(isr: [u32; 8]) -> u8
         while bit > 0 {
             bit -= 1;
             if (held >> bit) % 2 == 1 {
-                break 'search (word as u8) * 32 + bit as u8;
+                break 'search Vector((word as u8) * 32 + bit as u8);
             }
         }
     }

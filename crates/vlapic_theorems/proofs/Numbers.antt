@@ -13,6 +13,7 @@ use Rattle.types.specs.declared.VcpuId.{VcpuId}
 use Rattle.types.specs.declared.Refusal.the-variants.{InvalidRegister, OutOfRange}
 use Rattle.types.specs.declared.Reply.{Reply}
 use Rattle.types.specs.declared.Reply.the-variants.{Refused, One}
+use Rattle.types.specs.Counters.{vcpuMask, vcpuOf}
 use Rattle.types.specs.Reply.{Outcome, replyNumber}
 use Rattle.vlapic_icr.specs.declared.IcrAnswer.{IcrAnswer}
 use Rattle.vlapic_icr.specs.declared.IcrAnswer.the-variants.{Nothing, SendIllegalVector, Ipi, Refused as Rejected}
@@ -96,7 +97,7 @@ itself-done : (s : VirtualApicRegs) (val : ℕ) → replyNumber (answered s (sel
 unfolding selfIpi
 itself-done s val = go (ltb (val % 256) 16)
   where
-    go : (b : Bool) → replyNumber (answered s (cond b SendIllegalVector (Ipi 0 (record { 0 = val % 256 }) (2 ^ (s .«vapic_id»)))) .reply) ≡ 0
+    go : (b : Bool) → replyNumber (answered s (cond b SendIllegalVector (Ipi 0 (record { 0 = val % 256 }) (vcpuMask (vcpuOf (s .«vapic_id»))))) .reply) ≡ 0
     go true = refl
     go false = refl
 

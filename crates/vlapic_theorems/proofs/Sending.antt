@@ -11,12 +11,15 @@ use lib.Pow.{pow-pos, pow-mono}
 use borrow.Author.Tests.{eqb-true, eqb-false, ne-eqb, ltb-true, ltb-false, lt-ltb, le-ltb, leb-true, le-leb, lt-leb}
 use Rattle.utils.specs.Set.{bit, without, below}
 use Rattle.utils.proofs.Bools.{never, either, and-true, not-is}
-use Rattle.utils.proofs.Laws.{bit-above, bit-cut, same-bits}
+use Rattle.utils.proofs.Bits.{bit-power}
+use Rattle.utils.proofs.Laws.{bit-above, bit-none, bit-cut, same-bits}
 use Rattle.types.specs.declared.Refusal.the-variants.{InvalidRegister, InvalidDelivery, OutOfRange}
 use Rattle.types.specs.declared.Reply.{Reply}
 use Rattle.types.specs.declared.Reply.the-variants as reply
 use Rattle.types.specs.declared.Vector.{Vector}
+use Rattle.types.specs.Counters.{vcpuMask, vcpuOf}
 use Rattle.types.specs.Reply.{Outcome, replyNumber}
+use Rattle.types.proofs.Counters.{mask-is}
 use Rattle.types.proofs.Replies.{refused-not-done}
 use Rattle.vlapic_icr.specs.declared.InterruptCommand.{InterruptCommand}
 use Rattle.vlapic_icr.specs.declared.Dest.{Dest}
@@ -31,10 +34,11 @@ use Rattle.vlapic.specs.Regs.{withCommand}
 use Rattle.vlapic.specs.Priority.{handleEoi}
 use Rattle.vlapic.specs.Registers.{stored, writeStored}
 use Rattle.vlapic.specs.Calls.{outOfRange, answered, writeIcr, writeIcrLow, writeSelfIpi, handleWrite}
+use Rattle.vlapic.proofs.Range.{in-range}
 use Rattle.vlapic_theorems.specs.Targets.{any, Destination, Self, AllIncludingSelf, AllExcludingSelf, Broadcast, Physical, Logical, destinationOf, isReached}
 use Rattle.vlapic_theorems.specs.Sending.{lowWord, highWord, destination, isIcrWidth, isStoring, isToSelfToo, isSent, Sends, Goes, Commands, GoesToSelf, SelfIpis, Others, Silent}
 use Rattle.vlapic_theorems.specs.Numbers.{isOne, writtenOffsets, xapicOffsets, isWritten, isReserved, isNoted, isUnmatchable, isAbove63, isCommand3, isCommand5, commanded}
-use Rattle.vlapic_theorems.proofs.Targets.{any-here, any-some, nobody, bit-zeros, bit-power, asked, isHit, Says, masked, unmatchable, beyond, destination-says}
+use Rattle.vlapic_theorems.proofs.Targets.{any-here, any-some, nobody, asked, isHit, Says, masked, unmatchable, beyond, destination-says}
 
 -- ---- the words
 
@@ -153,7 +157,7 @@ module _ (lo num : ℕ) (hit : ℕ → Bool) (three five : Bool) where
 
     cut-none : eqb (below mask num) 0 ≡ true → (i : ℕ) → i < num → hit i ≡ false
     cut-none z i l =
-        sym (bits i l) ∙ sym (bit-cut mask num i l) ∙ ap (λ (n : ℕ). bit n i) (eqb-true (below mask num) 0 z) ∙ bit-zeros i
+        sym (bits i l) ∙ sym (bit-cut mask num i l) ∙ ap (λ (n : ℕ). bit n i) (eqb-true (below mask num) 0 z) ∙ bit-none i
 
   -- where nothing before it stopped the command
   delivered : (d : Dest) → Says num hit three five d → isSent lo ≡ not (isUnsent lo) → Answers lo num hit three five (deliver lo num d)
@@ -312,14 +316,6 @@ module _ (s : VirtualApicRegs) (val width num active : ℕ) where
   unfolding writeIcrLow
   icr-rejected e = rw e
 
--- count and own id in range
-in-range : (num id : ℕ) → outOfRange num id ≡ false → num ≤ 64
-in-range num id e = go (ltb 64 num) refl e
-  where
-    go : (b : Bool) → ltb 64 num ≡ b → (b || ltb 63 id) ≡ false → num ≤ 64
-    go true q r = never refl r
-    go false q r = ltb-false 64 num q
-
 pub wrote : (s : VirtualApicRegs) (offset val width num active : ℕ) → Wrote s offset val width num active (handleWrite s offset val width num active)
 unfolding handleWrite writeSelfIpi
 wrote s offset val width num active =
@@ -336,7 +332,7 @@ wrote s offset val width num active =
     icr : outOfRange num (s .«vapic_id») ≡ false → offset ≡ 0x300 → (w : Bool) → isIcrWidth (s .x2apic) width ≡ w → W (writeIcrLow s val width num active)
     icr inside at true e =
         rw (icr-carried s val width num active e)
-        (commands-it inside at e (command-answers s (lowWord val) (highWord s val) num active (in-range num (s .«vapic_id») inside)))
+        (commands-it inside at e (command-answers s (lowWord val) (highWord s val) num active (in-range num (s .«vapic_id») inside .0)))
     icr inside at false e = rw (icr-rejected s val width num active e) (unlisted inside (rw (at, e)))
 
     own : outOfRange num (s .«vapic_id») ≡ false → offset ≡ 0x3f0 → W (writeSelfIpi s val)
@@ -436,15 +432,19 @@ module _ (s : VirtualApicRegs) (val width num active kind vector mask : ℕ) whe
   abbrev itself : Outcome VirtualApicRegs
   itself = answered s (selfIpi (record { 0 = s .«vapic_id» }) (record { 0 = val % 256 }))
 
+  own-mask : outOfRange num (s .«vapic_id») ≡ false → vcpuMask (vcpuOf (s .«vapic_id»)) ≡ 2 ^ (s .«vapic_id»)
+  own-mask inside = let h : s .«vapic_id» ≤ 63 = in-range num (s .«vapic_id») inside .1 in mask-is (vcpuOf (s .«vapic_id»)) (omega arith)
+
   forth-itself : outOfRange num (s .«vapic_id») ≡ false → s .x2apic ≡ true → Own (itself .reply) → GoesToSelf s val num kind vector mask
   unfolding selfIpi
   forth-itself inside x e = go (ltb (val % 256) 16) refl e
     where
       go : (b : Bool) → ltb (val % 256) 16 ≡ b
-          → Own (answered s (cond b SendIllegalVector (Ipi 0 (record { 0 = val % 256 }) (2 ^ (s .«vapic_id»)))) .reply) → GoesToSelf s val num kind vector mask
+          → Own (answered s (cond b SendIllegalVector (Ipi 0 (record { 0 = val % 256 }) (vcpuMask (vcpuOf (s .«vapic_id»))))) .reply) → GoesToSelf s val num kind vector mask
       go true l q = let z : _≡_ {A = ℕ} 0 1 = cc in absurd (omega arith)
       go false l q =
-          let m : 2 ^ (s .«vapic_id») ≡ mask = cc in
+          let p : vcpuMask (vcpuOf (s .«vapic_id»)) ≡ mask = cc in
+          let m : 2 ^ (s .«vapic_id») ≡ mask = sym (own-mask inside) ∙ p in
           record {
             inside = inside;
             mode = x;
@@ -465,7 +465,7 @@ module _ (s : VirtualApicRegs) (val width num active kind vector mask : ℕ) whe
     back-itself : Own (itself .reply)
     unfolding selfIpi
     back-itself =
-        let m : 2 ^ (s .«vapic_id») ≡ mask = same-number (2 ^ (s .«vapic_id»)) mask (λ i. bit-power (s .«vapic_id») i ∙ sym (g .each i)) in
+        let m : vcpuMask (vcpuOf (s .«vapic_id»)) ≡ mask = own-mask (g .inside) ∙ same-number (2 ^ (s .«vapic_id»)) mask (λ i. bit-power (s .«vapic_id») i ∙ sym (g .each i)) in
         let k : kind ≡ 0 = g .kind-is in
         let v : vector ≡ val % 256 = g .vector-is in
         rw (le-ltb (val % 256) 16 (g .legal)) (cc)

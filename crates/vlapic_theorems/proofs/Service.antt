@@ -11,7 +11,7 @@ use borrow.Author.Tests.{le-leb, leb-true, eqb-true, eqb-false, ne-eqb, ltb-true
 use Rattle.utils.specs.Set.{bit, last, without}
 use Rattle.utils.proofs.Bools.{and-true, and-false, and-one}
 use Rattle.utils.proofs.Search.{last-after, last-is, last-none, last-lt}
-use Rattle.utils.proofs.Laws.{bit-above, bit-without-same, bit-without-other}
+use Rattle.utils.proofs.Laws.{bit-none, bit-without-same, bit-without-other}
 use Rattle.vlapic.specs.declared.VirtualApicRegs.{VirtualApicRegs}
 use Rattle.vlapic_regs.specs.Vectors.{inWords, withoutVector, highestFrom}
 use Rattle.vlapic.specs.Answers.{done}
@@ -75,7 +75,7 @@ gone words v h = go (ltb (v / 32) (length words)) refl
         (true≢false
         (sym h
         ∙ ap (λ (w : ℕ). bit w (v % 32)) (List·getD-eq-default words 0 (ltb-false (v / 32) (length words) e))
-        ∙ bit-above 0 0 (v % 32) (omega arith) (omega arith)))
+        ∙ bit-none (v % 32)))
 
 others : (words : List ℕ) (v u : ℕ) → inWords words v ≡ true → (u ≡ v → ⊥) → inWords (withoutVector words v) u ≡ inWords words u
 others words v u h n = go (eqb (u / 32) (v / 32)) refl (ltb (v / 32) (length words)) refl
@@ -91,7 +91,7 @@ others words v u h n = go (eqb (u / 32) (v / 32)) refl (ltb (v / 32) (length wor
         (true≢false
         (sym h
         ∙ ap (λ (w : ℕ). bit w (v % 32)) (List·getD-eq-default words 0 (ltb-false (v / 32) (length words) q))
-        ∙ bit-above 0 0 (v % 32) (omega arith) (omega arith)))
+        ∙ bit-none (v % 32)))
 
 ended-isr : (s : VirtualApicRegs) (v : ℕ) → findIsrv s ≡ v → (v ≡ 0 → ⊥) → handleEoi s .state .isr ≡ withoutVector (s .isr) v
 unfolding handleEoi updatePpr

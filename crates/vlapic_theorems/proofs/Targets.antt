@@ -7,11 +7,14 @@ use native.Mathlib.Omega.{arith}
 use lib.Dec.{eqb, ltb}
 use lib.Pow.{pow-pos}
 use borrow.Author.Tests.{eqb-true, eqb-false, eq-eqb, ne-eqb, ltb-true, ltb-false, lt-ltb, le-ltb}
-use Rattle.utils.specs.Set.{bit, with, without, below, first}
+use Rattle.utils.specs.Set.{bit, without, below, first}
 use Rattle.utils.proofs.Bools.{never, and-false, and-one, or-false}
-use Rattle.utils.proofs.Laws.{bit-above, bit-cut, bit-with-same, bit-with-other, bit-without-same, bit-without-other, same-bits}
+use Rattle.utils.proofs.Bits.{bit-power}
+use Rattle.utils.proofs.Laws.{bit-above, bit-none, bit-cut, bit-without-same, bit-without-other, same-bits}
 use Rattle.utils.proofs.Search.{first-le, first-holds, first-before}
 use Rattle.types.specs.declared.Refusal.the-variants.{InvalidDelivery, OutOfRange}
+use Rattle.types.specs.Counters.{vcpuMask, vcpuOf}
+use Rattle.types.proofs.Counters.{mask-bit}
 use Rattle.vlapic_icr.specs.declared.InterruptCommand.{InterruptCommand}
 use Rattle.vlapic_icr.specs.declared.Dest.{Dest}
 use Rattle.vlapic_icr.specs.declared.Dest.the-variants.{Mask, NoMask}
@@ -110,7 +113,7 @@ abbrev pub asked : VirtualApicRegs → ℕ → ℕ → InterruptCommand
 asked s lo hi = commandOf (withCommand s lo hi)
 
 workedOut : InterruptCommand → ℕ → ℕ → Destination → Dest
-workedOut c num active Self = Mask (2 ^ (c .«vapic_id»))
+workedOut c num active Self = Mask (vcpuMask (vcpuOf (c .«vapic_id»)))
 workedOut c num active AllIncludingSelf = Mask active
 workedOut c num active AllExcludingSelf = Mask (without active (c .«vapic_id»))
 workedOut c num active Broadcast = Mask active
@@ -125,7 +128,7 @@ calculated c num active = go (eqb (shorthand (c .«icr_lo»)) 1) (eqb (shorthand
     d = cond (c .x2apic) (c .«icr_hi») (c .«icr_hi» / 0x1000000)
 
     go : (b1 b2 b3 all logical : Bool)
-        → cond b1 (Mask (2 ^ (c .«vapic_id»)))
+        → cond b1 (Mask (vcpuMask (vcpuOf (c .«vapic_id»))))
         (cond b2 (Mask active)
         (cond b3 (Mask (without active (c .«vapic_id»)))
         (cond all (Mask active) (cond logical (logicalDest (destFieldMatched c d) num active) (physicalDest d)))))
@@ -150,39 +153,24 @@ pub data Says (num : ℕ) (hit : ℕ → Bool) (three five : Bool) : Dest → Ty
   unmatchable : ((i : ℕ) → i < num → hit i ≡ false) → three ≡ true → five ≡ false → Says num hit three five (NoMask InvalidDelivery)
   beyond : ((i : ℕ) → i < num → hit i ≡ false) → three ≡ false → five ≡ true → Says num hit three five (NoMask OutOfRange)
 
--- a power of two has one member
-pub bit-zeros : (k : ℕ) → bit 0 k ≡ false
-bit-zeros k = bit-above 0 0 k (omega arith) (omega arith)
-
-power-with : (k : ℕ) → with 0 k ≡ 2 ^ k
-unfolding with
-power-with k = rw (bit-zeros k) (omega arith)
-
-pub bit-power : (k i : ℕ) → bit (2 ^ k) i ≡ eqb i k
-bit-power k i = ap (λ (n : ℕ). bit n i) (sym (power-with k)) ∙ go (eqb i k) refl
-  where
-    go : (b : Bool) → eqb i k ≡ b → bit (with 0 k) i ≡ b
-    go true e = let q : i ≡ k = eqb-true i k e in rw q (bit-with-same 0 k)
-    go false e = bit-with-other 0 k i (eqb-false i k e) ∙ bit-zeros i
-
 -- whether anybody below the count is active
 somebody : (num active : ℕ) → any num (bit active) ≡ true → eqb (below active num) 0 ≡ false
 somebody num active e =
     let t = any-some num (bit active) e in
-    ne-eqb (below active num) 0 (λ z. never (bit-cut active num (t .0) (t .1 .0) ∙ t .1 .1) (ap (λ (n : ℕ). bit n (t .0)) z ∙ bit-zeros (t .0)))
+    ne-eqb (below active num) 0 (λ z. never (bit-cut active num (t .0) (t .1 .0) ∙ t .1 .1) (ap (λ (n : ℕ). bit n (t .0)) z ∙ bit-none (t .0)))
 
 pub nobody : (num active : ℕ) → any num (bit active) ≡ false → eqb (below active num) 0 ≡ true
 nobody num active e =
     eq-eqb (below active num) 0
-    (same-bits num (below active num) 0 (mod-lt active (pow-pos num)) (pow-pos num) (λ k l. bit-cut active num k l ∙ any-here num (bit active) e k l ∙ sym (bit-zeros k)))
+    (same-bits num (below active num) 0 (mod-lt active (pow-pos num)) (pow-pos num) (λ k l. bit-cut active num k l ∙ any-here num (bit active) e k l ∙ sym (bit-none k)))
 
 -- a vCPU that is hit if it is active
 active-hit : (b : Bool) → b ≡ (true && (b || false))
 active-hit b = sym (or-false b)
 
 module _ (s : VirtualApicRegs) (lo hi num active : ℕ) (inside : num ≤ 64) where
-  self-hit : (i : ℕ) → bit (2 ^ (s .«vapic_id»)) i ≡ isHit s active Self i
-  self-hit i = bit-power (s .«vapic_id») i ∙ go (eqb i (s .«vapic_id»)) (bit active i)
+  self-hit : (i : ℕ) → i < num → bit (vcpuMask (vcpuOf (s .«vapic_id»))) i ≡ isHit s active Self i
+  self-hit i l = mask-bit (vcpuOf (s .«vapic_id»)) i (omega arith) ∙ go (eqb i (s .«vapic_id»)) (bit active i)
     where
       go : (b a : Bool) → b ≡ (b && (a || true))
       go true true = refl
@@ -224,12 +212,12 @@ module _ (s : VirtualApicRegs) (lo hi num active : ℕ) (inside : num ≤ 64) wh
       → Says num (λ i. named && (bit active i || false)) (reserved && any num (bit active)) false (logicalDest (cond reserved ReservedModel (matching named)) num active)
   match-says true true n = never refl (n refl)
   match-says true false n = masked (λ i l. active-hit (bit active i)) refl refl
-  match-says false false n = masked (λ i l. bit-zeros i) refl refl
+  match-says false false n = masked (λ i l. bit-none i) refl refl
   match-says false true n = go (any num (bit active)) refl
     where
       go : (b : Bool) → any num (bit active) ≡ b → Says num (λ i. false) (any num (bit active)) false (cond (eqb (below active num) 0) (Mask 0) (NoMask InvalidDelivery))
       go true e = rw (somebody num active e) (unmatchable (λ i l. refl) e refl)
-      go false e = rw (nobody num active e) (masked (λ i l. bit-zeros i) e refl)
+      go false e = rw (nobody num active e) (masked (λ i l. bit-none i) e refl)
 
   -- by mode and model
   model-says : (x2apic isFlat isCluster inFlat inCluster : Bool) (in16 : ℕ → Bool)
@@ -250,7 +238,7 @@ module _ (s : VirtualApicRegs) (lo hi num active : ℕ) (inside : num ≤ 64) wh
 
   says : (dest : Destination) → Says num (isHit s active dest) (isUnmatchable s dest && any num (bit active)) (isAbove63 dest) (workedOut (asked s lo hi) num active dest)
   unfolding workedOut
-  says Self = masked (λ i l. self-hit i) refl refl
+  says Self = masked self-hit refl refl
   says AllIncludingSelf = masked (λ i l. all-hit i) refl refl
   says AllExcludingSelf = masked (λ i l. others-hit i) refl refl
   says Broadcast = masked (λ i l. broadcast-hit i) refl refl

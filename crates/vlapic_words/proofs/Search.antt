@@ -12,7 +12,7 @@ use lib.ListN.{getD}
 use borrow.Author.Tests.{le-leb, lt-leb, ne-eqb, eqb-true, eqb-false}
 use Rattle.utils.specs.Set.{bit, last, highest, lastSet32}
 use Rattle.utils.proofs.Bools.{and-false}
-use Rattle.utils.proofs.Laws.{bit-above}
+use Rattle.utils.proofs.Laws.{bit-none}
 use Rattle.utils.proofs.Search.{last-holds, last-after, last-lt, last-is, last-none}
 use Rattle.vlapic_regs.specs.Vectors.{inWords, highestFrom}
 use Rattle.vlapic_words.specs.Words.{word, eight}
@@ -48,7 +48,7 @@ module _ (words : List ℕ) (w : ℕ) where
   passed : getD words w 0 ≡ 0 → highestBelow (w * 32 + 32) words ≡ highestBelow (w * 32) words
   passed h =
       last-shrinks (isServed words) (w * 32 + 32) (w * 32) (omega arith)
-      (λ j a b. rw (at j a b, h, bit-above 0 0 (j % 32) (omega arith) (omega arith)) (and-false (leb 32 j)))
+      (λ j a b. rw (at j a b, h, bit-none (j % 32)) (and-false (leb 32 j)))
 
   -- of another the highest bit counts
   top-bit : (n j : ℕ) → 2 ^ j ≤ n → n < 2 ^ suc j → bit n j ≡ true

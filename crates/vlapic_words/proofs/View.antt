@@ -1,6 +1,6 @@
 -- The words, viewed as registers, move as the registers' definitions say. Assumes nothing.
 use Prim.Native.Nat.{ℕ, zero, suc, _+_, _*_, _/_, _%_, _^_, _≤_, _<_}
-use native.Mathlib.Nat.{mod-lt, mod-eq-of-lt, lt-of-le-of-lt}
+use native.Mathlib.Nat.{mod-lt, mod-eq-of-lt}
 use native.Mathlib.Omega.{arith}
 use mathlib.Core.Bool.{Bool, true, false, not, cond}
 use mathlib.Core.List.{List, [], _∷_, _++_}
@@ -9,9 +9,10 @@ use mathlib.Core.Path.{_≡_, refl, sym, ap, _∙_}
 use lib.Dec.{eqb, leb, ltb}
 use lib.ListN.{length, getD, set, replicate, List·getD-append}
 use lib.Seq.{getD-set-same, getD-set-other}
-use borrow.Author.Tests.{ltb-true, ltb-false, eqb-true, eqb-false}
+use borrow.Author.Tests.{ltb-true, ltb-false, eqb-true, eqb-false, ne-eqb}
+use Rattle.utils.specs.Set.{marked}
 use Rattle.utils.specs.Vectors.{classOf}
-use Rattle.utils.proofs.Laws.{with-lt, without-le}
+use Rattle.utils.proofs.Marked.{marked-lt}
 use Rattle.types.specs.Reply.{flag}
 use Rattle.vlapic_regs.specs.Vectors.{withVector, withoutVector}
 use Rattle.vlapic_regs.specs.Register.{priority}
@@ -19,8 +20,8 @@ use Rattle.vlapic.specs.declared.VirtualApicRegs.{VirtualApicRegs}
 use Rattle.vlapic.specs.Regs.{start, withWord, withIsr, withTmr}
 use Rattle.vlapic.specs.Priority.{updatePpr}
 use Rattle.vlapic_words.specs.Words.{word, eight, view}
-use Rattle.vlapic_words.specs.Calls.{Stored}
-use Rattle.vlapic_words.specs.Steps.{sixOf, registersAtReset, startWords, served, marked, markedIn, ranked}
+use Rattle.vlapic_words.specs.Calls.{Storable, Stored}
+use Rattle.vlapic_words.specs.Steps.{sixOf, registersAtReset, startWords, served, markedIn, ranked}
 use Rattle.vlapic_words.proofs.Runs.{at-from, from-other, from-set}
 
 pub cut-small : (x : ℕ) → x % 2 ^ 32 < 2 ^ 32
@@ -120,10 +121,6 @@ module _ (l : List ℕ) (n : length l ≡ 48) where
 
 -- ---- vectors
 
-pub marked-small : (x k : ℕ) (up : Bool) → x < 2 ^ 32 → k < 32 → marked x k up < 2 ^ 32
-marked-small x k true h b = with-lt 32 x k h b
-marked-small x k false h b = lt-of-le-of-lt (without-le x k) h
-
 -- vector v up or down in eight words
 abbrev pub moved : List ℕ → ℕ → Bool → List ℕ
 moved words v up = cond up (withVector words v) (withoutVector words v)
@@ -137,7 +134,7 @@ module _ (l : List ℕ) (n : length l ≡ 48) (v : ℕ) (up : Bool) (h : v < 256
   here base = at-from l base 8 (v / 32) (base + v / 32) refl (omega arith)
 
   small : (base : ℕ) → marked (word l (base + v / 32)) (v % 32) up < 2 ^ 32
-  small base = marked-small (word l (base + v / 32)) (v % 32) up (cut-small (getD l (base + v / 32) 0)) (mod-lt v (omega arith))
+  small base = marked-lt 32 (word l (base + v / 32)) (v % 32) up (cut-small (getD l (base + v / 32) 0)) (mod-lt v (omega arith))
 
   pub mark-isr : view (markedIn l 18 v up) ≡ withIsr (view l) (moved (view l .isr) v up)
   unfolding view
@@ -166,11 +163,14 @@ rank-view l n = put-view l n 3 (priority (word l 2) (served l)) (omega arith) (o
 
 -- ---- what is stored
 
-pub stored-set : (l : List ℕ) (k x : ℕ) → length l ≡ 48 → k < 42 → x < 2 ^ 32 → Stored l (set l k x)
+pub stored-set : (l : List ℕ) (k x : ℕ) → length l ≡ 48 → (1 ≤ k) × (k < 42) → x < 2 ^ 32 → Stored l (set l k x)
 stored-set l k x n h b j q = go (eqb j k) refl
   where
-    go : (c : Bool) → eqb j k ≡ c → (getD (set l k x) j 0 ≡ getD l j 0) ⊎ ((j < 42) × (getD (set l k x) j 0 < 2 ^ 32))
-    go true e = let p : j ≡ k = eqb-true j k e in inr (omega arith, rw (p, getD-set-same l k x 0 (omega arith)) b)
+    at-k : 1 ≤ k → k < 42 → Storable k (getD (set l k x) k 0)
+    at-k low high = (high, rw (getD-set-same l k x 0 (omega arith), ne-eqb k 0 (λ z. omega arith)) b)
+
+    go : (c : Bool) → eqb j k ≡ c → (getD (set l k x) j 0 ≡ getD l j 0) ⊎ Storable j (getD (set l k x) j 0)
+    go true e = inr (rw (eqb-true j k e) (at-k (h .0) (h .1)))
     go false e = inl (getD-set-other l k j x 0 (eqb-false j k e))
 
 pub stored-then : (l m k : List ℕ) → Stored l m → Stored m k → Stored l k
@@ -215,7 +215,7 @@ small-run : (n x : ℕ) (xs : List ℕ) → x < 2 ^ 32 → Small xs → Small (r
 small-run zero x xs h t = t
 small-run (suc n) x xs h t = (h, small-run n x xs h t)
 
-small-flag : (b : Bool) → flag b < 2 ^ 32
+small-flag : (b : Bool) → flag b < 2
 small-flag true = omega arith
 small-flag false = omega arith
 
@@ -224,7 +224,7 @@ start-small x2apic id spare h k b =
     let z : 0 < 2 ^ 32 = omega arith in
     let masked = small-run 7 0x10000 (replicate 24 0) (omega arith) (small-run 24 0 [] z tt) in
     rw (List·getD-append (registersAtReset x2apic id) (sixOf spare) 0 k b)
-    (small-at (registersAtReset x2apic id) (small-flag x2apic, (h, (z, (z, (z, (omega arith, (omega arith, (z, (z, (z, (z, masked))))))))))) k)
+    (small-at (registersAtReset x2apic id) (omega (arith, small-flag x2apic), (h, (z, (z, (z, (omega arith, (omega arith, (z, (z, (z, (z, masked))))))))))) k)
 
 -- the spare words of l stay
 abbrev pub spareOf : List ℕ → List ℕ
@@ -233,8 +233,12 @@ spareOf l = getD l 42 0 ∷ getD l 43 0 ∷ getD l 44 0 ∷ getD l 45 0 ∷ getD
 pub start-stored : (x2apic : Bool) (id : ℕ) (l : List ℕ) → id < 2 ^ 32 → Stored l (startWords x2apic id (spareOf l))
 start-stored x2apic id l h k b = go (ltb k 42) refl
   where
-    go : (c : Bool) → ltb k 42 ≡ c → (getD (startWords x2apic id (spareOf l)) k 0 ≡ getD l k 0) ⊎ ((k < 42) × (getD (startWords x2apic id (spareOf l)) k 0 < 2 ^ 32))
-    go true e = inr (ltb-true k 42 e, start-small x2apic id (spareOf l) h k (ltb-true k 42 e))
+    small : k < 42 → (c : Bool) → eqb k 0 ≡ c → getD (startWords x2apic id (spareOf l)) k 0 < cond c 2 (2 ^ 32)
+    small q true e = rw (eqb-true k 0 e) (small-flag x2apic)
+    small q false e = start-small x2apic id (spareOf l) h k q
+
+    go : (c : Bool) → ltb k 42 ≡ c → (getD (startWords x2apic id (spareOf l)) k 0 ≡ getD l k 0) ⊎ Storable k (getD (startWords x2apic id (spareOf l)) k 0)
+    go true e = inr (ltb-true k 42 e, small (ltb-true k 42 e) (eqb k 0) refl)
     go false e = inl (six (λ (j : ℕ). getD (startWords x2apic id (spareOf l)) j 0 ≡ getD l j 0) k refl refl refl refl refl refl (ltb-false k 42 e) b)
 
 pub new-spare : (x2apic : Bool) (id k : ℕ) → 42 ≤ k → k < 48 → getD (startWords x2apic id (0 ∷ 0 ∷ 0 ∷ 0 ∷ 0 ∷ 0 ∷ [])) k 0 ≡ 0

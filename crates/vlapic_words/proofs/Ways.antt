@@ -10,12 +10,16 @@ use lib.Dec.{eqb, ltb}
 use lib.ListN.{length, getD, set, length-set}
 use borrow.Author.Tests.{lt-ltb, le-ltb, le-leb, lt-leb, eq-eqb, ne-eqb, ltb-true, ltb-false}
 use Rattle.utils.specs.Cases.{cond-yes, cond-no}
+use Rattle.utils.specs.Set.{marked}
+use Rattle.utils.proofs.Marked.{marked-lt}
 use Rattle.types.specs.declared.Refusal.the-variants.{InvalidRegister, OutOfRange}
 use Rattle.types.specs.declared.Reply.{Reply}
 use Rattle.types.specs.declared.Reply.the-variants.{Refused, Nothing, One, Two, Three}
 use Rattle.types.specs.declared.VcpuId.{VcpuId}
 use Rattle.types.specs.declared.Vector.{Vector}
-use Rattle.types.specs.Reply.{Outcome}
+use Rattle.types.specs.Counters.{apicId, vcpuOf}
+use Rattle.types.specs.Reply.{Outcome, Kept}
+use Rattle.types.proofs.Replies.{kept-same}
 use Rattle.vlapic_regs.specs.declared.register.Errors.{Errors}
 use Rattle.vlapic_regs.specs.Vectors.{inWords}
 use Rattle.vlapic_regs.specs.Register.{errorsShown, priority, broadcast}
@@ -29,23 +33,16 @@ use Rattle.vlapic.specs.Answers.{done, refused}
 use Rattle.vlapic.specs.Priority.{updatePpr, acceptInterrupt, broadcasts, handleEoi}
 use Rattle.vlapic.specs.Registers.{readable, eightFrom, handleRead, inXapic, stored, writeStored}
 use Rattle.vlapic.specs.Calls.{outOfRange, setup, commandOf, answered, writeIcr, writeIcrLow, writeSelfIpi, handleWrite}
-use Rattle.vlapic.proofs.Range.{in-range}
+use Rattle.vlapic.proofs.Range.{in-range, own-range, id-kept}
 use Rattle.vlapic.proofs.Offsets.{Apart, keys, no-word, no-register}
 use Rattle.vlapic_words.specs.Words.{word, eight, view}
-use Rattle.vlapic_words.specs.Calls.{Kept, Stored, Leaves, IsNew, commandStored, icrRefused, refusedWords}
-use Rattle.vlapic_words.specs.Steps.{startWords, served, marked, markedIn, ranked, ended}
+use Rattle.vlapic_words.specs.Calls.{Stored, Leaves, IsNew, commandStored, icrRefused, refusedWords}
+use Rattle.vlapic_words.specs.Steps.{startWords, served, markedIn, ranked, ended}
 use Rattle.vlapic_words.proofs.Runs.{at-from}
 use Rattle.vlapic_words.proofs.Search.{served-small}
-use Rattle.vlapic_words.proofs.View.{cut-small, put-view, moved, mark-isr, mark-tmr, rank-view, marked-small, priority-small, stored-set, stored-then, start-view, start-small, spareOf, start-stored, new-spare}
+use Rattle.vlapic_words.proofs.View.{cut-small, put-view, moved, mark-isr, mark-tmr, rank-view, priority-small, stored-set, stored-then, start-view, start-small, spareOf, start-stored, new-spare}
 
 -- ---- nothing is stored
-
-kept-same : (l : List ℕ) (r : Reply) → Kept r l l
-kept-same l (Refused why) = refl
-kept-same l Nothing = tt
-kept-same l (One a) = tt
-kept-same l (Two a b) = tt
-kept-same l (Three a b c) = tt
 
 pub same : (l : List ℕ) (r : Reply) (o : Outcome VirtualApicRegs) → record { state = view l; reply = r } ≡ o → Leaves l l l r o
 same l r o e = record { outcome = e; refused = kept-same l r; stored = λ k b. inl refl }
@@ -58,14 +55,14 @@ leaves-as p j h e f = rw (← e, ← f) h
 
 module _ (l : List ℕ) (n : length l ≡ 48) where
   pub store-way : (m : List ℕ) (k x : ℕ) → (1 ≤ k) × (k < 18) → x < 2 ^ 32 → m ≡ set l k x → Leaves l l m Nothing (done (withWord (view l) k x))
-  store-way m k x b h e = rw e record { outcome = ap done (put-view l n k x (b .0) (b .1) h); refused = tt; stored = stored-set l k x n (omega arith) h }
+  store-way m k x b h e = rw e record { outcome = ap done (put-view l n k x (b .0) (b .1) h); refused = tt; stored = stored-set l k x n (b .0, omega arith) h }
 
   two-view : (k x j y : ℕ) → (1 ≤ k) × (k < 18) → (1 ≤ j) × (j < 18) → x < 2 ^ 32 → y < 2 ^ 32 → view (set (set l k x) j y) ≡ withWord (withWord (view l) k x) j y
   two-view k x j y a b h g =
       put-view (set l k x) (simp length-set n) j y (b .0) (b .1) g
       ∙ ap (λ (s : VirtualApicRegs). withWord s j y) (put-view l n k x (a .0) (a .1) h)
 
-  two-stored : (k x j y : ℕ) → k < 42 → j < 42 → x < 2 ^ 32 → y < 2 ^ 32 → Stored l (set (set l k x) j y)
+  two-stored : (k x j y : ℕ) → (1 ≤ k) × (k < 42) → (1 ≤ j) × (j < 42) → x < 2 ^ 32 → y < 2 ^ 32 → Stored l (set (set l k x) j y)
   two-stored k x j y a b h g = stored-then l (set l k x) (set (set l k x) j y) (stored-set l k x n a h) (stored-set (set l k x) j y (simp length-set n) b g)
 
   pub errors-way : (a m : List ℕ) (e : Errors) (p : ℕ) → p ≡ word l 8 → e ≡ errorsShown p → a ≡ set l 7 (e .esr) → m ≡ set a 8 (e .«esr_pending»)
@@ -76,7 +73,7 @@ module _ (l : List ℕ) (n : length l ≡ 48) where
       record {
         outcome = ap done (two-view 7 (word l 8) 8 0 (omega arith, omega arith) (omega arith, omega arith) (cut-small (getD l 8 0)) (omega arith));
         refused = tt;
-        stored = two-stored 7 (word l 8) 8 0 (omega arith) (omega arith) (cut-small (getD l 8 0)) (omega arith);
+        stored = two-stored 7 (word l 8) 8 0 (omega arith, omega arith) (omega arith, omega arith) (cut-small (getD l 8 0)) (omega arith);
       }
 
   -- an interrupt command
@@ -107,7 +104,7 @@ module _ (l : List ℕ) (n : length l ≡ 48) where
       record {
         outcome = k .outcome ∙ ap₂ answered v c ∙ written-is lo hi num active;
         refused = rw e at (k .refused);
-        stored = stored-then l b m (rw e (two-stored 9 (idle lo) 10 hi (omega arith) (omega arith) (omega arith) hh)) (k .stored);
+        stored = stored-then l b m (rw e (two-stored 9 (idle lo) 10 hi (omega arith, omega arith) (omega arith, omega arith) (omega arith) hh)) (k .stored);
       }
 
 -- one that only xAPIC mode has
@@ -120,13 +117,13 @@ module _ (l : List ℕ) (b : Bool) (next : VirtualApicRegs) (e : b ≡ view l .x
 
 -- ---- acceptance and EOI
 
-stored-mark : (l : List ℕ) (base v : ℕ) (up : Bool) → length l ≡ 48 → v < 256 → base + 8 ≤ 42 → Stored l (markedIn l base v up)
-stored-mark l base v up n h b =
-    stored-set l (base + v / 32) (marked (word l (base + v / 32)) (v % 32) up) n (omega arith)
-    (marked-small (word l (base + v / 32)) (v % 32) up (cut-small (getD l (base + v / 32) 0)) (mod-lt v (omega arith)))
+stored-mark : (l : List ℕ) (base v : ℕ) (up : Bool) → length l ≡ 48 → v < 256 → 1 ≤ base → base + 8 ≤ 42 → Stored l (markedIn l base v up)
+stored-mark l base v up n h a b =
+    stored-set l (base + v / 32) (marked (word l (base + v / 32)) (v % 32) up) n (omega arith, omega arith)
+    (marked-lt 32 (word l (base + v / 32)) (v % 32) up (cut-small (getD l (base + v / 32) 0)) (mod-lt v (omega arith)))
 
 stored-rank : (l : List ℕ) → length l ≡ 48 → Stored l (ranked l)
-stored-rank l n = stored-set l 3 (priority (word l 2) (served l)) n (omega arith) (priority-small (word l 2) (served l) (cut-small (getD l 2 0)))
+stored-rank l n = stored-set l 3 (priority (word l 2) (served l)) n (omega arith, omega arith) (priority-small (word l 2) (served l) (cut-small (getD l 2 0)))
 
 module _ (l : List ℕ) (n : length l ≡ 48) where
   pub accept-way : (a b m : List ℕ) (v : Vector) (up : Bool) → v .0 < 256 → a ≡ markedIn l 18 (v .0) true → b ≡ markedIn a 26 (v .0) up → m ≡ ranked b → Leaves l l m Nothing (acceptInterrupt (view l) v up)
@@ -140,7 +137,7 @@ module _ (l : List ℕ) (n : length l ≡ 48) where
       record {
         outcome = ap done (ap view e ∙ rank-view b nb ∙ ap updatePpr (vb ∙ ap (λ (s : VirtualApicRegs). withTmr s (moved (s .tmr) v₀ up)) va));
         refused = tt;
-        stored = rw e (stored-then l b (ranked b) (rw eb (stored-then l a (markedIn a 26 v₀ up) (rw ea (stored-mark l 18 v₀ true n h (omega arith))) (stored-mark a 26 v₀ up na h (omega arith)))) (stored-rank b nb));
+        stored = rw e (stored-then l b (ranked b) (rw eb (stored-then l a (markedIn a 26 v₀ up) (rw ea (stored-mark l 18 v₀ true n h (omega arith) (omega arith))) (stored-mark a 26 v₀ up na h (omega arith) (omega arith)))) (stored-rank b nb));
       }
 
   ended-view : view (ended l (served l)) ≡ updatePpr (withIsr (view l) (moved (view l .isr) (served l) false))
@@ -149,7 +146,7 @@ module _ (l : List ℕ) (n : length l ≡ 48) where
   ended-stored : Stored l (ended l (served l))
   ended-stored =
       let m = markedIn l 18 (served l) false in
-      stored-then l m (ranked m) (stored-mark l 18 (served l) false n (served-small l) (omega arith)) (stored-rank m (simp length-set n))
+      stored-then l m (ranked m) (stored-mark l 18 (served l) false n (served-small l) (omega arith) (omega arith)) (stored-rank m (simp length-set n))
 
   module _ (v : ℕ) (e : v ≡ served l) where
     pub eoi-none : v ≡ 0 → Leaves l l l Nothing (handleEoi (view l))
@@ -318,12 +315,12 @@ module _ (l : List ℕ) (val width num active : ℕ) (x w : Bool) (ex : x ≡ vi
 
 -- the self-IPI register
 module _ (l : List ℕ) (val : ℕ) (x : Bool) (ex : x ≡ view l .x2apic) where
-  pub self-in : (m : List ℕ) (r : Reply) (id : ℕ) (a : IcrAnswer) → x ≡ true → id ≡ word l 1 → a ≡ selfIpi (record { 0 = id }) (record { 0 = val % 256 })
+  pub self-in : (m : List ℕ) (r : Reply) (n : ℕ) (id : VcpuId) (a : IcrAnswer) → x ≡ true → n ≡ word l 1 → id ≡ vcpuOf n → a ≡ selfIpi id (record { 0 = val % 256 })
       → Leaves l l m r (answered (view l) a) → Leaves l l m r (writeSelfIpi (view l) val)
   unfolding writeSelfIpi
-  self-in m r id a t ei ea k =
+  self-in m r n id a t en ei ea k =
       leaves-as (writeSelfIpi (view l) val) l k
-      (cond-yes _ _ _ _ _ (sym ex ∙ t) (ap (answered (view l)) (ea ∙ ap (λ (y : ℕ). selfIpi (record { 0 = y }) (record { 0 = val % 256 })) (ei ∙ id-is l)))) refl
+      (cond-yes _ _ _ _ _ (sym ex ∙ t) (ap (answered (view l)) (ea ∙ ap (λ (y : VcpuId). selfIpi y (record { 0 = val % 256 })) (ei ∙ ap vcpuOf (en ∙ id-is l))))) refl
 
   pub self-out : x ≡ false → Leaves l l l (Refused InvalidRegister) (writeSelfIpi (view l) val)
   unfolding writeSelfIpi
@@ -350,9 +347,9 @@ module _ (l : List ℕ) (at val width num active : ℕ) (e : outOfRange num (vie
   unfolding refusedWords handleWrite
   at-rest p q s k = rw (ne-eqb (at * 16) 0xb0 (λ z. p (omega arith)), ne-eqb (at * 16) 0x300 (λ z. q (omega arith)), ne-eqb (at * 16) 0x3f0 (λ z. s (omega arith)), e) k
 
-module _ (l : List ℕ) (o val width num active : ℕ) (b : Bool) (id : ℕ) (ei : id ≡ word l 1) (eb : b ≡ outOfRange num id) where
+module _ (l : List ℕ) (o val width num active : ℕ) (b : Bool) (n : ℕ) (id : VcpuId) (en : n ≡ word l 1) (ei : id ≡ vcpuOf n) (eb : b ≡ outOfRange num (id .0)) where
   range : (c : Bool) → b ≡ c → outOfRange num (view l .«vapic_id») ≡ c
-  range c t = ap (outOfRange num) (sym (ei ∙ id-is l)) ∙ sym eb ∙ t
+  range c t = own-range num (view l .«vapic_id») id b c (ei ∙ ap vcpuOf (en ∙ id-is l)) eb t
 
   pub in-range-is : b ≡ false → outOfRange num (view l .«vapic_id») ≡ false
   in-range-is t = range false t
@@ -397,12 +394,12 @@ module _ (l : List ℕ) (x2apic b : Bool) (id : VcpuId) (num : ℕ) (e : b ≡ o
   unfolding setup
   setup-out t = same l (Refused OutOfRange) (setup (view l) x2apic id num) (rw (← e, t))
 
-  pub setup-in : (m : List ℕ) → b ≡ false → m ≡ startWords x2apic (id .0) (spareOf l)
+  pub setup-in : (m : List ℕ) (n : ℕ) → b ≡ false → n ≡ apicId id → m ≡ startWords x2apic n (spareOf l)
       → Leaves l l m Nothing (setup (view l) x2apic id num)
   unfolding setup
-  setup-in m t em =
+  setup-in m n t en em =
       let h : id .0 ≤ 63 = in-range num (id .0) (sym e ∙ t) .1 in
-      rw (← e, t, em)
+      rw (← e, t, em, id-kept num id n b e t en)
       record {
         outcome = ap done (start-view x2apic (id .0) (spareOf l) (omega arith));
         refused = tt;

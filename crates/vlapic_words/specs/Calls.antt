@@ -1,5 +1,5 @@
 -- What a call in place promises, of the words before it and after it: the registers that they stand for and the reply are the outcome that the registers' definitions give,
--- a refused call leaves every word as it was, the spare words are as they were, and what is stored has the bits above 31 clear.
+-- a refused call leaves every word as it was, the spare words are as they were, and what is stored has the bits above 31 clear, and is 0 or 1 in word 0.
 use Prim.Native.Nat.{ℕ, _%_, _^_, _≤_, _<_}
 use mathlib.Core.Bool.{false, not, cond, _&&_}
 use mathlib.Core.List.{List}
@@ -8,25 +8,20 @@ use mathlib.Core.Path.{_≡_}
 use lib.Dec.{eqb}
 use lib.ListN.{getD, set}
 use Rattle.types.specs.declared.Reply.{Reply}
-use Rattle.types.specs.declared.Reply.the-variants.{Refused, Nothing, One, Two, Three}
-use Rattle.types.specs.Reply.{Outcome}
+use Rattle.types.specs.Reply.{Outcome, Kept}
 use Rattle.vlapic_icr.specs.Fields.{idle, icrWidth, icrHigh}
 use Rattle.vlapic.specs.declared.VirtualApicRegs.{VirtualApicRegs}
 use Rattle.vlapic.specs.Regs.{start}
 use Rattle.vlapic.specs.Calls.{outOfRange}
 use Rattle.vlapic_words.specs.Words.{view}
 
--- where the reply is a refusal, the words are those in `kept`
-abbrev pub Kept : Reply → List ℕ → List ℕ → Type 0
-Kept (Refused why) kept m = m ≡ kept
-Kept Nothing kept m = Unit
-Kept (One a) kept m = Unit
-Kept (Two a b) kept m = Unit
-Kept (Three a b c) kept m = Unit
+-- what is stored in word k: 0 or 1 in the mode's, a number of 32 bits in a register's, nothing in the spare ones
+abbrev pub Storable : ℕ → ℕ → Type 0
+Storable k x = (k < 42) × (x < cond (eqb k 0) 2 (2 ^ 32))
 
--- each word is as it was, or is none of the spare words and has the bits above 31 clear
+-- each word is as it was, or was stored
 abbrev pub Stored : List ℕ → List ℕ → Type 0
-Stored l m = (k : ℕ) → k < 48 → (getD m k 0 ≡ getD l k 0) ⊎ ((k < 42) × (getD m k 0 < 2 ^ 32))
+Stored l m = (k : ℕ) → k < 48 → (getD m k 0 ≡ getD l k 0) ⊎ Storable k (getD m k 0)
 
 -- a call that leaves the words m of the words l, or those in `kept` where it is refused
 pub record Leaves (l kept m : List ℕ) (r : Reply) (o : Outcome VirtualApicRegs) : Type 0 where

@@ -1,9 +1,9 @@
 -- What the steps of the calls do to the words.
 use Prim.Native.Nat.{ℕ, _+_}
-use mathlib.Core.Bool.{Bool, false, cond}
+use mathlib.Core.Bool.{Bool, false}
 use mathlib.Core.List.{List, [], _∷_, _++_}
 use lib.ListN.{getD, set, replicate}
-use Rattle.utils.specs.Set.{with, without}
+use Rattle.utils.specs.Set.{marked}
 use Rattle.utils.specs.Vectors.{indexOf, bitposOf}
 use Rattle.types.specs.Reply.{flag}
 use Rattle.vlapic_regs.specs.Vectors.{highestFrom}
@@ -25,9 +25,6 @@ abbrev pub served : List ℕ → ℕ
 served l = highestFrom 32 (eight l 18)
 
 -- vector v up or down in the eight words from `base` on: one word is stored
-abbrev pub marked : ℕ → ℕ → Bool → ℕ
-marked s k up = cond up (with s k) (without s k)
-
 abbrev pub markedIn : List ℕ → ℕ → ℕ → Bool → List ℕ
 markedIn l base v up = set l (base + indexOf v) (marked (word l (base + indexOf v)) (bitposOf v) up)
 

@@ -5,7 +5,7 @@ ghost use Prim.Native.Nat.{_+_, _*_, _≤_, _<_};
 ghost use mathlib.Core.Bool.{false};
 ghost use mathlib.Core.Path.{_≡_};
 ghost use lib.ListN.{set};
-ghost use Rattle.utils.specs.Set.{lastSet32};
+ghost use Rattle.utils.specs.Set.{marked, lastSet32};
 ghost use Rattle.types.specs.declared.Reply.the-variants.{Nothing};
 ghost use Rattle.vlapic_regs.specs.Vectors.{inWords};
 ghost use Rattle.vlapic_regs.specs.Register.{errorsShown};
@@ -16,7 +16,7 @@ ghost use Rattle.vlapic.specs.Registers.{handleRead, inXapic, writeStored};
 ghost use Rattle.vlapic.specs.Calls.{outOfRange, setup, answered, writeIcr, writeIcrLow, writeSelfIpi, handleWrite};
 ghost use Rattle.vlapic_words.specs.Words.{word, eight, view};
 ghost use Rattle.vlapic_words.specs.Calls.{Leaves, IsNew, commandStored, icrRefused, refusedWords};
-ghost use Rattle.vlapic_words.specs.Steps.{startWords, served, marked, markedIn, ranked, ended};
+ghost use Rattle.vlapic_words.specs.Steps.{startWords, served, markedIn, ranked, ended};
 use types::Refusal;
 use types::VcpuId;
 use types::Vector;
@@ -191,8 +191,7 @@ pub fn new(words: &mut [u64; 48])
 pub fn setup(words: &mut [u64; 48], x2apic: bool, vcpu_id: VcpuId, vcpu_num: usize) -> WriteAnswer
     ensures { λ r. ⌜ Leaves (now (words .entry)) (now (words .entry)) (now (words .exit)) (writeReply r) (setup (view (now (words .entry))) x2apic «vcpu_id» «vcpu_num») ⌝ }
 {
-    let id = vcpu_id.0;
-    if vlapic::is_out_of_range(vcpu_num, id) {
+    if vlapic::is_out_of_range(vcpu_num, vcpu_id) {
         return WriteAnswer::Refused(Refusal::OutOfRange);
     }
     let spare = [
@@ -203,23 +202,23 @@ pub fn setup(words: &mut [u64; 48], x2apic: bool, vcpu_id: VcpuId, vcpu_num: usi
         words[46],
         words[47],
     ];
-    reset(&mut *words, x2apic, id as u32, spare);
+    reset(&mut *words, x2apic, vcpu_id.apic_id(), spare);
     WriteAnswer::Done
 }
 
 // ---- Vectors
 
 // The highest vector of a word that isn't empty.
-fn in_word(w: u8, held: u32) -> u8
+fn in_word(w: u8, held: u32) -> Vector
     requires { ⌜ (w < 8) × (held ≡ 0 → ⊥) ⌝ }
-    ensures { λ r. ⌜ r ≡ w * 32 + lastSet32 held ⌝ }
+    ensures { λ r. ⌜ r .0 ≡ w * 32 + lastSet32 held ⌝ }
 {
-    w * 32 + utils::fls32(held) as u8
+    Vector(w * 32 + utils::fls32(held) as u8)
 }
 
 // The highest vector in service, or 0: that of the highest word that isn't empty. Words 6 to 4 are looked at together; word 0 isn't searched.
-fn find_isrv(words: &[u64; 48]) -> u8
-    ensures { λ r. ⌜ r ≡ served (now (words .entry)) ⌝ }
+fn find_isrv(words: &[u64; 48]) -> Vector
+    ensures { λ r. ⌜ r .0 ≡ served (now (words .entry)) ⌝ }
 {
     let w7 = word(words, ISR + 7);
     if w7 != 0 {
@@ -249,7 +248,7 @@ fn find_isrv(words: &[u64; 48]) -> u8
     if w1 != 0 {
         return in_word(1, w1);
     }
-    0
+    Vector(0)
 }
 
 fn marked(set: u32, k: u32, up: bool) -> u32
@@ -285,7 +284,7 @@ fn has(words: &[u64; 48], base: usize, vector: Vector) -> bool
 fn rank(words: &mut [u64; 48])
     ensures { λ _. ⌜ now (words .exit) ≡ ranked (now (words .entry)) ⌝ }
 {
-    let isrv = Vector(find_isrv(&*words));
+    let isrv = find_isrv(&*words);
     let ppr = register::ppr(word(&*words, TPR), isrv);
     put(&mut *words, PPR, ppr);
 }
@@ -313,7 +312,7 @@ pub fn handle_eoi(words: &mut [u64; 48]) -> EoiAnswer
     ensures { λ r. ⌜ Leaves (now (words .entry)) (now (words .entry)) (now (words .exit)) (eoiReply r) (handleEoi (view (now (words .entry)))) ⌝ }
 {
     seen(&*words);
-    let vector = Vector(find_isrv(&*words));
+    let vector = find_isrv(&*words);
     if vector.0 == 0 {
         return EoiAnswer::Nothing;
     }
@@ -464,7 +463,6 @@ fn write_icr(
     vcpu_num: usize,
     active_vcpus: u64,
 ) -> WriteAnswer
-    requires { ⌜ («vcpu_num» ≤ 64) × (view (now words) .«vapic_id» ≤ 63) ⌝ }
     ensures { λ r. ⌜ Leaves (now (words .entry)) (commandStored (now (words .entry)) lo hi) (now (words .exit)) (writeReply r) (writeIcr (view (now (words .entry))) lo hi «vcpu_num» «active_vcpus») ⌝ }
 {
     seen(&*words);
@@ -489,7 +487,6 @@ fn write_icr_low(
     vcpu_num: usize,
     active_vcpus: u64,
 ) -> WriteAnswer
-    requires { ⌜ («vcpu_num» ≤ 64) × (view (now words) .«vapic_id» ≤ 63) ⌝ }
     ensures { λ r. ⌜ Leaves (now (words .entry)) (icrRefused (now (words .entry)) val width) (now (words .exit)) (writeReply r) (writeIcrLow (view (now (words .entry))) val width «vcpu_num» «active_vcpus») ⌝ }
 {
     let x2apic = is_x2apic(&*words);
@@ -503,12 +500,11 @@ fn write_icr_low(
 
 // A write of the self-IPI register, which x2APIC mode alone has.
 fn write_self_ipi(words: &mut [u64; 48], val: u64) -> WriteAnswer
-    requires { ⌜ view (now words) .«vapic_id» ≤ 63 ⌝ }
     ensures { λ r. ⌜ Leaves (now (words .entry)) (now (words .entry)) (now (words .exit)) (writeReply r) (writeSelfIpi (view (now (words .entry))) val) ⌝ }
 {
     if is_x2apic(&*words) {
         let vector = Vector((val % 256) as u8);
-        let id = VcpuId(word(&*words, VAPIC_ID) as usize);
+        let id = VcpuId::of_apic(word(&*words, VAPIC_ID));
         return answer(&mut *words, vlapic_icr::handle_self_ipi(id, vector));
     }
     WriteAnswer::Refused(Refusal::InvalidRegister)
@@ -519,7 +515,7 @@ fn write_eoi(words: &mut [u64; 48]) -> WriteAnswer
     ensures { λ r. ⌜ Leaves (now (words .entry)) (now (words .entry)) (now (words .exit)) (writeReply r) (done (handleEoi (view (now (words .entry))) .state)) ⌝ }
 {
     seen(&*words);
-    let vector = Vector(find_isrv(&*words));
+    let vector = find_isrv(&*words);
     if vector.0 == 0 {
         return WriteAnswer::Done;
     }
@@ -538,7 +534,7 @@ pub fn handle_write(
 ) -> WriteAnswer
     ensures { λ r. ⌜ Leaves (now (words .entry)) (refusedWords (now (words .entry)) offset val width «vcpu_num») (now (words .exit)) (writeReply r) (handleWrite (view (now (words .entry))) offset val width «vcpu_num» «active_vcpus») ⌝ }
 {
-    if vlapic::is_out_of_range(vcpu_num, word(&*words, VAPIC_ID) as usize) {
+    if vlapic::is_out_of_range(vcpu_num, VcpuId::of_apic(word(&*words, VAPIC_ID))) {
         return WriteAnswer::Refused(Refusal::OutOfRange);
     }
     if offset % 16 == 0 {

@@ -1,41 +1,43 @@
 -- A law for each way out of the pair's functions, in views alone: p is the pair before, and each later one is said from the last. Assumes nothing.
 use mathlib.Core.Path.{_≡_, refl, sym, ap, ap₂, _∙_}
-use mathlib.Core.Bool.{Bool, true, false, not, cond, _||_, true≢false}
+use mathlib.Core.Bool.{Bool, true, false, not, cond, _&&_}
 use mathlib.Core.List.{List, [], _∷_}
-use Prim.Native.Nat.{ℕ, zero, suc, _+_, _-_, _%_, _^_, _<_, _≤_}
+use Prim.Native.Nat.{ℕ, _+_, _-_, _%_, _^_, _<_, _≤_}
 use native.Mathlib.Omega.{arith}
+use native.Mathlib.Nat.{zero-div}
 use lib.Dec.{ltb, eqb}
 use lib.ListN.{set, length}
-use lib.Pow.{pow-pos}
-use borrow.Author.Tests.{lt-ltb, le-ltb, ltb-true, ltb-false, not-true, not-false, ne-eqb}
-use Rattle.utils.specs.Set.{bit, with}
+use borrow.Author.Tests.{lt-ltb, ltb-true, ltb-false, not-true, not-false, ne-eqb, eqb-true}
+use Rattle.utils.specs.Set.{bit, with, outside}
 use Rattle.utils.specs.Cases.{cases}
 use Rattle.utils.proofs.Bools.{never}
+use Rattle.utils.proofs.Laws.{bit-outside, bit-with-same, setOf-same}
 use Rattle.types.specs.declared.PicLine.{PicLine}
 use Rattle.types.specs.declared.PicPlace.{PicPlace}
 use Rattle.types.specs.declared.PicPlace.the-variants.{Master, Slave, Nowhere}
 use Rattle.types.specs.declared.Refusal.the-variants.{Unsupported, OutOfRange}
-use Rattle.types.specs.declared.Reply.the-variants as reply
 use Rattle.types.specs.Counters.{placeOf, lineVector}
 use Rattle.types.specs.Reply.{Outcome}
 use Rattle.vpic_chip.specs.declared.PicChip.{PicChip}
 use Rattle.vpic_chip.specs.declared.PendingIrq.{PendingIrq}
 use Rattle.vpic_chip.specs.declared.PendingIrq.the-variants.{Irq, Nothing}
 use Rattle.vpic_chip.specs.declared.PicVector.{PicVector}
-use Rattle.vpic_chip.specs.declared.PicVector.the-variants.{Given}
+use Rattle.vpic_chip.specs.declared.PicVector.the-variants.{Given, Nothing as NoVector}
 use Rattle.vpic_chip.specs.Registers.{Chip, chipIn}
 use Rattle.vpic_chip.specs.Chip.{pulsed, asks, driven, pendingLine, pendingIrq, acknowledged, acknowledge, unacknowledged, commanded, fed, commandRead, opened, vectorReply}
 use Rattle.vpic_chip.proofs.Laws.{asks-none, vector-reply-same}
+use Rattle.vpic.specs.declared.PicRule.{PicRule}
+use Rattle.vpic.specs.declared.PicRule.the-variants.{Latch, Cascade}
 use Rattle.vpic.specs.declared.PicInterruptClaim.{PicInterruptClaim}
 use Rattle.vpic.specs.declared.PicClaim.{PicClaim}
 use Rattle.vpic.specs.declared.PicClaim.the-variants.{Nothing as NoClaim}
 use Rattle.vpic.specs.declared.PicValue.the-variants.{Value}
 use Rattle.vpic.specs.declared.PicDone.the-variants.{Done, Refused}
 use Rattle.vpic.specs.Words.{PicState, view}
-use Rattle.vpic.specs.Pair.{chips, isCascade, cascadeIrq, settled, isPlace, latchedAt, Latched, latched, StateClaim, stateClaim, grew, claimOf, masterClaim, slaveClaim, cascadePlace, pendingPlace, claimAt, claimPending, claimIrq, restoredAt, restored, restoreInterrupt, Written, writtenAt, isPort, portWritten, handleWrite, portRead, newState, newRule, isRule, refused, claimVector, withClaim, withVector, claimOutcome, vectorOutcome, doneOutcome}
-use Rattle.vpic.specs.Claim.{masterTaken, slaveTaken, takenAt}
+use Rattle.vpic.specs.Pair.{ruleNumber, ruleIn, drives, chips, isCascade, cascadeIrq, settled, Keeps, isPlace, latchedAt, Latched, latched, StateClaim, stateClaim, grew, claimOf, masterClaim, slaveClaim, pendingPlace, claimAt, claimPending, claimIrq, restoredAt, restored, restoreInterrupt, Port, master-command, master-data, slave-command, slave-data, no-port, portAt, isThere, writtenTo, Written, writtenAt, isPort, portWritten, handleWrite, portRead, newState, claimVector, withClaim, withVector, claimOutcome, vectorOutcome, doneOutcome}
+use Rattle.vpic.specs.Claim.{masterTaken, slaveTaken, takenAt, isQuiet}
 use Rattle.vpic.proofs.Ready.{ready-master, ready-slave, low-slave}
-use Rattle.vpic.proofs.Settled.{settled-twice, master-leaves, slave-leaves}
+use Rattle.vpic.proofs.Settled.{settled-kept, settled-twice, master-leaves, slave-leaves}
 
 -- ---- the words
 
@@ -52,23 +54,21 @@ slave-set (x ∷ y ∷ l) w h = refl
 
 -- ---- a new pair
 
-pub new-out : (p : PicState) (rule : ℕ) → 1 < rule → doneOutcome p (Refused Unsupported) ≡ newRule p rule
-new-out p rule l = rw (ne-eqb rule 0 (λ e. omega arith), ne-eqb rule 1 (λ e. omega arith))
-
-pub new-done : (p : PicState) (l : List ℕ) (m s : PicChip) (rule : ℕ) → length l ≡ 4 → rule ≤ 1 → chipIn (m .0) ≡ opened 0x08 → chipIn (s .0) ≡ opened 0x70
-    → doneOutcome (view (set (set (set (set l 0 (m .0)) 1 (s .0)) 2 rule) 3 0)) Done ≡ newRule p rule
+pub new-done : (l : List ℕ) (m s : PicChip) (n : ℕ) (rule : PicRule) → length l ≡ 4 → chipIn (m .0) ≡ opened 0x08 → chipIn (s .0) ≡ opened 0x70 → n ≡ ruleNumber rule
+    → view (set (set (set (set l 0 (m .0)) 1 (s .0)) 2 n) 3 0) ≡ newState rule
 unfolding view newState
-new-done p [] m s rule h k em es = absurd (omega arith)
-new-done p (x ∷ []) m s rule h k em es = absurd (omega arith)
-new-done p (x ∷ y ∷ []) m s rule h k em es = absurd (omega arith)
-new-done p (x ∷ y ∷ z ∷ []) m s rule h k em es = absurd (omega arith)
-new-done p (x ∷ y ∷ z ∷ u ∷ l) m s rule h k em es = rw (em, es) (go rule k)
-  where
-    go : (n : ℕ) → n ≤ 1 → doneOutcome (record { rule = n; master = opened 0x08; slave = opened 0x70; spare = 0 }) Done
-        ≡ cond (isRule n) (record { state = record { rule = n; master = opened 0x08; slave = opened 0x70; spare = 0 }; reply = reply.Nothing }) (refused p Unsupported)
-    go zero q = refl
-    go (suc zero) q = refl
-    go (suc (suc n)) q = absurd (omega arith)
+new-done [] m s n rule h em es en = absurd (omega arith)
+new-done (x ∷ []) m s n rule h em es en = absurd (omega arith)
+new-done (x ∷ y ∷ []) m s n rule h em es en = absurd (omega arith)
+new-done (x ∷ y ∷ z ∷ []) m s n rule h em es en = absurd (omega arith)
+new-done (x ∷ y ∷ z ∷ u ∷ l) m s n rule h em es en = λ i. record { rule = en i; master = em i; slave = es i; spare = 0 }
+
+-- the rule that drives line 2
+pub cascade-not : (p : PicState) (r : PicRule) → r ≡ ruleIn (p .rule) → r ≡ Latch → false ≡ isCascade p
+cascade-not p r e f = ap drives (sym f ∙ e)
+
+pub cascade-is : (p : PicState) (r : PicRule) → r ≡ ruleIn (p .rule) → r ≡ Cascade → true ≡ isCascade p
+cascade-is p r e f = ap drives (sym f ∙ e)
 
 -- ---- settling and latching
 
@@ -122,17 +122,29 @@ module _ (p : PicState) (m : Chip) (a : PendingIrq) (em : m ≡ p .master) (ea :
 
 -- ---- a line is taken
 
--- a line that wasn't in service is put there by its acknowledgement, but in automatic EOI mode
-pub grew-taken : (c : Chip) (k : ℕ) → bit (c .«in_service») k ≡ false → grew c (acknowledged c k) ≡ not (c .«auto_eoi»)
-unfolding acknowledged with
-grew-taken c k e = go (c .«auto_eoi»)
+-- nothing comes into a set that stays as it is, and where k comes in, it isn't empty
+pub none-new : (n : ℕ) → eqb (outside 8 n n) 0 ≡ true
+unfolding outside
+none-new n = ap (λ (m : ℕ). eqb m 0) (setOf-same 8 (λ (k : ℕ). bit n k && not (bit n k)) (λ (k : ℕ). false) (λ k l. go (bit n k)))
   where
-    go : (b : Bool) → ltb (c .«in_service») (cond b (c .«in_service») (cond (bit (c .«in_service») k) (c .«in_service») (c .«in_service» + 2 ^ k))) ≡ not b
-    go true = le-ltb (c .«in_service») (c .«in_service») (omega arith)
-    go false = rw e (lt-ltb (c .«in_service») (c .«in_service» + 2 ^ k) (omega (arith, pow-pos k)))
+    go : (b : Bool) → (b && not b) ≡ false
+    go true = refl
+    go false = refl
 
-same-not-less : (n : ℕ) → ltb n n ≡ false
-same-not-less n = le-ltb n n (omega arith)
+one-new : (n k : ℕ) → k < 8 → bit n k ≡ false → eqb (outside 8 (with n k) n) 0 ≡ false
+one-new n k l e = ne-eqb (outside 8 (with n k) n) 0 (λ z. never there (ap (λ (m : ℕ). bit m k) z ∙ ap (λ (m : ℕ). eqb (m % 2) 1) (zero-div (2 ^ k))))
+  where
+    there : bit (outside 8 (with n k) n) k ≡ true
+    there = bit-outside 8 (with n k) n k l ∙ rw (bit-with-same n k, e)
+
+-- a line that wasn't in service is put there by its acknowledgement, but in automatic EOI mode
+pub grew-taken : (c : Chip) (k : ℕ) → k < 8 → bit (c .«in_service») k ≡ false → grew c (acknowledged c k) ≡ not (c .«auto_eoi»)
+unfolding acknowledged
+grew-taken c k l e = go (c .«auto_eoi»)
+  where
+    go : (b : Bool) → not (eqb (outside 8 (cond b (c .«in_service») (with (c .«in_service») k)) (c .«in_service»)) 0) ≡ not b
+    go true = ap not (none-new (c .«in_service»))
+    go false = ap not (one-new (c .«in_service») k l e)
 
 -- what a chip's acknowledgement of one of its lines left
 module _ (c a : Chip) (k : PicLine) (v : PicVector) (l : k .0 < 8) (e : _≡_ {A = Outcome Chip} (record { state = a; reply = vectorReply v }) (acknowledge c k)) where
@@ -153,9 +165,9 @@ module _ (p q : PicState) (m a : Chip) (k : PicLine) (v : PicVector) (g : Bool) 
       let low : k .0 < 8 = ready-master p k ep .low in
       let b : a ≡ acknowledged m (k .0) = ack-chip m a k v low ea in
       let w : v ≡ Given (lineVector (m .«vector_base») k) = ack-vector m a k v low ea in
-      let i : not g ≡ grew (p .master) (acknowledged (p .master) (k .0)) = ap not (eg ∙ ap (λ (d : Chip). d .«auto_eoi») em) ∙ sym (grew-taken (p .master) (k .0) (ready-master p k ep .idle)) in
+      let i : not g ≡ grew (p .master) (acknowledged (p .master) (k .0)) = ap not (eg ∙ ap (λ (d : Chip). d .«auto_eoi») em) ∙ sym (grew-taken (p .master) (k .0) low (ready-master p k ep .idle)) in
       let n : c ≡ claimOf (Given (lineVector (m .«vector_base») k)) k (not g) false = ec ∙ ap (λ (x : PicVector). claimOf x k (not g) false) w in
-      rw (same-not-less (p .slave .«in_service»)) (cc)
+      rw (none-new (p .slave .«in_service»)) (cc)
 
   pub slave-taken : (r : PicState) (s b : Chip) (u : PicVector) (h : Bool) → pendingPlace p ≡ Slave k → _≡_ {A = Outcome Chip} (record { state = a; reply = vectorReply u }) (acknowledge m cascadeIrq)
       → s ≡ p .slave → _≡_ {A = Outcome Chip} (record { state = b; reply = vectorReply v }) (acknowledge s k) → r ≡ chips q (q .master) b
@@ -165,8 +177,8 @@ module _ (p q : PicState) (m a : Chip) (k : PicLine) (v : PicVector) (g : Bool) 
       let x : a ≡ acknowledged m 2 = ack-chip m a cascadeIrq u (omega arith) ea in
       let y : b ≡ acknowledged s (k .0) = ack-chip s b k v (low-slave p k ep) eb in
       let w : v ≡ Given (lineVector (s .«vector_base») k) = ack-vector s b k v (low-slave p k ep) eb in
-      let i : not g ≡ grew (p .master) (acknowledged (p .master) 2) = ap not (eg ∙ ap (λ (d : Chip). d .«auto_eoi») em) ∙ sym (grew-taken (p .master) 2 (ready-slave p k ep .0 .idle)) in
-      let j : not h ≡ grew (p .slave) (acknowledged (p .slave) (k .0)) = ap not (eh ∙ ap (λ (d : Chip). d .«auto_eoi») es) ∙ sym (grew-taken (p .slave) (k .0) (ready-slave p k ep .1 .idle)) in
+      let i : not g ≡ grew (p .master) (acknowledged (p .master) 2) = ap not (eg ∙ ap (λ (d : Chip). d .«auto_eoi») em) ∙ sym (grew-taken (p .master) 2 (omega arith) (ready-slave p k ep .0 .idle)) in
+      let j : not h ≡ grew (p .slave) (acknowledged (p .slave) (k .0)) = ap not (eh ∙ ap (λ (d : Chip). d .«auto_eoi») es) ∙ sym (grew-taken (p .slave) (k .0) (low-slave p k ep) (ready-slave p k ep .1 .idle)) in
       let n : c ≡ claimOf (Given (lineVector (s .«vector_base») k)) (record { 0 = k .0 + 8 }) (not g) (not h) = ec ∙ ap (λ (z : PicVector). claimOf z (record { 0 = k .0 + 8 }) (not g) (not h)) w in
       let z : r ≡ chips p (acknowledged (p .master) 2) (acknowledged (p .slave) (k .0)) =
       er ∙ ap (λ (o : PicState). chips o (o .master) b) eq
@@ -201,38 +213,18 @@ taken-kept p s = go (pendingPlace p) refl
     go : (x : PicPlace) → pendingPlace p ≡ x → takenAt p x ≡ claimAt p x
     go (Master k) e = master-leaves p k s e
     go (Slave k) e = refl
-    go Nowhere e = refl
+    go Nowhere e = cc
 
--- from any pair nothing, where the master doesn't ask; else the pair is settled then
-module _ (p : PicState) (m : Chip) (b : Bool) (em : m ≡ p .master) (eb : b ≡ asks m) where
-  asked : asks (p .master) ≡ b
-  asked = ap asks (sym em) ∙ sym eb
-
-  pub unasked : not b ≡ true → stateClaim p NoClaim ≡ claimPending p
-  unfolding claimPending pendingIrq asks
-  unasked n = rw (asked ∙ not-true b n)
-
-  somewhere : b ≡ true → pendingPlace p ≡ Nowhere → ⊥
-  unfolding pendingIrq asks
-  somewhere t e = go (eqb (pendingLine (p .master)) 2) (sym (rw (asked ∙ t)) ∙ e)
-    where
-      by-slave : (a : PendingIrq) → cascadePlace a ≡ Nowhere → ⊥
-      by-slave (Irq k) q = let z : _≡_ {A = ℕ} 0 1 = cc in omega arith
-      by-slave Nothing q = let z : _≡_ {A = ℕ} 0 1 = cc in omega arith
-
-      go : (d : Bool) → cond d (cascadePlace (pendingIrq (p .slave))) (Master (record { 0 = pendingLine (p .master) })) ≡ Nowhere → ⊥
-      go true q = by-slave (pendingIrq (p .slave)) q
-      go false q = let z : _≡_ {A = ℕ} 0 1 = cc in omega arith
-
-  pub taken-settled : (q r : PicState) (c : PicClaim) → not b ≡ false → stateClaim q c ≡ takenAt p (pendingPlace p) → r ≡ settled q → stateClaim r c ≡ claimPending p
-  unfolding claimPending masterClaim slaveClaim
-  taken-settled q r c n e er =
-      ap (λ (x : PicState). stateClaim x c) er ∙ ap (λ (x : StateClaim). stateClaim (settled (x .state)) (x .claim)) e ∙ go (pendingPlace p) refl
-    where
-      go : (x : PicPlace) → pendingPlace p ≡ x → stateClaim (settled (takenAt p x .state)) (takenAt p x .claim) ≡ claimAt p x
-      go (Master k) h = refl
-      go (Slave k) h = ap (λ (x : PicState). stateClaim x (slaveClaim p k .claim)) (settled-twice _ (slaveClaim p k .state) refl)
-      go Nowhere h = absurd (somewhere (not-false b n) h)
+-- from any pair what is taken is claimed, and the pair is settled then
+pub taken-settled : (p q r : PicState) (c : PicClaim) → stateClaim q c ≡ takenAt p (pendingPlace p) → r ≡ settled q → stateClaim r c ≡ claimPending p
+unfolding claimPending masterClaim slaveClaim
+taken-settled p q r c e er =
+    ap (λ (x : PicState). stateClaim x c) er ∙ ap (λ (x : StateClaim). stateClaim (settled (x .state)) (x .claim)) e ∙ go (pendingPlace p)
+  where
+    go : (x : PicPlace) → stateClaim (settled (takenAt p x .state)) (takenAt p x .claim) ≡ claimAt p x
+    go (Master k) = refl
+    go (Slave k) = ap (λ (x : PicState). stateClaim x (slaveClaim p k .claim)) (settled-twice _ (slaveClaim p k .state) refl)
+    go Nowhere = refl
 
 place-there : (l : PicLine) → isPlace (placeOf l) ≡ ltb (l .0) 16
 place-there l = go (ltb (l .0) 8) refl (ltb (l .0) 16) refl
@@ -261,6 +253,43 @@ module _ (p q : PicState) (l : PicLine) (a : PicPlace) (b : Bool) (ea : a ≡ pl
   pub irq-some : (r : PicState) (x : StateClaim) → not b ≡ false → r ≡ settled q → x ≡ takenAt r (pendingPlace r) → x ≡ claimIrq p l
   unfolding claimIrq latched
   irq-some r x n er ex = ex ∙ taken-kept r (settled-twice q r er) ∙ ap claimPending (er ∙ ap settled (e .state ∙ ap (latchedAt p) ea)) ∙ rw (there ∙ not-false b n)
+
+-- where the master doesn't ask, nothing is claimed, and the pair is settled too
+module _ (p q : PicState) (m : Chip) (b : Bool) (em : m ≡ p .master) (eb : b ≡ asks m) (n : not b ≡ true) (eq : q ≡ settled p) where
+  unasked : stateClaim q NoClaim ≡ claimPending p
+  unfolding claimPending pendingIrq asks
+  unasked = let a : asks (p .master) ≡ b = ap asks (sym em) ∙ sym eb in ap (λ (x : PicState). stateClaim x NoClaim) eq ∙ rw (a ∙ not-true b n)
+
+  pub unasked-reply : claimOutcome q NoClaim ≡ withClaim (claimPending p)
+  unasked-reply = ap withClaim unasked
+
+  pub unasked-vector : vectorOutcome q NoVector ≡ withVector (claimPending p)
+  unasked-vector = ap withVector unasked
+
+-- where nothing is requested, the master doesn't ask, and nothing is left to settle
+module _ (p : PicState) (b : Bool) (eb : b ≡ isQuiet p) (t : b ≡ true) where
+  none-asked : p .master .request + p .slave .request ≡ 0
+  none-asked = eqb-true (p .master .request + p .slave .request) 0 (sym eb ∙ t)
+
+  quiet-kept : Keeps p
+  quiet-kept i =
+      let m : p .master .request ≡ 0 = omega (arith, none-asked) in
+      let s : p .slave .request ≡ 0 = omega (arith, none-asked) in
+      ap (λ (n : ℕ). bit n 2) m ∙ asks-none (p .slave) (p .slave .request) refl s
+
+  quiet : stateClaim p NoClaim ≡ claimPending p
+  quiet =
+      let m : p .master .request ≡ 0 = omega (arith, none-asked) in
+      unasked p p (p .master) (asks (p .master)) refl refl (ap not (sym (asks-none (p .master) (p .master .request) refl m))) (sym (settled-kept p quiet-kept))
+
+  pub quiet-reply : claimOutcome p NoClaim ≡ withClaim (claimPending p)
+  quiet-reply = ap withClaim quiet
+
+  pub quiet-vector : vectorOutcome p NoVector ≡ withVector (claimPending p)
+  quiet-vector = ap withVector quiet
+
+pub quiet-is : (p : PicState) (m s : Chip) (a b : ℕ) → m ≡ p .master → s ≡ p .slave → a ≡ m .request → b ≡ s .request → eqb (a + b) 0 ≡ isQuiet p
+quiet-is p m s a b em es ea eb = ap₂ (λ (x y : ℕ). eqb (x + y) 0) (ea ∙ ap (λ (c : Chip). c .request) em) (eb ∙ ap (λ (c : Chip). c .request) es)
 
 -- the public calls say the same by the reply
 module _ (p q : PicState) (c d : PicClaim) (e : d ≡ c) where
@@ -319,14 +348,14 @@ module _ (p q : PicState) (port width value : ℕ) (b : Bool) (w : width ≡ 1) 
   unfolding writtenAt
   write-out n =
       let f : isPort port ≡ false = sym (e .known) ∙ not-true b n in
-      rw (w, f) (ap (λ (s : PicState). doneOutcome s (Refused Unsupported)) (e .state ∙ go (eqb port 0x20) (eqb port 0x21) (eqb port 0xa0) (eqb port 0xa1) f _ _ _ _))
+      rw (w, f) (ap (λ (s : PicState). doneOutcome s (Refused Unsupported)) (e .state ∙ go (portAt port) f))
     where
-      go : (a b c d : Bool) → (a || b || c || d) ≡ false → (x y z u : PicState) → cond a x (cond b y (cond c z (cond d u p))) ≡ p
-      go true b c d f x y z u = absurd (true≢false f)
-      go false true c d f x y z u = absurd (true≢false f)
-      go false false true d f x y z u = absurd (true≢false f)
-      go false false false true f x y z u = absurd (true≢false f)
-      go false false false false f x y z u = refl
+      go : (a : Port) → isThere a ≡ false → writtenTo p a (value % 256) ≡ p
+      go master-command f = never refl f
+      go master-data f = never refl f
+      go slave-command f = never refl f
+      go slave-data f = never refl f
+      go no-port f = refl
 
   pub write-done : (r : PicState) → not b ≡ false → r ≡ settled q → doneOutcome r Done ≡ handleWrite p port width value
   unfolding portWritten

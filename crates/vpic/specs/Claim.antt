@@ -1,6 +1,6 @@
 -- What the private functions say of a claim. On its way it is one number, 0 for none: `Codes.claim-kept` says that nothing is lost.
-use Prim.Native.Nat.{ℕ, _/_, _%_, _^_}
-use mathlib.Core.Bool.{cond}
+use Prim.Native.Nat.{ℕ, _+_, _/_, _%_, _^_}
+use mathlib.Core.Bool.{Bool, cond}
 use lib.Dec.{eqb}
 use Rattle.utils.specs.Set.{bit}
 use Rattle.types.specs.declared.PicLine.{PicLine}
@@ -10,7 +10,7 @@ use Rattle.vpic_chip.specs.Chip.{acknowledged}
 use Rattle.vpic.specs.declared.PicClaim.{PicClaim}
 use Rattle.vpic.specs.declared.PicClaim.the-variants.{Claimed, Nothing}
 use Rattle.vpic.specs.Words.{PicState}
-use Rattle.vpic.specs.Pair.{StateClaim, stateClaim, chips, nothingClaimed, masterClaim, slaveClaim}
+use Rattle.vpic.specs.Pair.{cascadeIrq, StateClaim, stateClaim, chips, nothingClaimed, masterClaim, slaveClaim}
 
 -- the vector in bits 0 to 7, the line in 16 to 23, and the two flags in 32 and 33
 abbrev pub claimIn : ℕ → PicClaim
@@ -26,9 +26,13 @@ abbrev pub masterTaken : PicState → PicLine → StateClaim
 masterTaken p k = stateClaim (chips p (acknowledged (p .master) (k .0)) (p .slave)) (masterClaim p k .claim)
 
 abbrev pub slaveTaken : PicState → PicLine → StateClaim
-slaveTaken p k = stateClaim (chips p (acknowledged (p .master) 2) (acknowledged (p .slave) (k .0))) (slaveClaim p k .claim)
+slaveTaken p k = stateClaim (chips p (acknowledged (p .master) (cascadeIrq .0)) (acknowledged (p .slave) (k .0))) (slaveClaim p k .claim)
 
 abbrev pub takenAt : PicState → PicPlace → StateClaim
 takenAt p (Master k) = masterTaken p k
 takenAt p (Slave k) = slaveClaim p k
 takenAt p Nowhere = nothingClaimed p
+
+-- nothing is requested: a claim then takes nothing and leaves the pair as it is (`Laws.quiet`)
+abbrev pub isQuiet : PicState → Bool
+isQuiet p = eqb (p .master .request + p .slave .request) 0

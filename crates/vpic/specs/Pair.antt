@@ -1,11 +1,11 @@
 -- The PC's two 8259A chips. Cascade mode: the slave hangs on the master's line 2, and an acknowledgement of that line is answered by the slave. The interrupt
--- sequence; the four ports. Departures from the data sheet are marked D-nn and stand in docs/DIFFERENCES.md. Rule 1 (document 02, T-02) is the data sheet's
--- cascade, rule 0 the Rust's.
+-- sequence; the four ports. Departures from the data sheet are marked D-nn and stand in docs/DIFFERENCES.md. By rule 1 (document 02,
+-- T-02) the slave's output drives the master's line 2, as in the data sheet but for D-18; by rule 0, the Rust's, it doesn't (D-13).
 use Prim.Native.Nat.{ℕ, _+_, _*_, _/_, _%_}
-use mathlib.Core.Bool.{Bool, true, false, cond, _||_}
+use mathlib.Core.Bool.{Bool, true, false, not, cond, _||_}
 use mathlib.Core.Path.{_≡_}
 use lib.Dec.{ltb, eqb}
-use Rattle.utils.specs.Set.{bit}
+use Rattle.utils.specs.Set.{bit, outside}
 use Rattle.types.specs.declared.PicLine.{PicLine}
 use Rattle.types.specs.declared.PicPlace.{PicPlace}
 use Rattle.types.specs.declared.PicPlace.the-variants.{Master, Slave, Nowhere}
@@ -22,6 +22,8 @@ use Rattle.vpic_chip.specs.declared.PicVector.{PicVector}
 use Rattle.vpic_chip.specs.declared.PicVector.the-variants.{Given, Nothing as NoVector}
 use Rattle.vpic_chip.specs.Registers.{Chip}
 use Rattle.vpic_chip.specs.Chip.{opened, commanded, fed, commandRead, pulsed, asks, driven, pendingIrq, acknowledged, unacknowledged, vectorReply}
+use Rattle.vpic.specs.declared.PicRule.{PicRule}
+use Rattle.vpic.specs.declared.PicRule.the-variants.{Latch, Cascade}
 use Rattle.vpic.specs.declared.PicInterruptClaim.{PicInterruptClaim}
 use Rattle.vpic.specs.declared.PicClaim.{PicClaim}
 use Rattle.vpic.specs.declared.PicClaim.the-variants.{Claimed, Nothing as NoClaim}
@@ -36,26 +38,45 @@ use Rattle.vpic.specs.Words.{PicState}
 abbrev pub chips : PicState → Chip → Chip → PicState
 chips p m s = record { rule = p .rule; master = m; slave = s; spare = p .spare }
 
--- a new pair of either rule, with the bases that the PC's BIOS gives them (the slave's is 0x70)
-unfoldable pub newState : ℕ → PicState
-newState rule = record { rule = rule; master = opened 0x08; slave = opened 0x70; spare = 0 }
+-- ---- the two rules
 
--- rule 1; any other number is rule 0
+-- the rules by number: in the pair's words any number but 1 is rule 0
+abbrev pub ruleNumber : PicRule → ℕ
+ruleNumber Latch = 0
+ruleNumber Cascade = 1
+
+abbrev pub ruleIn : ℕ → PicRule
+ruleIn n = cond (eqb n 1) Cascade Latch
+
+-- the numbers that a rule has
+abbrev pub isRule : ℕ → Bool
+isRule n = eqb n 0 || eqb n 1
+
+-- whether the slave's output drives the master's line 2
+abbrev pub drives : PicRule → Bool
+drives Latch = false
+drives Cascade = true
+
 abbrev pub isCascade : PicState → Bool
-isCascade p = eqb (p .rule) 1
+isCascade p = drives (ruleIn (p .rule))
+
+-- a new pair of a rule, with the bases that the PC's BIOS gives them (the slave's is 0x70)
+unfoldable pub newState : PicRule → PicState
+newState rule = record { rule = ruleNumber rule; master = opened 0x08; slave = opened 0x70; spare = 0 }
 
 -- the master's line that the slave hangs on
 abbrev pub cascadeIrq : PicLine
 cascadeIrq = record { 0 = 2 }
 
--- what is done after a latch, an acknowledgement, a served write and a restore. Rule 1: the slave's output drives the master's line 2. D-13, rule 0: it drives no line: request 2 is a latch, set by a
--- slave's edge and cleared by an acknowledgement, so that nothing is left to do
+-- what ends every call that isn't refused, but a read and a claim of a line that isn't there. Rule 1: the slave's output drives the master's line 2.
+-- D-18: request 2 stands again straight after the master's ICW1, which resets the edge sense in the data sheet. D-13, rule 0: the output drives no line: request 2 is a
+-- latch, set by a slave's edge and cleared by an acknowledgement, so that nothing is left to do
 unfoldable pub settled : PicState → PicState
-settled p = cond (isCascade p) (chips p (driven (p .master) 2 (asks (p .slave))) (p .slave)) p
+settled p = cond (isCascade p) (chips p (driven (p .master) (cascadeIrq .0) (asks (p .slave))) (p .slave)) p
 
 -- what that leaves: by the cascade rule, the master's request 2 set exactly when some slave request counts
 abbrev pub Keeps : PicState → Type 0
-Keeps p = isCascade p ≡ true → bit (p .master .request) 2 ≡ asks (p .slave)
+Keeps p = isCascade p ≡ true → bit (p .master .request) (cascadeIrq .0) ≡ asks (p .slave)
 
 -- ---- an edge on a line of the pair
 
@@ -87,9 +108,9 @@ pub record StateClaim : Type 0 where
 abbrev pub stateClaim : PicState → PicClaim → StateClaim
 stateClaim p c = record { state = p; claim = c }
 
--- a claim says what it did: the vector, the line, and which chip's in-service set grew by it
+-- a claim says what it did: the vector, the line, and which chip's in-service set grew by it: some line is in service after, and wasn't before
 abbrev pub grew : Chip → Chip → Bool
-grew before after = ltb (before .«in_service») (after .«in_service»)
+grew before after = not (eqb (outside 8 (after .«in_service») (before .«in_service»)) 0)
 
 -- the claim of line l with vector v that turned p into q
 abbrev pub claimed : PicState → PicState → Vector → PicLine → StateClaim
@@ -110,7 +131,7 @@ masterClaim p k = claimed p (chips p (acknowledged (p .master) (k .0)) (p .slave
 -- the slave answers for its line k, the pair's line k + 8
 unfoldable pub slaveClaim : PicState → PicLine → StateClaim
 slaveClaim p k =
-    claimed p (chips p (acknowledged (p .master) 2) (acknowledged (p .slave) (k .0))) (lineVector (p .slave .«vector_base») k) (record { 0 = k .0 + 8 })
+    claimed p (chips p (acknowledged (p .master) (cascadeIrq .0)) (acknowledged (p .slave) (k .0))) (lineVector (p .slave .«vector_base») k) (record { 0 = k .0 + 8 })
 
 -- the master's line 2 is acknowledged. D-16: with no slave request that counts the master answers for line 2 (in the data sheet the slave, for its line 7)
 abbrev pub cascadePlace : PendingIrq → PicPlace
@@ -118,7 +139,7 @@ cascadePlace (Irq k) = Slave k
 cascadePlace Nothing = Master cascadeIrq
 
 abbrev pub placeFrom : PicState → PendingIrq → PicPlace
-placeFrom p (Irq k) = cond (eqb (k .0) 2) (cascadePlace (pendingIrq (p .slave))) (Master k)
+placeFrom p (Irq k) = cond (eqb (k .0) (cascadeIrq .0)) (cascadePlace (pendingIrq (p .slave))) (Master k)
 placeFrom p Nothing = Nowhere
 
 -- whose line answers for the highest request of the master that counts
@@ -131,9 +152,9 @@ nothingClaimed p = record { state = p; claim = NoClaim }
 abbrev pub claimAt : PicState → PicPlace → StateClaim
 claimAt p (Master k) = masterClaim p k
 claimAt p (Slave k) = slaveClaim p k
-claimAt p Nowhere = nothingClaimed p
+claimAt p Nowhere = nothingClaimed (settled p)
 
--- the highest request of the master that counts is claimed
+-- the highest request of the master that counts is claimed; where none does, the pair is settled all the same
 unfoldable pub claimPending : PicState → StateClaim
 claimPending p = claimAt p (pendingPlace p)
 
@@ -153,24 +174,50 @@ restored p c = settled (restoredAt p (placeOf (c .irq)) (c .«master_in_service�
 
 -- ---- the ports: commands at 0x20 and 0xa0, data at 0x21 and 0xa1; one byte wide
 
-unfoldable pub portRead : PicState → ℕ → PicValue
-portRead p port =
-    cond (eqb port 0x20) (Value (commandRead (p .master)))
-    (cond (eqb port 0x21) (Value (p .master .mask))
-    (cond (eqb port 0xa0) (Value (commandRead (p .slave)))
-    (cond (eqb port 0xa1) (Value (p .slave .mask))
-    (NotRead Unsupported))))
+pub data Port : Type 0 where
+  master-command : Port
+  master-data : Port
+  slave-command : Port
+  slave-data : Port
+  no-port : Port
+
+abbrev pub portAt : ℕ → Port
+portAt port =
+    cond (eqb port 0x20) master-command
+    (cond (eqb port 0x21) master-data
+    (cond (eqb port 0xa0) slave-command
+    (cond (eqb port 0xa1) slave-data
+    no-port)))
+
+abbrev pub isThere : Port → Bool
+isThere master-command = true
+isThere master-data = true
+isThere slave-command = true
+isThere slave-data = true
+isThere no-port = false
+
+abbrev pub readFrom : PicState → Port → PicValue
+readFrom p master-command = Value (commandRead (p .master))
+readFrom p master-data = Value (p .master .mask)
+readFrom p slave-command = Value (commandRead (p .slave))
+readFrom p slave-data = Value (p .slave .mask)
+readFrom p no-port = NotRead Unsupported
+
+abbrev pub writtenTo : PicState → Port → ℕ → PicState
+writtenTo p master-command byte = chips p (commanded (p .master) byte) (p .slave)
+writtenTo p master-data byte = chips p (fed (p .master) byte) (p .slave)
+writtenTo p slave-command byte = chips p (p .master) (commanded (p .slave) byte)
+writtenTo p slave-data byte = chips p (p .master) (fed (p .slave) byte)
+writtenTo p no-port byte = p
 
 abbrev pub isPort : ℕ → Bool
-isPort port = eqb port 0x20 || eqb port 0x21 || eqb port 0xa0 || eqb port 0xa1
+isPort port = isThere (portAt port)
+
+unfoldable pub portRead : PicState → ℕ → PicValue
+portRead p port = readFrom p (portAt port)
 
 unfoldable pub writtenAt : PicState → ℕ → ℕ → PicState
-writtenAt p port byte =
-    cond (eqb port 0x20) (chips p (commanded (p .master) byte) (p .slave))
-    (cond (eqb port 0x21) (chips p (fed (p .master) byte) (p .slave))
-    (cond (eqb port 0xa0) (chips p (p .master) (commanded (p .slave) byte))
-    (cond (eqb port 0xa1) (chips p (p .master) (fed (p .slave) byte))
-    p)))
+writtenAt p port byte = writtenTo p (portAt port) byte
 
 -- q is p after the write, and the answer whether the pair has that port
 pub record Written (p q : PicState) (port byte : ℕ) (answer : Bool) : Type 0 where
@@ -224,14 +271,6 @@ valueOutcome p v = record { state = p; reply = valueReply v }
 
 abbrev pub refused : PicState → Refusal → Outcome PicState
 refused p why = record { state = p; reply = reply.Refused why }
-
--- there are two rules
-abbrev pub isRule : ℕ → Bool
-isRule rule = eqb rule 0 || eqb rule 1
-
--- `new_rule`, in the place of p: for another number nothing is created. By value p is then a pair of rule 0
-abbrev pub newRule : PicState → ℕ → Outcome PicState
-newRule p rule = cond (isRule rule) (record { state = newState rule; reply = reply.Nothing }) (refused p Unsupported)
 
 abbrev pub portRanges : PortRanges
 portRanges = record { master = record { start = 0x20; end = 0x21 }; slave = record { start = 0xa0; end = 0xa1 } }

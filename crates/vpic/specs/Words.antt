@@ -5,7 +5,7 @@ use lib.ListN.{getD}
 use Rattle.vpic_chip.specs.Registers.{Chip, chipIn}
 
 pub record PicState : Type 0 where
-  pub rule : ℕ  -- 1; any other number is rule 0
+  pub rule : ℕ  -- which rule it is says `Pair.ruleIn`
   pub master : Chip
   pub slave : Chip
   pub spare : ℕ  -- the word that stands for nothing: nothing reads it, and a new pair alone doesn't keep it

@@ -10,8 +10,9 @@ ghost use Rattle.types.specs.Counters.{placeOf};
 ghost use Rattle.types.specs.declared.PicPlace.the-variants as place;
 ghost use Rattle.vpic_chip.specs.Registers.{chipIn};
 ghost use Rattle.vpic.specs.Words.{view};
-ghost use Rattle.vpic.specs.Claim.{claimIn, masterTaken, slaveTaken, takenAt};
-ghost use Rattle.vpic.specs.Pair.{chips, isCascade, settled, Latched, stateClaim, claimOf, slaveClaim, pendingPlace, claimPending, claimIrq, restoredAt, portRead, Written, claimFlags, claimReply, claimVector, doneReply, valueReply, withClaim, withVector, claimOutcome, vectorOutcome, doneOutcome, valueOutcome, newState, newRule, portRanges, restoreInterrupt, handleRead, handleWrite};
+ghost use Rattle.vpic.specs.Claim.{claimIn, masterTaken, slaveTaken, takenAt, isQuiet};
+ghost use Rattle.vpic.specs.declared.PicRule.the-variants as rules;
+ghost use Rattle.vpic.specs.Pair.{ruleIn, ruleNumber, isRule, chips, isCascade, settled, Latched, stateClaim, claimOf, slaveClaim, pendingPlace, claimPending, claimIrq, restoredAt, portRead, Written, claimFlags, claimReply, claimVector, doneReply, valueReply, withClaim, withVector, claimOutcome, vectorOutcome, doneOutcome, valueOutcome, newState, portRanges, restoreInterrupt, handleRead, handleWrite};
 use types::PicLine;
 use types::PicPlace;
 use types::Refusal;
@@ -32,11 +33,13 @@ pub const SLAVE_COMMAND: u16 = 0xa0;
 
 pub const SLAVE_DATA: u16 = 0xa1;
 
-// The slave's output drives no line of the master: the Rust's rule. So does any number but 1.
-pub const RULE_LATCH: u8 = 0;
-
-// It drives the master's line 2: the 8259A's.
-pub const RULE_CASCADE: u8 = 1;
+// What the slave's output does to the master's line 2.
+pub enum PicRule {
+    // Nothing: the Rust's rule, number 0. A slave's edge sets the line's request, and an acknowledgement clears it.
+    Latch,
+    // It drives it: the 8259A's, number 1.
+    Cascade,
+}
 
 // A pending legacy PIC interrupt removed from the requests for delivery. It can be restored where its vector couldn't be published.
 pub struct PicInterruptClaim {
@@ -73,6 +76,37 @@ pub struct PortRange {
 pub struct PortRanges {
     pub master: PortRange,
     pub slave: PortRange,
+}
+
+impl PicRule {
+    // Whether a rule has this number.
+    pub fn is_number(number: u64) -> bool
+        ensures { λ r. ⌜ r ≡ isRule number ⌝ }
+    {
+        if number == 0 {
+            return true;
+        }
+        number == 1
+    }
+
+    // The rule of a number: any but 1 is the Rust's.
+    pub fn from_number(number: u64) -> Self
+        ensures { λ r. ⌜ r ≡ ruleIn number ⌝ }
+    {
+        if number == 1 {
+            return PicRule::Cascade;
+        }
+        PicRule::Latch
+    }
+
+    pub fn number(self) -> u64
+        ensures { λ r. ⌜ r ≡ ruleNumber self ⌝ }
+    {
+        match self {
+            PicRule::Latch => 0,
+            PicRule::Cascade => 1,
+        }
+    }
 }
 
 // ---- Answers in the numbers of document 01.
@@ -197,7 +231,10 @@ impl Claim {
 fn is_cascade(words: &[u64; 4]) -> bool
     ensures { λ r. ⌜ r ≡ isCascade (view (now (words .entry))) ⌝ }
 {
-    words[2] == RULE_CASCADE as u64
+    match rule(words) {
+        PicRule::Latch => false,
+        PicRule::Cascade => true,
+    }
 }
 
 // The pair's registers: the two chips, and which rule it follows.
@@ -213,10 +250,10 @@ pub fn slave(words: &[u64; 4]) -> PicChip
     PicChip(words[1])
 }
 
-pub fn rule(words: &[u64; 4]) -> u64
-    ensures { λ r. ⌜ r ≡ view (now (words .entry)) .rule ⌝ }
+pub fn rule(words: &[u64; 4]) -> PicRule
+    ensures { λ r. ⌜ r ≡ ruleIn (view (now (words .entry)) .rule) ⌝ }
 {
-    words[2]
+    PicRule::from_number(words[2])
 }
 
 fn set_master(words: &mut [u64; 4], chip: PicChip)
@@ -235,26 +272,22 @@ fn set_slave(words: &mut [u64; 4], chip: PicChip)
 
 // ---- A new pair.
 
-pub fn new_rule(words: &mut [u64; 4], rule: u64) -> PicDone
-    ensures { λ r. ⌜ doneOutcome (view (now (words .exit))) r ≡ newRule (view (now (words .entry))) rule ⌝ }
+pub fn new_rule(words: &mut [u64; 4], rule: PicRule)
+    ensures { λ _. ⌜ view (now (words .exit)) ≡ newState rule ⌝ }
 {
-    if rule > RULE_CASCADE as u64 {
-        return PicDone::Refused(Refusal::Unsupported);
-    }
     seen(&*words);
     let first = PicChip::new(0x08);
     let second = PicChip::new(0x70);
     words[0] = first.0;
     words[1] = second.0;
-    words[2] = rule;
+    words[2] = rule.number();
     words[3] = 0;
-    PicDone::Done
 }
 
 pub fn new(words: &mut [u64; 4])
-    ensures { λ _. ⌜ view (now (words .exit)) ≡ newState 0 ⌝ }
+    ensures { λ _. ⌜ view (now (words .exit)) ≡ newState rules.Latch ⌝ }
 {
-    let done = new_rule(&mut *words, RULE_LATCH as u64);
+    new_rule(&mut *words, PicRule::Latch);
 }
 
 // The two command and data port ranges.
@@ -275,7 +308,7 @@ pub fn port_ranges() -> PortRanges
 
 // ---- Lines and claims.
 
-// After a latch, an acknowledgement, a served write and a restore: by the cascade rule the master's request 2 follows the slave's output.
+// Every call that isn't refused ends so, but a read and a claim of a line that isn't there: by the cascade rule the master's request 2 follows the slave's output.
 fn settle(words: &mut [u64; 4])
     ensures { λ _. ⌜ view (now (words .exit)) ≡ settled (view (now (words .entry))) ⌝ }
 {
@@ -390,14 +423,17 @@ fn take(words: &mut [u64; 4]) -> Claim
     }
 }
 
+// Whether no line of either chip is requested: then nothing can be claimed, and by either rule nothing is left to settle.
+fn is_quiet(words: &[u64; 4]) -> bool
+    ensures { λ r. ⌜ r ≡ isQuiet (view (now (words .entry))) ⌝ }
+{
+    master(words).request() as u64 + slave(words).request() as u64 == 0
+}
+
 // What can be delivered is claimed.
 fn claim_pending(words: &mut [u64; 4]) -> Claim
     ensures { λ r. ⌜ stateClaim (view (now (words .exit))) (claimIn (r .0)) ≡ claimPending (view (now (words .entry))) ⌝ }
 {
-    // As mostly, and found at once.
-    if !master(&*words).asks() {
-        return Claim(0);
-    }
     let taken = take(&mut *words);
     settle(&mut *words);
     taken
@@ -425,6 +461,14 @@ pub fn claim_irq(words: &mut [u64; 4], irq: PicLine) -> PicClaim
 pub fn claim_pending_interrupt(words: &mut [u64; 4]) -> PicClaim
     ensures { λ r. ⌜ claimOutcome (view (now (words .exit))) r ≡ withClaim (claimPending (view (now (words .entry)))) ⌝ }
 {
+    // As mostly, and found at once.
+    if is_quiet(&*words) {
+        return PicClaim::Nothing;
+    }
+    if !master(&*words).asks() {
+        settle(&mut *words);
+        return PicClaim::Nothing;
+    }
     claim_pending(&mut *words).claim()
 }
 
@@ -438,6 +482,13 @@ pub fn pulse_irq(words: &mut [u64; 4], irq: PicLine) -> PicVector
 pub fn next_interrupt(words: &mut [u64; 4]) -> PicVector
     ensures { λ r. ⌜ vectorOutcome (view (now (words .exit))) r ≡ withVector (claimPending (view (now (words .entry)))) ⌝ }
 {
+    if is_quiet(&*words) {
+        return PicVector::Nothing;
+    }
+    if !master(&*words).asks() {
+        settle(&mut *words);
+        return PicVector::Nothing;
+    }
     claim_pending(&mut *words).claim().vector()
 }
 
@@ -584,20 +635,17 @@ pub struct PicRead {
 
 impl EmulatedPic {
     pub fn new() -> Self
-        ensures { λ r. ⌜ view (r .words) ≡ newState 0 ⌝ }
+        ensures { λ r. ⌜ view (r .words) ≡ newState rules.Latch ⌝ }
     {
-        let mut words = [0; 4];
-        new(&mut words);
-        EmulatedPic { words }
+        EmulatedPic::new_rule(PicRule::Latch)
     }
 
-    // A new pair of either rule. For another number nothing is created, and a pair of rule 0 stands beside the refusal.
-    pub fn new_rule(rule: u8) -> PicWritten
-        ensures { λ r. ⌜ doneOutcome (view (r .pic .words)) (r .done) ≡ newRule (newState 0) rule ⌝ }
+    pub fn new_rule(rule: PicRule) -> Self
+        ensures { λ r. ⌜ view (r .words) ≡ newState rule ⌝ }
     {
-        let mut pic = EmulatedPic::new();
-        let done = new_rule(&mut pic.words, rule as u64);
-        PicWritten { pic, done }
+        let mut words = [0; 4];
+        new_rule(&mut words, rule);
+        EmulatedPic { words }
     }
 
     pub fn port_ranges() -> PortRanges

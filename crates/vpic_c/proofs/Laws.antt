@@ -1,27 +1,29 @@
 -- A call's answer, its reply and the reply's code; numbers that no line and no claim has. Assumes nothing.
-use mathlib.Core.Path.{_≡_, refl, ap, _∙_}
-use mathlib.Core.Bool.{Bool, true, false, cond}
+use mathlib.Core.Path.{_≡_, refl, sym, ap, _∙_}
+use mathlib.Core.Bool.{Bool, true, false, not, cond}
 use mathlib.Core.List.{List}
 use Prim.Native.Nat.{ℕ, _/_, _%_, _^_}
 use lib.Dec.{ltb}
 use lib.ListN.{set}
+use borrow.Author.Tests.{not-true, not-false}
 use Rattle.types.specs.declared.PicLine.{PicLine}
-use Rattle.types.specs.declared.Refusal.the-variants.{OutOfRange}
+use Rattle.types.specs.declared.Refusal.the-variants.{Unsupported, OutOfRange}
 use Rattle.types.specs.declared.Reply.{Reply}
-use Rattle.types.specs.declared.Reply.the-variants.{Nothing}
+use Rattle.types.specs.declared.Reply.the-variants.{Nothing, Refused}
 use Rattle.types.specs.Reply.{Outcome}
 use Rattle.reply_code.specs.Lent.{replyCode, lent}
 use Rattle.vpic_chip.specs.declared.PicVector.{PicVector}
 use Rattle.vpic_chip.specs.Chip.{vectorReply}
+use Rattle.vpic.specs.declared.PicRule.{PicRule}
 use Rattle.vpic.specs.declared.PicClaim.{PicClaim}
 use Rattle.vpic.specs.declared.PicDone.{PicDone}
 use Rattle.vpic.specs.declared.PicInterruptClaim.{PicInterruptClaim}
 use Rattle.vpic.specs.declared.PicValue.{PicValue}
 use Rattle.vpic.specs.declared.PortRanges.{PortRanges}
 use Rattle.vpic.specs.Words.{PicState}
-use Rattle.vpic.specs.Pair.{claimReply, doneReply, valueReply, claimOutcome, vectorOutcome, doneOutcome, valueOutcome, claimIrq, withClaim, withVector, refused, restoreInterrupt, portRanges}
+use Rattle.vpic.specs.Pair.{ruleIn, isRule, newState, claimReply, doneReply, valueReply, claimOutcome, vectorOutcome, doneOutcome, valueOutcome, claimIrq, withClaim, withVector, refused, restoreInterrupt, portRanges}
 use Rattle.vpic_c.proofs.Claims.{parts-same}
-use Rattle.vpic_c.specs.Calls.{shown, coded, line, lineOf, rangeWords, claimWith, isClaim, claimOf, restoreCode}
+use Rattle.vpic_c.specs.Calls.{shown, coded, made, newRule, line, lineOf, rangeWords, claimWith, isClaim, claimOf, restoreCode}
 
 -- a line that is there is itself, and all others claim nothing
 same-claim : (p : PicState) (irq : ℕ) → claimIrq p (lineOf irq) ≡ claimIrq p (line irq)
@@ -64,6 +66,16 @@ module _ (q : PicState) (x : Reply) (n : ℕ) (en : n ≡ replyCode x) where
 
   pub restore-code : (p : PicState) (d : PicDone) (c : ℕ) (k : PicInterruptClaim) → k ≡ claimOf c → doneOutcome q d ≡ restoreInterrupt p k → x ≡ doneReply d → shown q n ≡ coded (restoreCode p c)
   restore-code p d c k ek e ex = done-code d _ (e ∙ ap (restoreInterrupt p) ek ∙ same-restore p c) ex
+
+-- a new pair
+pub made-code : (q : PicState) (n : ℕ) (rule : PicRule) → q ≡ newState rule → n ≡ replyCode Nothing → shown q n ≡ coded (made rule)
+made-code q n rule e en = ap (λ (p : PicState). shown p n) e ∙ ap (shown (newState rule)) en
+
+pub rule-made : (p q : PicState) (n k : ℕ) (b : Bool) (r : PicRule) → b ≡ isRule k → not b ≡ false → r ≡ ruleIn k → q ≡ newState r → n ≡ replyCode Nothing → shown q n ≡ coded (newRule p k)
+rule-made p q n k b r eb t er e en = rw (sym eb ∙ not-false b t) (made-code q n (ruleIn k) (e ∙ ap newState er) en)
+
+pub rule-refused : (p : PicState) (n k : ℕ) (b : Bool) → b ≡ isRule k → not b ≡ true → n ≡ replyCode (Refused Unsupported) → shown p n ≡ coded (newRule p k)
+rule-refused p n k b eb t en = rw (sym eb ∙ not-true b t) (ap (shown p) en)
 
 pub range-way : (l : List ℕ) (p : PortRanges) (n : ℕ) → p ≡ portRanges → n ≡ replyCode Nothing
     → lent (set (set (set (set l 0 (p .master .start)) 1 (p .master .end)) 2 (p .slave .start)) 3 (p .slave .end)) n ≡ rangeWords l

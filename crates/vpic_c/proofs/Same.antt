@@ -1,25 +1,25 @@
--- What is shown loses nothing: equal pairs and codes come from equal outcomes, and the pair's replies fit their codes. Assumes nothing.
-use mathlib.Core.Path.{_≡_, ap}
-use mathlib.Core.Bool.{Bool, true, false}
+-- What is shown loses nothing: equal pairs and codes come from equal outcomes, the pair's replies fit their codes, and a refused new pair leaves the words. Assumes nothing.
+use mathlib.Core.Path.{_≡_, refl, ap, _∙_}
+use mathlib.Core.Bool.{Bool, true, false, cond}
 use mathlib.Core.List.{List}
 use Prim.Native.Nat.{ℕ, _+_, _*_, _^_, _<_}
 use native.Mathlib.Omega.{arith}
-use lib.Dec.{eqb}
 use lib.ListN.{getD}
 use Rattle.utils.specs.Set.{bit}
 use Rattle.utils.proofs.Bools.{both}
 use Rattle.types.specs.declared.PicPlace.{PicPlace}
 use Rattle.types.specs.declared.PicPlace.the-variants.{Master, Slave, Nowhere}
-use Rattle.types.specs.Reply.{Outcome, flag}
+use Rattle.types.specs.declared.Refusal.the-variants.{Unsupported}
+use Rattle.types.specs.Reply.{Outcome, flag, replyNumber}
 use Rattle.reply_code.specs.Lent.{Fits}
 use Rattle.reply_code.proofs.Codes.{code-same}
 use Rattle.vpic_chip.specs.Registers.{chipIn}
 use Rattle.vpic_chip.specs.Chip.{acknowledged, commandRead, vectorReply}
-use Rattle.vpic.specs.declared.PicValue.{PicValue}
 use Rattle.vpic.specs.Words.{PicState, view}
-use Rattle.vpic.specs.Pair.{grew, pendingPlace, claimAt, claimPending, masterClaim, slaveClaim, claimReply, claimVector, valueReply, portRead}
+use Rattle.vpic.specs.Pair.{ruleIn, isRule, refused, grew, pendingPlace, claimAt, claimPending, masterClaim, slaveClaim, claimReply, claimVector, valueReply, Port, master-command, master-data, slave-command, slave-data, no-port, portAt, readFrom, portRead}
 use Rattle.vpic.proofs.Ready.{Ready, pending-ready}
-use Rattle.vpic_c.specs.Calls.{Coded, coded}
+use Rattle.vpic.proofs.Codes.{words-same}
+use Rattle.vpic_c.specs.Calls.{Coded, coded, made, RefusedNewKeepsWords}
 
 pub coded-same : (a b : Outcome PicState) → Fits (a .reply) → Fits (b .reply) → coded a ≡ coded b → a ≡ b
 coded-same a b f g e =
@@ -60,13 +60,20 @@ mask-lt : (w : ℕ) → chipIn w .mask < 2 ^ 32
 unfolding chipIn
 mask-lt w = omega arith
 
-abbrev FitsValue : PicValue → Type 0
-FitsValue v = Fits (valueReply v)
-
 pub fits-value : (l : List ℕ) (port : ℕ) → Fits (valueReply (portRead (view l) port))
 unfolding portRead view
-fits-value l port =
-    both FitsValue (eqb port 0x20) _ _ (command-lt (getD l 0 0))
-    (both FitsValue (eqb port 0x21) _ _ (mask-lt (getD l 0 0))
-    (both FitsValue (eqb port 0xa0) _ _ (command-lt (getD l 1 0))
-    (both FitsValue (eqb port 0xa1) _ _ (mask-lt (getD l 1 0)) tt)))
+fits-value l port = go (portAt port)
+  where
+    go : (a : Port) → Fits (valueReply (readFrom (view l) a))
+    go master-command = command-lt (getD l 0 0)
+    go master-data = mask-lt (getD l 0 0)
+    go slave-command = command-lt (getD l 1 0)
+    go slave-data = mask-lt (getD l 1 0)
+    go no-port = tt
+
+pub refused-new-keeps-words : RefusedNewKeepsWords
+refused-new-keeps-words l m n h k e r = words-same m l k h (e ∙ go (isRule n) r)
+  where
+    go : (b : Bool) → (replyNumber (cond b (made (ruleIn n)) (refused (view l) Unsupported) .reply) ≡ 0 → ⊥) → cond b (made (ruleIn n)) (refused (view l) Unsupported) .state ≡ view l
+    go true d = absurd (d refl)
+    go false d = refl

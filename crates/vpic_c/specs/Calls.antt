@@ -3,17 +3,19 @@
 use Prim.Native.Nat.{ℕ, _/_, _%_, _^_}
 use mathlib.Core.Bool.{Bool, cond, _&&_}
 use mathlib.Core.List.{List}
+use mathlib.Core.Path.{_≡_}
 use lib.Dec.{ltb, eqb}
-use lib.ListN.{set}
+use lib.ListN.{set, length}
 use Rattle.utils.specs.Set.{bit}
 use Rattle.types.specs.declared.PicLine.{PicLine}
-use Rattle.types.specs.declared.Refusal.the-variants.{OutOfRange}
+use Rattle.types.specs.declared.Refusal.the-variants.{Unsupported, OutOfRange}
 use Rattle.types.specs.declared.Reply.the-variants.{Nothing}
-use Rattle.types.specs.Reply.{Outcome}
+use Rattle.types.specs.Reply.{Outcome, replyNumber}
 use Rattle.reply_code.specs.Lent.{Lent, replyCode, lent}
+use Rattle.vpic.specs.declared.PicRule.{PicRule}
 use Rattle.vpic.specs.declared.PicInterruptClaim.{PicInterruptClaim}
-use Rattle.vpic.specs.Words.{PicState}
-use Rattle.vpic.specs.Pair.{portRanges, refused, restoreInterrupt}
+use Rattle.vpic.specs.Words.{PicState, view}
+use Rattle.vpic.specs.Pair.{ruleIn, isRule, newState, portRanges, refused, restoreInterrupt}
 
 -- the pair that the words stand for after a call, and the call's code
 pub record Coded : Type 0 where
@@ -25,6 +27,19 @@ shown p c = record { state = p; code = c }
 
 abbrev pub coded : Outcome PicState → Coded
 coded o = record { state = o .state; code = replyCode (o .reply) }
+
+-- a new pair of a rule
+abbrev pub made : PicRule → Outcome PicState
+made rule = record { state = newState rule; reply = Nothing }
+
+-- by the rule's number, in the place of p: for a number that no rule has nothing is created. This refusal is the boundary's own
+abbrev pub newRule : PicState → ℕ → Outcome PicState
+newRule p n = cond (isRule n) (made (ruleIn n)) (refused p Unsupported)
+
+-- and every word is left as it was: l before the call, m after it
+abbrev pub RefusedNewKeepsWords : Type 0
+RefusedNewKeepsWords =
+    (l m : List ℕ) (n : ℕ) → length l ≡ 4 → length m ≡ 4 → view m ≡ newRule (view l) n .state → (replyNumber (newRule (view l) n .reply) ≡ 0 → ⊥) → m ≡ l
 
 -- the first and the last port of each chip
 abbrev pub rangeWords : List ℕ → Lent

@@ -4,15 +4,17 @@
 
 ghost use mathlib.Core.Path.{_≡_};
 ghost use Rattle.vpic.specs.Words.{view};
-ghost use Rattle.vpic.specs.Pair.{newRule, claimIrq, claimPending, withClaim, withVector, handleRead, handleWrite};
+ghost use Rattle.vpic.specs.declared.PicRule.the-variants.{Latch};
+ghost use Rattle.vpic.specs.Pair.{claimIrq, claimPending, withClaim, withVector, handleRead, handleWrite};
 ghost use Rattle.reply_code.specs.Lent.{lent};
-ghost use Rattle.vpic_c.specs.Calls.{shown, coded, line, lineOf, rangeWords, isClaim, claimedLine, claimOf, restoreCode};
+ghost use Rattle.vpic_c.specs.Calls.{shown, coded, made, newRule, line, lineOf, rangeWords, isClaim, claimedLine, claimOf, restoreCode};
 use reply_code::code;
 use types::PicLine;
+use types::Refusal;
 use types::Reply;
 use types::Vector;
 use vpic::PicInterruptClaim;
-use vpic::RULE_LATCH;
+use vpic::PicRule;
 
 // A line: any number from 16 up is one that the pair hasn't.
 fn line(irq: u64) -> PicLine
@@ -56,18 +58,24 @@ fn claim_of(claim: u64) -> PicInterruptClaim
     }
 }
 
+// A rule comes in as a number, and one that no rule has is refused here: the core's rule is an enum.
 #[no_mangle]
 pub extern "C" fn sillwander_pic_new_rule(words: &mut [u64; 4], rule: u64) -> u64
     ensures { λ r. ⌜ shown (view (now (words .exit))) r ≡ coded (newRule (view (now (words .entry))) rule) ⌝ }
 {
-    code(vpic::new_rule(&mut *words, rule).reply())
+    if !PicRule::is_number(rule) {
+        return code(Reply::Refused(Refusal::Unsupported));
+    }
+    vpic::new_rule(&mut *words, PicRule::from_number(rule));
+    code(Reply::Nothing)
 }
 
 #[no_mangle]
 pub extern "C" fn sillwander_pic_new(words: &mut [u64; 4]) -> u64
-    ensures { λ r. ⌜ shown (view (now (words .exit))) r ≡ coded (newRule (view (now (words .entry))) 0) ⌝ }
+    ensures { λ r. ⌜ shown (view (now (words .exit))) r ≡ coded (made Latch) ⌝ }
 {
-    code(vpic::new_rule(&mut *words, RULE_LATCH as u64).reply())
+    vpic::new(&mut *words);
+    code(Reply::Nothing)
 }
 
 #[no_mangle]

@@ -88,7 +88,7 @@ commandRead c = cond (c .«read_isr») (c .«in_service») (c .request)
 unfoldable pub pulsed : Chip → PicLine → Chip
 pulsed c l = cond (ltb (l .0) 8) (withRequest c (with (c .request) (l .0))) c
 
--- fully nested mode, line 0 highest: a request counts if it is unmasked and above every line in service
+-- fully nested mode, line 0 highest: a request counts if it is unmasked and above every line in service. D-19: before the last ICW too, with the base of before
 unfoldable pub counts : Chip → ℕ → Bool
 counts c k = bit (c .request) k && not (bit (c .mask) k) && ltb k (lowest 8 (c .«in_service»))
 

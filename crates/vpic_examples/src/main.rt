@@ -2,8 +2,7 @@
 use types::PicLine;
 use vpic::EmulatedPic;
 use vpic::PicClaim;
-use vpic::RULE_CASCADE;
-use vpic::RULE_LATCH;
+use vpic::PicRule;
 
 const MASTER_COMMAND: u16 = 0x20;
 
@@ -14,12 +13,12 @@ const SLAVE_COMMAND: u16 = 0xa0;
 const SLAVE_DATA: u16 = 0xa1;
 
 fn main() {
-    example_7(RULE_LATCH);
-    example_8(RULE_LATCH);
+    example_7(PicRule::Latch);
+    example_8(PicRule::Latch);
     example_9();
     reply_text::print_text(b"by rule 1\n");
-    example_7(RULE_CASCADE);
-    example_8(RULE_CASCADE);
+    example_7(PicRule::Cascade);
+    example_8(PicRule::Cascade);
 }
 
 // A byte written to a port.
@@ -29,9 +28,8 @@ fn write(pic: EmulatedPic, port: u16, value: u64) -> EmulatedPic {
     after
 }
 
-fn masks_0(rule: u8) -> EmulatedPic {
-    let made = EmulatedPic::new_rule(rule);
-    let pic = made.pic;
+fn masks_0(rule: PicRule) -> EmulatedPic {
+    let pic = EmulatedPic::new_rule(rule);
     write(write(pic, MASTER_DATA, 0), SLAVE_DATA, 0)
 }
 
@@ -68,7 +66,7 @@ fn read(name: &[u8], pic: EmulatedPic, port: u16) {
     reply_text::print_reply(value.reply());
 }
 
-fn example_7(rule: u8) {
+fn example_7(rule: PicRule) {
     let mut pic = masks_0(rule);
     pic = claim(b"7 claim 12: ", pic, 12);
     pic = claim(b"7 claim 13: ", pic, 13);
@@ -78,7 +76,7 @@ fn example_7(rule: u8) {
     read(b"7 slave requests: ", pic, SLAVE_COMMAND);
 }
 
-fn example_8(rule: u8) {
+fn example_8(rule: PicRule) {
     let claimed = masks_0(rule).claim_irq(PicLine(2));
     let after = claimed.pic;
     let answer = claimed.claim;

@@ -11,9 +11,9 @@ use Rattle.vpic.specs.Words.{PicState, view}
 use Rattle.vpic.specs.declared.PicClaim.{PicClaim}
 use Rattle.vpic.specs.declared.PicClaim.the-variants.{Claimed, Nothing as NoClaim}
 use Rattle.vpic_chip.specs.Chip.{vectorReply}
-use Rattle.vpic.specs.Pair.{isPort, isRule, claimReply, claimVector, claimIrq, claimPending, withClaim, withVector, refused}
+use Rattle.vpic.specs.Pair.{isPort, claimReply, claimVector, claimIrq, claimPending, withClaim, withVector, refused}
 use Rattle.vpic.proofs.Codes.{words-same}
-use Rattle.vpic_theorems.specs.Statements.{Call, claim-irq, claim-pending-interrupt, pulse-irq, next-interrupt, restore-interrupt, handle-read, handle-write, outcome, RefusedUnchanged, RefusedKeepsWords, RefusedNewKeepsWords}
+use Rattle.vpic_theorems.specs.Statements.{Call, claim-irq, claim-pending-interrupt, pulse-irq, next-interrupt, restore-interrupt, handle-read, handle-write, outcome, RefusedUnchanged, RefusedKeepsWords}
 
 -- a claim is never refused, and neither is its vector
 claim-done : (c : PicClaim) → replyNumber (claimReply c) ≡ 0
@@ -42,6 +42,3 @@ refused-unchanged p (handle-write port width value) n = or-refused p Unsupported
 
 pub refused-keeps-words : RefusedKeepsWords
 refused-keeps-words l m c h k e n = words-same m l k h (e ∙ refused-unchanged (view l) c n)
-
-pub refused-new-keeps-words : RefusedNewKeepsWords
-refused-new-keeps-words l m rule h k e n = words-same m l k h (e ∙ or-refused (view l) Unsupported (isRule rule) _ (λ d. absurd (d refl)) n)

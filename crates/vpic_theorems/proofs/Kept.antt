@@ -13,7 +13,7 @@ use Rattle.types.specs.Reply.{Outcome}
 use Rattle.vpic_chip.specs.Registers.{Chip, chipIn}
 use Rattle.vpic_chip.specs.Chip.{commanded, fed, pulsed, driven, acknowledged, unacknowledged}
 use Rattle.vpic.specs.Words.{PicState, view}
-use Rattle.vpic.specs.Pair.{StateClaim, isCascade, cascadeIrq, settled, latchedAt, latched, masterClaim, slaveClaim, pendingPlace, claimAt, claimPending, claimIrq, restoredAt, restored, isPort, writtenAt, portWritten}
+use Rattle.vpic.specs.Pair.{StateClaim, isCascade, cascadeIrq, settled, latchedAt, latched, masterClaim, slaveClaim, pendingPlace, claimAt, claimPending, claimIrq, restoredAt, restored, Port, master-command, master-data, slave-command, slave-data, no-port, portAt, isPort, writtenTo, writtenAt, portWritten}
 use Rattle.vpic_theorems.specs.Statements.{Call, claim-irq, claim-pending-interrupt, pulse-irq, next-interrupt, restore-interrupt, handle-read, handle-write, outcome, CallsKeepRest}
 
 -- ---- one chip
@@ -65,7 +65,7 @@ claim-stays p = go (pendingPlace p)
     go : (a : PicPlace) → Stays p (claimAt p a .state)
     go (Master k) = settled-stays p _ (record { rule = refl; spare = refl; master = refl; slave = refl })
     go (Slave k) = settled-stays p _ (record { rule = refl; spare = refl; master = refl; slave = refl })
-    go Nowhere = same p
+    go Nowhere = settled-stays p p (same p)
 
 latched-stays : (p : PicState) (a : PicPlace) → Stays p (latchedAt p a)
 latched-stays p (Master k) = record { rule = refl; spare = refl; master = pulsed-same (p .master) k; slave = refl }
@@ -86,12 +86,14 @@ restored-stays p Nowhere m s = same p
 
 written-stays : (p : PicState) (port byte : ℕ) → Stays p (writtenAt p port byte)
 unfolding writtenAt
-written-stays p port byte =
-    both (Stays p) (eqb port 0x20) _ _ (record { rule = refl; spare = refl; master = commanded-same (p .master) byte; slave = refl })
-    (both (Stays p) (eqb port 0x21) _ _ (record { rule = refl; spare = refl; master = fed-same (p .master) byte; slave = refl })
-    (both (Stays p) (eqb port 0xa0) _ _ (record { rule = refl; spare = refl; master = refl; slave = commanded-same (p .slave) byte })
-    (both (Stays p) (eqb port 0xa1) _ _ (record { rule = refl; spare = refl; master = refl; slave = fed-same (p .slave) byte })
-    (same p))))
+written-stays p port byte = go (portAt port)
+  where
+    go : (a : Port) → Stays p (writtenTo p a byte)
+    go master-command = record { rule = refl; spare = refl; master = commanded-same (p .master) byte; slave = refl }
+    go master-data = record { rule = refl; spare = refl; master = fed-same (p .master) byte; slave = refl }
+    go slave-command = record { rule = refl; spare = refl; master = refl; slave = commanded-same (p .slave) byte }
+    go slave-data = record { rule = refl; spare = refl; master = refl; slave = fed-same (p .slave) byte }
+    go no-port = same p
 
 abbrev Leaves : PicState → Outcome PicState → Type 0
 Leaves p o = Stays p (o .state)

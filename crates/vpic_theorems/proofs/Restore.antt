@@ -1,16 +1,17 @@
--- A claim that is restored at once gives back the pair as it was, and serves the highest request of each chip. Assumes nothing.
-use mathlib.Core.Path.{_≡_, refl, ap, ap₂, subst, _∙_}
-use mathlib.Core.Bool.{Bool, true, false, cond}
-use Prim.Native.Nat.{ℕ, _+_, _-_, _^_, _<_}
+-- A claim that is restored at once gives back the pair as it was, and serves the highest request of each chip; what its flags say. Assumes nothing.
+use mathlib.Core.Path.{_≡_, refl, sym, ap, ap₂, subst, _∙_}
+use mathlib.Core.Bool.{Bool, true, false, not, cond}
+use Prim.Native.Nat.{ℕ, _+_, _-_, _<_}
 use native.Mathlib.Omega.{arith}
 use lib.Dec.{ltb, eqb}
-use lib.Pow.{pow-pos}
 use borrow.Author.Tests.{lt-ltb, le-ltb, eqb-true}
-use Rattle.utils.specs.Set.{bit, with, without, lowest}
+use Rattle.utils.specs.Set.{bit, with, without, outside, lowest}
+use Rattle.utils.proofs.Bools.{both}
 use Rattle.utils.proofs.Laws.{with-without, without-with}
 use Rattle.types.specs.declared.PicLine.{PicLine}
 use Rattle.types.specs.declared.Vector.{Vector}
-use Rattle.types.specs.declared.PicPlace.the-variants.{Master, Slave}
+use Rattle.types.specs.declared.PicPlace.{PicPlace}
+use Rattle.types.specs.declared.PicPlace.the-variants.{Master, Slave, Nowhere}
 use Rattle.types.specs.declared.Reply.the-variants as reply
 use Rattle.types.specs.Counters.{placeOf, lineVector}
 use Rattle.vpic_chip.specs.Registers.{Chip, withRequest, withInService}
@@ -19,30 +20,24 @@ use Rattle.vpic_chip.specs.declared.PendingIrq.the-variants.{Irq, Nothing}
 use Rattle.vpic.specs.Words.{PicState}
 use Rattle.vpic.specs.declared.PicInterruptClaim.{PicInterruptClaim}
 use Rattle.vpic.specs.declared.PicClaim.the-variants.{Claimed, Nothing as NoClaim}
-use Rattle.vpic_chip.specs.Chip.{opened, commanded, fed, pulsed, counts, pendingLine, pendingIrq, acknowledged, unacknowledged}
-use Rattle.vpic.specs.Pair.{StateClaim, Keeps, chips, grew, newState, settled, latchedAt, latched, cascadeIrq, masterClaim, slaveClaim, cascadePlace, placeFrom, claimAt, claimPending, claimIrq, portWritten, writtenAt, restored, restoreInterrupt}
+use Rattle.vpic_chip.specs.Chip.{opened, commanded, fed, pulsed, driven, counts, pendingLine, pendingIrq, acknowledged, unacknowledged}
+use Rattle.vpic.specs.Pair.{StateClaim, isCascade, Keeps, chips, grew, newState, settled, latchedAt, latched, cascadeIrq, masterClaim, slaveClaim, cascadePlace, placeFrom, claimAt, claimPending, claimIrq, portWritten, writtenAt, restoredAt, restored, restoreInterrupt}
 use Rattle.vpic_chip.proofs.Laws.{Pending, pended}
-use Rattle.vpic_theorems.specs.Rule.{LatchedKeeps}
+use Rattle.vpic_theorems.specs.Rule.{LatchedKeeps, WrittenKeeps, RestoredKeeps}
 use Rattle.vpic_theorems.proofs.Settled.{settled-between}
 use Rattle.vpic.proofs.Settled.{settled-kept, settled-keeps}
-use Rattle.vpic_theorems.specs.Statements.{RestoredAtOnce, RestoredAfterRaise, Served, ServedBy, HighestServed, SecondCallerUnheard}
+use Rattle.vpic.proofs.Laws.{none-new, grew-taken}
+use Rattle.vpic_theorems.specs.Statements.{RestoredAtOnce, RestoredAfterRaise, Served, ServedBy, HighestServed, SecondCallerUnheard, Flagged, FlagsSay, FlagsSayAfterRaise}
 
 -- ---- one chip: acknowledged, and taken back
 
--- an in-service set grew exactly if the line was put in
-grew-with : (n k : ℕ) → bit n k ≡ false → ltb n (with n k) ≡ true
-unfolding with
-grew-with n k h = rw h (lt-ltb n (n + 2 ^ k) (omega (arith, pow-pos k)))
-
 chip-back : (c : Chip) (k : PicLine) → Pending c (k .0) → unacknowledged (acknowledged c (k .0)) k (grew c (acknowledged c (k .0))) ≡ c
 unfolding unacknowledged acknowledged pulsed
-chip-back c k h = go (c .«auto_eoi»)
+chip-back c k h = ap (unacknowledged (acknowledged c (k .0)) k) (grew-taken c (k .0) (h .low) (h .idle)) ∙ go (c .«auto_eoi»)
   where
-    go : (b : Bool) → unacknowledged (withInService (withRequest c (without (c .request) (k .0))) (cond b (c .«in_service») (with (c .«in_service») (k .0)))) k
-        (ltb (c .«in_service») (cond b (c .«in_service») (with (c .«in_service») (k .0)))) ≡ c
-    go true = rw (le-ltb (c .«in_service») (c .«in_service») (omega arith), lt-ltb (k .0) 8 (h .low), with-without (c .request) (k .0) (h .asked))
-    go false =
-        rw (grew-with (c .«in_service») (k .0) (h .idle), lt-ltb (k .0) 8 (h .low), with-without (c .request) (k .0) (h .asked), without-with (c .«in_service») (k .0) (h .idle))
+    go : (b : Bool) → unacknowledged (withInService (withRequest c (without (c .request) (k .0))) (cond b (c .«in_service») (with (c .«in_service») (k .0)))) k (not b) ≡ c
+    go true = rw (lt-ltb (k .0) 8 (h .low), with-without (c .request) (k .0) (h .asked))
+    go false = rw (lt-ltb (k .0) 8 (h .low), with-without (c .request) (k .0) (h .asked), without-with (c .«in_service») (k .0) (h .idle))
 
 -- ---- the pair: a claim of the master's line, and of the slave's
 
@@ -128,6 +123,14 @@ pub latched-keeps : LatchedKeeps
 unfolding latched
 latched-keeps p l = settled-keeps (latchedAt p (placeOf l))
 
+pub written-keeps : WrittenKeeps
+unfolding portWritten
+written-keeps p port byte = settled-keeps (writtenAt p port byte)
+
+pub restored-keeps : RestoredKeeps
+unfolding restored
+restored-keeps p c = settled-keeps (restoredAt p (placeOf (c .irq)) (c .«master_in_service») (c .«slave_in_service»))
+
 pub restored-after-raise : RestoredAfterRaise
 unfolding claimIrq
 restored-after-raise p l c e = go (ltb (l .0) 16) e
@@ -140,7 +143,7 @@ restored-after-raise p l c e = go (ltb (l .0) 16) e
 -- ---- the highest request is served
 
 serves : (c : Chip) (k : ℕ) → Pending c k → Served c (acknowledged c k) k
-serves c k h = record { counted = h .counted; highest = h .highest; done = refl }
+serves c k h = record { highest = record { low = h .low; counted = h .counted; above = h .highest }; done = refl }
 
 master-serves : (p : PicState) (k : PicLine) → Pending (p .master) (k .0) → ServedBy p (masterClaim p k .state) (k .0)
 unfolding masterClaim
@@ -172,5 +175,59 @@ highest-served p =
     (λ k c m h e. rw (slave-line p k c e) (slave-serves p k m h))
 
 pub second-caller-unheard : SecondCallerUnheard
-unfolding opened commanded fed pulsed counts pendingLine pendingIrq acknowledged newState settled latched masterClaim slaveClaim claimPending claimIrq portWritten writtenAt with without lowest
+unfolding opened commanded fed pulsed counts pendingLine pendingIrq acknowledged newState settled latched masterClaim slaveClaim claimPending claimIrq portWritten writtenAt with without outside lowest
 second-caller-unheard = (refl, refl, refl)
+
+-- ---- what a claim's flags say
+
+master-flagged : (p : PicState) (k : PicLine) (c : PicInterruptClaim) → Pending (p .master) (k .0) → masterClaim p k .claim ≡ Claimed c → Flagged p c
+unfolding masterClaim the-claim
+master-flagged p k c h e =
+    let f : c ≡ the-claim p (chips p (acknowledged (p .master) (k .0)) (p .slave)) (lineVector (p .master .«vector_base») k) k = cc in
+    let l = h .low in
+    rw f (record {
+      master = grew-taken (p .master) (k .0) l (h .idle);
+      slave = λ m. absurd (omega arith);
+      alone = λ m. ap not (none-new (p .slave .«in_service»));
+    })
+
+slave-flagged : (p : PicState) (k : PicLine) (c : PicInterruptClaim) → Pending (p .master) 2 → Pending (p .slave) (k .0) → slaveClaim p k .claim ≡ Claimed c → Flagged p c
+unfolding slaveClaim the-claim
+slave-flagged p k c m h e =
+    let f : c ≡ the-claim p (chips p (acknowledged (p .master) 2) (acknowledged (p .slave) (k .0))) (lineVector (p .slave .«vector_base») k) (record { 0 = k .0 + 8 }) = cc in
+    rw f (record {
+      master = grew-taken (p .master) 2 (m .low) (m .idle);
+      slave = λ l. grew-taken (p .slave) (k .0) (h .low) (h .idle);
+      alone = λ l. absurd (omega arith);
+    })
+
+pub flags-say : FlagsSay
+flags-say p = by-claim (λ r c. Flagged p c) p (master-flagged p) (slave-flagged p)
+
+-- to latch a line changes no mode
+pulsed-mode : (c : Chip) (l : PicLine) → pulsed c l .«auto_eoi» ≡ c .«auto_eoi»
+unfolding pulsed
+pulsed-mode c l = both (λ (d : Chip). d .«auto_eoi» ≡ c .«auto_eoi») (ltb (l .0) 8) _ _ refl refl
+
+abbrev SameMode : PicState → PicState → Type 0
+SameMode p q = (q .master .«auto_eoi» ≡ p .master .«auto_eoi») × (q .slave .«auto_eoi» ≡ p .slave .«auto_eoi»)
+
+latched-mode : (p : PicState) (l : PicLine) → SameMode p (latched p l)
+unfolding latched settled driven
+latched-mode p l = both (SameMode p) (isCascade (latchedAt p (placeOf l))) _ _ (go (placeOf l)) (go (placeOf l))
+  where
+    go : (a : PicPlace) → SameMode p (latchedAt p a)
+    go (Master k) = (pulsed-mode (p .master) k, refl)
+    go (Slave k) = (pulsed-mode (p .master) cascadeIrq, pulsed-mode (p .slave) k)
+    go Nowhere = (refl, refl)
+
+pub flags-say-after-raise : FlagsSayAfterRaise
+unfolding claimIrq
+flags-say-after-raise p l c e = go (ltb (l .0) 16) e
+  where
+    go : (b : Bool) → cond b (claimPending (latched p l)) (record { state = p; claim = NoClaim }) .claim ≡ Claimed c → Flagged p c
+    go true f =
+        let r = flags-say (latched p l) c f in
+        let s = latched-mode p l in
+        record { master = r .master ∙ ap not (s .0); slave = λ m. r .slave m ∙ ap not (s .1); alone = r .alone }
+    go false f = let z : _≡_ {A = ℕ} 0 1 = cc in absurd (omega arith)

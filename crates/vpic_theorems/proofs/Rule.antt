@@ -6,7 +6,7 @@ use Prim.Native.Nat.{ℕ, _%_, _<_, _≤_}
 use native.Mathlib.Omega.{arith}
 use lib.Dec.{ltb, eqb}
 use borrow.Author.Tests.{lt-ltb, ltb-true, ltb-false}
-use Rattle.utils.specs.Set.{bit, with, without, first, lowest}
+use Rattle.utils.specs.Set.{bit, with, without, outside, first, lowest}
 use Rattle.utils.specs.Cases.{and-left-no}
 use Rattle.utils.proofs.Bools.{and-true}
 use Rattle.utils.proofs.Search.{first-is, first-holds, first-before}
@@ -14,19 +14,20 @@ use Rattle.utils.proofs.Laws.{lowest-le, lowest-in}
 use Rattle.types.specs.declared.PicLine.{PicLine}
 use Rattle.types.specs.declared.PicPlace.{PicPlace}
 use Rattle.types.specs.declared.PicPlace.the-variants.{Master, Slave, Nowhere}
+use Rattle.types.specs.declared.Reply.the-variants as reply
 use Rattle.types.specs.declared.Refusal.{Refusal}
 use Rattle.types.specs.declared.Refusal.the-variants.{Unsupported, OutOfRange}
 use Rattle.types.specs.Counters.{placeOf}
-use Rattle.types.specs.Reply.{Outcome}
+use Rattle.types.specs.Reply.{Outcome, replyNumber}
 use Rattle.vpic_chip.specs.Registers.{Chip}
+use Rattle.vpic.specs.declared.PicRule.the-variants.{Latch, Cascade}
 use Rattle.vpic.specs.Words.{PicState}
 use Rattle.vpic_chip.specs.Chip.{opened, commanded, fed, pulsed, asks, driven, counts, pendingLine, pendingIrq, acknowledged, unacknowledged}
 use Rattle.vpic.specs.Pair.{chips, Keeps, newState, cascadeIrq, settled, latchedAt, latched, masterClaim, slaveClaim, pendingPlace, claimAt, claimPending, claimIrq, nothingClaimed, restoredAt, restored, isPort, writtenAt, portWritten, portRead, valueReply, refused}
-use Rattle.vpic_theorems.specs.Statements.{Call, claim-irq, claim-pending-interrupt, pulse-irq, next-interrupt, restore-interrupt, handle-read, handle-write, outcome}
-use Rattle.vpic_theorems.specs.Rule.{AsksIfCounts, Highest, CountsIfAsks, run, NewKeeps, CallsKeep, CallsKeepNumber, RunsKeep, ReadsUnchanged, LineTwoLatchesNothing, Clear, SlaveHeard, SecondCallerHeard, LineTwoUnanswered, UnkeptNotRestored}
+use Rattle.vpic_theorems.specs.Statements.{Call, claim-irq, claim-pending-interrupt, pulse-irq, next-interrupt, restore-interrupt, handle-read, handle-write, outcome, Highest}
+use Rattle.vpic_theorems.specs.Rule.{AsksIfCounts, CountsIfAsks, run, NewHasRule, NewKeeps, CallsKeep, CallsKeepNumber, RunsKeep, CallsSettle, ReadsUnchanged, LineTwoLatchesNothing, Clear, SlaveHeard, SecondCallerHeard, LineTwoUnanswered, UnkeptNotRestored}
 use Rattle.vpic_theorems.proofs.Settled.{settled-cascade, driven-with}
 use Rattle.vpic.proofs.Settled.{settled-keeps, settled-kept}
-use Rattle.vpic_theorems.proofs.Restore.{latched-keeps}
 use Rattle.vpic_theorems.proofs.Kept.{calls-kept}
 
 -- ---- a chip's output
@@ -55,26 +56,31 @@ counts-if-asks c e =
 
 -- ---- the rule is kept
 
+pub new-has-rule : NewHasRule
+unfolding newState
+new-has-rule Latch = refl
+new-has-rule Cascade = refl
+
 pub new-keeps : NewKeeps
 unfolding newState opened asks pendingLine counts lowest
 new-keeps rule e = refl
 
--- a claim settles the pair, or leaves it
-claim-keeps : (p : PicState) → Keeps p → Keeps (claimPending p .state)
+-- a claim settles the pair
+claim-keeps : (p : PicState) → Keeps (claimPending p .state)
 unfolding claimPending masterClaim slaveClaim
-claim-keeps p keeps = go (pendingPlace p)
+claim-keeps p = go (pendingPlace p)
   where
     go : (a : PicPlace) → Keeps (claimAt p a .state)
     go (Master k) = settled-keeps (chips p (acknowledged (p .master) (k .0)) (p .slave))
     go (Slave k) = settled-keeps (chips p (acknowledged (p .master) 2) (acknowledged (p .slave) (k .0)))
-    go Nowhere = keeps
+    go Nowhere = settled-keeps p
 
 raise-keeps : (p : PicState) (l : PicLine) → Keeps p → Keeps (claimIrq p l .state)
 unfolding claimIrq
 raise-keeps p l keeps = go (ltb (l .0) 16)
   where
     go : (b : Bool) → Keeps (cond b (claimPending (latched p l)) (nothingClaimed p) .state)
-    go true = claim-keeps (latched p l) (latched-keeps p l)
+    go true = claim-keeps (latched p l)
     go false = keeps
 
 -- a test between an outcome whose pair keeps the rule, and a refusal
@@ -85,14 +91,36 @@ or-kept P p why false o h k = k
 pub calls-keep : CallsKeep
 unfolding outcome restored portWritten
 calls-keep p (claim-irq l) keeps = raise-keeps p l keeps
-calls-keep p claim-pending-interrupt keeps = claim-keeps p keeps
+calls-keep p claim-pending-interrupt keeps = claim-keeps p
 calls-keep p (pulse-irq l) keeps = raise-keeps p l keeps
-calls-keep p next-interrupt keeps = claim-keeps p keeps
+calls-keep p next-interrupt keeps = claim-keeps p
 calls-keep p (restore-interrupt c) keeps =
     or-kept Keeps p OutOfRange (ltb (c .irq .0) 16) _ (settled-keeps (restoredAt p (placeOf (c .irq)) (c .«master_in_service») (c .«slave_in_service»))) keeps
 calls-keep p (handle-read port width) keeps = or-kept Keeps p Unsupported (eqb width 1) _ keeps keeps
 calls-keep p (handle-write port width value) keeps =
     or-kept Keeps p Unsupported (eqb width 1) _ (or-kept Keeps p Unsupported (isPort port) _ (settled-keeps (writtenAt p port (value % 256))) keeps) keeps
+
+-- whatever the pair was, where the call isn't refused
+raise-settles : (p : PicState) (l : PicLine) → ltb (l .0) 16 ≡ true → Keeps (claimIrq p l .state)
+unfolding claimIrq
+raise-settles p l e = rw e (claim-keeps (latched p l))
+
+or-settled : (p : PicState) (why : Refusal) (b : Bool) (o : Outcome PicState) → (replyNumber (reply.Refused why) ≡ 0 → ⊥) → (replyNumber (o .reply) ≡ 0 → Keeps (o .state))
+    → replyNumber (cond b o (refused p why) .reply) ≡ 0 → Keeps (cond b o (refused p why) .state)
+or-settled p why true o r h n = h n
+or-settled p why false o r h n = absurd (r n)
+
+pub calls-settle : CallsSettle
+unfolding outcome restored portWritten
+calls-settle p (claim-irq l) s n = raise-settles p l s
+calls-settle p claim-pending-interrupt s n = claim-keeps p
+calls-settle p (pulse-irq l) s n = raise-settles p l s
+calls-settle p next-interrupt s n = claim-keeps p
+calls-settle p (restore-interrupt c) s n =
+    or-settled p OutOfRange (ltb (c .irq .0) 16) _ (λ z. omega arith) (λ d. settled-keeps (restoredAt p (placeOf (c .irq)) (c .«master_in_service») (c .«slave_in_service»))) n
+calls-settle p (handle-read port width) s n = absurd (true≢false (sym s))
+calls-settle p (handle-write port width value) s n =
+    or-settled p Unsupported (eqb width 1) _ (λ z. omega arith) (or-settled p Unsupported (isPort port) _ (λ z. omega arith) (λ d. settled-keeps (writtenAt p port (value % 256)))) n
 
 -- and the rule's number stays
 pub calls-keep-number : CallsKeepNumber
@@ -157,13 +185,13 @@ slave-heard p j cascade keeps e clear =
 -- ---- computed examples
 
 pub second-caller-heard : SecondCallerHeard
-unfolding opened commanded fed pulsed asks driven counts pendingLine pendingIrq acknowledged newState settled latched masterClaim slaveClaim claimPending claimIrq portWritten writtenAt with without lowest
+unfolding opened commanded fed pulsed asks driven counts pendingLine pendingIrq acknowledged newState settled latched masterClaim slaveClaim claimPending claimIrq portWritten writtenAt with without outside lowest
 second-caller-heard = refl
 
 pub line-two-unanswered : LineTwoUnanswered
-unfolding opened commanded fed pulsed asks driven counts pendingLine pendingIrq acknowledged newState settled latched masterClaim slaveClaim claimPending claimIrq portWritten writtenAt with without lowest
+unfolding opened commanded fed pulsed asks driven counts pendingLine pendingIrq acknowledged newState settled latched masterClaim slaveClaim claimPending claimIrq portWritten writtenAt with without outside lowest
 line-two-unanswered = refl
 
 pub unkept-not-restored : UnkeptNotRestored
-unfolding pulsed asks driven counts pendingLine pendingIrq acknowledged unacknowledged settled masterClaim slaveClaim claimPending restored with without lowest
+unfolding pulsed asks driven counts pendingLine pendingIrq acknowledged unacknowledged settled masterClaim slaveClaim claimPending restored with without outside lowest
 unkept-not-restored = (refl, refl, refl)

@@ -1,20 +1,24 @@
 -- Theorems about the cascade rule (8259A, cascade mode: a slave's INT output drives its line of the master): every call keeps it, and no slave request that counts
 -- goes unheard.
-use Prim.Native.Nat.{ℕ, _+_, _<_, _≤_}
+use Prim.Native.Nat.{ℕ, _<_, _≤_}
 use mathlib.Core.Path.{_≡_}
-use mathlib.Core.Bool.{true, false}
+use mathlib.Core.Bool.{Bool, true, false}
 use mathlib.Core.List.{List, [], _∷_}
+use lib.Dec.{ltb}
 use Rattle.utils.specs.Set.{bit}
 use Rattle.types.specs.declared.Reply.the-variants as reply
 use Rattle.types.specs.declared.PicLine.{PicLine}
+use Rattle.types.specs.Reply.{replyNumber}
 use Rattle.vpic_chip.specs.Registers.{Chip}
 use Rattle.vpic.specs.Words.{PicState}
+use Rattle.vpic.specs.declared.PicRule.{PicRule}
+use Rattle.vpic.specs.declared.PicRule.the-variants.{Cascade}
 use Rattle.vpic.specs.declared.PicInterruptClaim.{PicInterruptClaim}
 use Rattle.vpic.specs.declared.PicClaim.the-variants.{Claimed}
 use Rattle.vpic_chip.specs.Chip.{asks, counts, pendingLine}
-use Rattle.vpic.specs.Pair.{newState, isCascade, Keeps, slaveClaim, claimPending, claimIrq, latched, claimReply, restoreInterrupt, handleRead}
+use Rattle.vpic.specs.Pair.{ruleIn, newState, isCascade, Keeps, slaveClaim, claimPending, claimIrq, latched, restored, portWritten, claimReply, restoreInterrupt, handleRead}
 use Rattle.vpic.specs.Departures.{at, line, open', seventh}
-use Rattle.vpic_theorems.specs.Statements.{Call, outcome}
+use Rattle.vpic_theorems.specs.Statements.{Call, claim-irq, claim-pending-interrupt, pulse-irq, next-interrupt, restore-interrupt, handle-read, handle-write, outcome, Highest}
 
 -- ---- what the rule says
 
@@ -23,11 +27,6 @@ abbrev pub AsksIfCounts : Type 0
 AsksIfCounts = (c : Chip) (k : ℕ) → counts c k ≡ true → asks c ≡ true
 
 -- and where it is up, one does: the line that the search finds is the highest of them
-pub record Highest (c : Chip) (k : ℕ) : Type 0 where
-  pub low : k < 8
-  pub counted : counts c k ≡ true
-  pub above : (j : ℕ) → j < k → counts c j ≡ false
-
 abbrev pub CountsIfAsks : Type 0
 CountsIfAsks = (c : Chip) → asks c ≡ true → Highest c (pendingLine c)
 
@@ -38,9 +37,12 @@ abbrev pub run : PicState → List Call → PicState
 run p [] = p
 run p (c ∷ l) = run (outcome p c .state) l
 
--- a new pair of either rule keeps it
+-- a new pair has the rule that was asked for, and keeps it
+abbrev pub NewHasRule : Type 0
+NewHasRule = (rule : PicRule) → ruleIn (newState rule .rule) ≡ rule
+
 abbrev pub NewKeeps : Type 0
-NewKeeps = (rule : ℕ) → Keeps (newState rule)
+NewKeeps = (rule : PicRule) → Keeps (newState rule)
 
 -- so does every call, with any arguments, on a pair that keeps it; and the rule stays the one that was chosen
 abbrev pub CallsKeep : Type 0
@@ -51,11 +53,30 @@ CallsKeepNumber = (p : PicState) (c : Call) → outcome p c .state .rule ≡ p .
 
 -- so any calls on a new pair do
 abbrev pub RunsKeep : Type 0
-RunsKeep = (rule : ℕ) (l : List Call) → Keeps (run (newState rule) l)
+RunsKeep = (rule : PicRule) (l : List Call) → Keeps (run (newState rule) l)
 
--- a pair with a line latched, written to or restored keeps it, whatever it was before
+-- the calls that leave it kept whatever the pair was before, where they aren't refused: all but a read, and a claim of a line that the pair hasn't, which change nothing
+abbrev pub settles : Call → Bool
+settles (claim-irq l) = ltb (l .0) 16
+settles claim-pending-interrupt = true
+settles (pulse-irq l) = ltb (l .0) 16
+settles next-interrupt = true
+settles (restore-interrupt c) = true
+settles (handle-read port width) = false
+settles (handle-write port width value) = true
+
+abbrev pub CallsSettle : Type 0
+CallsSettle = (p : PicState) (c : Call) → settles c ≡ true → replyNumber (outcome p c .reply) ≡ 0 → Keeps (outcome p c .state)
+
+-- so a pair keeps it with a line latched before anything is claimed, with any byte written to any port, and with any claim restored
 abbrev pub LatchedKeeps : Type 0
 LatchedKeeps = (p : PicState) (l : PicLine) → Keeps (latched p l)
+
+abbrev pub WrittenKeeps : Type 0
+WrittenKeeps = (p : PicState) (port byte : ℕ) → Keeps (portWritten p port byte)
+
+abbrev pub RestoredKeeps : Type 0
+RestoredKeeps = (p : PicState) (c : PicInterruptClaim) → Keeps (restored p c)
 
 -- a read changes nothing
 abbrev pub ReadsUnchanged : Type 0
@@ -85,11 +106,11 @@ SlaveHeard = (p : PicState) (j : ℕ) → isCascade p ≡ true → Keeps p → c
 
 -- example 7 by rule 1: at its end line 14 is claimed
 abbrev pub SecondCallerHeard : Type 0
-SecondCallerHeard = claimReply (claimPending (seventh 1) .claim) ≡ reply.Three 0x76 14 3
+SecondCallerHeard = claimReply (claimPending (seventh Cascade) .claim) ≡ reply.Three 0x76 14 3
 
 -- example 8 by rule 1: line 2 raised by hand claims nothing
 abbrev pub LineTwoUnanswered : Type 0
-LineTwoUnanswered = claimReply (claimIrq (open' 1) (line 2) .claim) ≡ reply.Nothing
+LineTwoUnanswered = claimReply (claimIrq (open' Cascade) (line 2) .claim) ≡ reply.Nothing
 
 -- why a claim restored at once asks for a pair that keeps the rule: of the two chips of base 0 with nothing masked and nothing in service, the master's request 2 stands and
 -- no request of the slave's. The claim of line 2 is restored, and the request is gone: the rule holds then

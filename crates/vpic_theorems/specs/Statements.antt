@@ -1,7 +1,7 @@
--- Theorems about the pair that belong to no one call: a refusal changes nothing, a claim can be taken back, and the highest request is served.
+-- Theorems about the pair that belong to no one call: a refusal changes nothing, a claim can be taken back, and the highest request is served; what a claim's flags say.
 use Prim.Native.Nat.{ℕ, _-_, _/_, _^_, _<_, _≤_}
 use mathlib.Core.Path.{_≡_}
-use mathlib.Core.Bool.{true, false}
+use mathlib.Core.Bool.{true, false, not}
 use mathlib.Core.List.{List}
 use lib.ListN.{getD, length}
 use Rattle.types.specs.declared.PicLine.{PicLine}
@@ -9,10 +9,11 @@ use Rattle.types.specs.declared.Reply.the-variants as reply
 use Rattle.types.specs.Reply.{Outcome, replyNumber}
 use Rattle.vpic_chip.specs.Registers.{Chip}
 use Rattle.vpic.specs.Words.{PicState, view}
+use Rattle.vpic.specs.declared.PicRule.the-variants.{Latch}
 use Rattle.vpic.specs.declared.PicInterruptClaim.{PicInterruptClaim}
 use Rattle.vpic.specs.declared.PicClaim.the-variants.{Claimed, Nothing as NoClaim}
 use Rattle.vpic_chip.specs.Chip.{counts, acknowledged}
-use Rattle.vpic.specs.Pair.{newRule, chips, settled, Keeps, claimPending, claimIrq, latched, restoreInterrupt, withClaim, withVector, handleRead, handleWrite}
+use Rattle.vpic.specs.Pair.{chips, settled, Keeps, claimPending, claimIrq, latched, restoreInterrupt, withClaim, withVector, handleRead, handleWrite}
 use Rattle.vpic.specs.Departures.{seventh}
 
 -- every public call of the pair, with any arguments
@@ -39,14 +40,10 @@ outcome p (handle-write port width value) = handleWrite p port width value
 abbrev pub RefusedUnchanged : Type 0
 RefusedUnchanged = (p : PicState) (c : Call) → (replyNumber (outcome p c .reply) ≡ 0 → ⊥) → outcome p c .state ≡ p
 
--- over lent words: l before the call, and m what it leaves. A refused call leaves every word as it was, and so does a new pair's that is refused
+-- over lent words: l before the call, and m what it leaves. A refused call leaves every word as it was
 abbrev pub RefusedKeepsWords : Type 0
 RefusedKeepsWords =
     (l m : List ℕ) (c : Call) → length l ≡ 4 → length m ≡ 4 → view m ≡ outcome (view l) c .state → (replyNumber (outcome (view l) c .reply) ≡ 0 → ⊥) → m ≡ l
-
-abbrev pub RefusedNewKeepsWords : Type 0
-RefusedNewKeepsWords =
-    (l m : List ℕ) (rule : ℕ) → length l ≡ 4 → length m ≡ 4 → view m ≡ newRule (view l) rule .state → (replyNumber (newRule (view l) rule .reply) ≡ 0 → ⊥) → m ≡ l
 
 -- every call keeps what stands for nothing, bits 63 to 44 of a chip's word and the last word, and the rule's word as it was
 pub record Kept (l m : List ℕ) : Type 0 where
@@ -70,10 +67,15 @@ RestoredAfterRaise =
     (p : PicState) (l : PicLine) (c : PicInterruptClaim) → claimIrq p l .claim ≡ Claimed c
     → restoreInterrupt (claimIrq p l .state) c ≡ record { state = latched p l; reply = reply.Nothing }
 
--- line k of a chip was acknowledged: its request counted, and none that counted on that chip was above it
+-- line k's request counts, and none of the chip's that counts is above it
+pub record Highest (c : Chip) (k : ℕ) : Type 0 where
+  pub low : k < 8
+  pub counted : counts c k ≡ true
+  pub above : (j : ℕ) → j < k → counts c j ≡ false
+
+-- the highest was acknowledged, line k
 pub record Served (before after : Chip) (k : ℕ) : Type 0 where
-  pub counted : counts before k ≡ true
-  pub highest : (j : ℕ) → j < k → counts before j ≡ false
+  pub highest : Highest before k
   pub done : after ≡ acknowledged before k
 
 -- a claim of line k below 8 served the master's line; from 8 up it served the master's line 2 and the slave's line k - 8. The pair was settled then
@@ -91,4 +93,17 @@ HighestServed = (p : PicState) (c : PicInterruptClaim) → claimPending p .claim
 
 -- over the pair the like is false by rule 0 (D-13): at the end of example 7 nothing is in service, the slave's line 6 is requested and counts, and nothing is claimed
 abbrev pub SecondCallerUnheard : Type 0
-SecondCallerUnheard = (counts (seventh 0 .slave) 6 ≡ true) × (claimPending (seventh 0) .claim ≡ NoClaim) × (seventh 0 .master .«in_service» ≡ 0)
+SecondCallerUnheard = (counts (seventh Latch .slave) 6 ≡ true) × (claimPending (seventh Latch) .claim ≡ NoClaim) × (seventh Latch .master .«in_service» ≡ 0)
+
+-- a claim's flags: its line is in service now on each chip that answered for it, but in automatic EOI mode; the slave answers from line 8 up alone
+pub record Flagged (p : PicState) (c : PicInterruptClaim) : Type 0 where
+  pub master : c .«master_in_service» ≡ not (p .master .«auto_eoi»)
+  pub slave : 8 ≤ c .irq .0 → c .«slave_in_service» ≡ not (p .slave .«auto_eoi»)
+  pub alone : c .irq .0 < 8 → c .«slave_in_service» ≡ false
+
+-- of any pair, of either rule: where what waits is claimed, and where a line is raised
+abbrev pub FlagsSay : Type 0
+FlagsSay = (p : PicState) (c : PicInterruptClaim) → claimPending p .claim ≡ Claimed c → Flagged p c
+
+abbrev pub FlagsSayAfterRaise : Type 0
+FlagsSayAfterRaise = (p : PicState) (l : PicLine) (c : PicInterruptClaim) → claimIrq p l .claim ≡ Claimed c → Flagged p c

@@ -36,8 +36,8 @@ checked-requires-2 c κs = search needs
 byte-requires-3 : tie.Need-byte-requires-3
 byte-requires-3 c κs = search needs
 
-cast-t20 : tie.Need-cast-t20
-cast-t20 c = search needs
+cast-t21 : tie.Need-cast-t21
+cast-t21 c = search needs
 
 byte-requires-4 : tie.Need-byte-requires-4
 byte-requires-4 c κs = search needs
@@ -48,8 +48,8 @@ checked-requires-3 c κs = search needs
 byte-requires-5 : tie.Need-byte-requires-5
 byte-requires-5 c κs = search needs
 
-cast-t26 : tie.Need-cast-t26
-cast-t26 c = search needs
+cast-t27 : tie.Need-cast-t27
+cast-t27 c = search needs
 
 checked-requires-4 : tie.Need-checked-requires-4
 checked-requires-4 c κs = search needs
@@ -63,8 +63,11 @@ checked-requires-5 c κs = search needs
 byte-requires-7 : tie.Need-byte-requires-7
 byte-requires-7 c κs = search needs
 
-cast-is-version : tie.Need-cast-is-version
-cast-is-version c = search needs
+cast-number : tie.Need-cast-number
+cast-number c = search needs
+
+of-requires : tie.Need-of-requires
+of-requires c κs = search needs
 
 is-version-requires : tie.Need-is-version-requires
 is-version-requires c κs = search needs
@@ -88,7 +91,7 @@ returns-5 : tie.Need-returns-5
 returns-5 c = rw (c .before .before .match .keys5) (rw (c .before .byte6 .ensures) at (c .checked5 .ensures))
 
 returns-6 : tie.Need-returns-6
-returns-6 c = rw (c .before .before .before .match .keys6) (rw (c .before .is-version .ensures, c .before .before .byte7 .ensures) at (c .checked6 .ensures))
+returns-6 c = rw (c .before .before .before .before .match .keys6) (rw (c .before .is-version .ensures, c .before .before .of .ensures, c .before .before .before .byte7 .ensures) at (c .checked6 .ensures))
 
 returns-7 : tie.Need-returns-7
 returns-7 c = sym (apart (c .before .before .args .tag) (c .before .before .args .body .now) (onto ioFormats []) [] (c .match .rest))
@@ -107,16 +110,17 @@ decode-io-spec =
     is-width-requires-2
     checked-requires-2
     byte-requires-3
-    cast-t20
+    cast-t21
     byte-requires-4
     checked-requires-3
     byte-requires-5
-    cast-t26
+    cast-t27
     checked-requires-4
     byte-requires-6
     checked-requires-5
     byte-requires-7
-    cast-is-version
+    cast-number
+    of-requires
     is-version-requires
     checked-requires-6
     returns

@@ -57,8 +57,14 @@ checked-requires-5 c κs = search needs
 byte-requires-7 : tie.Need-byte-requires-7
 byte-requires-7 c κs = search needs
 
-is-rule-requires : tie.Need-is-rule-requires
-is-rule-requires c κs = search needs
+cast-number : tie.Need-cast-number
+cast-number c = search needs
+
+from-number-requires : tie.Need-from-number-requires
+from-number-requires c κs = search needs
+
+is-number-requires : tie.Need-is-number-requires
+is-number-requires c κs = search needs
 
 checked-requires-6 : tie.Need-checked-requires-6
 checked-requires-6 c κs = search needs
@@ -79,7 +85,7 @@ returns-5 : tie.Need-returns-5
 returns-5 c = rw (c .before .before .before .before .match .keys5) (rw (c .before .byte6 .ensures, c .before .before .byte5 .ensures, c .before .before .before .byte4 .ensures) at (c .checked5 .ensures))
 
 returns-6 : tie.Need-returns-6
-returns-6 c = rw (c .before .before .before .match .keys6) (rw (c .before .is-rule .ensures, c .before .before .byte7 .ensures) at (c .checked6 .ensures))
+returns-6 c = rw (c .before .before .before .before .match .keys6) (rw (c .before .is-number .ensures, c .before .before .from-number .ensures, c .before .before .before .byte7 .ensures) at (c .checked6 .ensures))
 
 returns-7 : tie.Need-returns-7
 returns-7 c = sym (apart (c .before .before .args .tag) (c .before .before .args .body .now) (onto picFormats []) [] (c .match .rest))
@@ -105,7 +111,9 @@ decode-pic-spec =
     byte-requires-6
     checked-requires-5
     byte-requires-7
-    is-rule-requires
+    cast-number
+    from-number-requires
+    is-number-requires
     checked-requires-6
     returns
     returns-2

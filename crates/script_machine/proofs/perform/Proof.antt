@@ -1,5 +1,6 @@
 use Rattle.script_machine.proofs.Chips.{perform-io, perform-version, perform-pic, perform-rule, perform-local}
 use Rattle.script_machine.proofs.Outcomes.{replied}
+use Rattle.types.specs.declared.Reply.the-variants as reply
 use borrow.Author.Needs.{needs}
 use Rattle.script_machine.proofs.perform.Statement.{statement}
 use Rattle.script_machine.proofs.perform.Tie as tie
@@ -16,9 +17,6 @@ call-ioapic-requires c κs = search needs
 enum-known-call-2 : tie.Need-enum-known-call-2
 enum-known-call-2 c = search needs
 
-cast-new-version : tie.Need-cast-new-version
-cast-new-version c = search needs
-
 new-version-requires : tie.Need-new-version-requires
 new-version-requires c κs = search needs
 
@@ -34,14 +32,8 @@ call-pic-requires c κs = search needs
 enum-known-call-4 : tie.Need-enum-known-call-4
 enum-known-call-4 c = search needs
 
-cast-new-rule : tie.Need-cast-new-rule
-cast-new-rule c = search needs
-
 new-rule-requires : tie.Need-new-rule-requires
 new-rule-requires c κs = search needs
-
-reply-requires-2 : tie.Need-reply-requires-2
-reply-requires-2 c κs = search needs
 
 enum-known-call-5 : tie.Need-enum-known-call-5
 enum-known-call-5 c = search needs
@@ -59,7 +51,7 @@ returns-3 : tie.Need-returns-3
 returns-3 c = perform-pic _ _ _ _ _ (c .before .before .before .before .before .before .args .call) _ (c .before .before .before .before .before .remember .ensures) _ _ (c .before .before .before .call3 .given .1) (c .call-pic .ensures)
 
 returns-4 : tie.Need-returns-4
-returns-4 c = perform-rule _ _ _ _ _ (c .before .before .before .before .before .before .before .args .call) _ (c .before .before .before .before .before .before .remember .ensures) _ _ (c .before .before .before .before .call4 .given .1) (replied _ _ _ _ (c .reply2 .ensures) (c .before .new-rule .ensures))
+returns-4 c = perform-rule _ _ _ _ _ (c .before .before .before .before .before .before .args .call) reply.Nothing (c .before .before .before .before .before .remember .ensures) _ _ (c .before .before .before .call4 .given .1) (c .new-rule .ensures)
 
 returns-5 : tie.Need-returns-5
 returns-5 c = perform-local _ _ _ _ _ (c .before .before .before .before .before .before .args .call) _ (c .before .before .before .before .before .remember .ensures) _ _ _ (c .before .before .before .call5 .given .1) (c .call-apic .ensures .1) (c .call-apic .ensures .0)
@@ -72,15 +64,12 @@ perform-spec =
     enum-known-call
     call-ioapic-requires
     enum-known-call-2
-    cast-new-version
     new-version-requires
     reply-requires
     enum-known-call-3
     call-pic-requires
     enum-known-call-4
-    cast-new-rule
     new-rule-requires
-    reply-requires-2
     enum-known-call-5
     call-apic-requires
     returns

@@ -22,8 +22,8 @@ read-word-requires c κs = search needs
 returns : tie.Need-returns
 returns c = search read-entry
 
-version-requires : tie.Need-version-requires
-version-requires c κs = search needs
+element-copy-out-read-fixed : tie.Need-element-copy-out-read-fixed
+element-copy-out-read-fixed c = search needs
 
 read-fixed-requires : tie.Need-read-fixed-requires
 read-fixed-requires c κs = search needs
@@ -41,6 +41,6 @@ read-selected-register-spec =
     entry-in-requires
     read-word-requires
     returns
-    version-requires
+    element-copy-out-read-fixed
     read-fixed-requires
     returns-2)

@@ -1,19 +1,16 @@
-use Rattle.utils.specs.Cases.{cases}
-use Rattle.vioapic.specs.State.{view}
+use Rattle.vioapic.proofs.Ways.{version-held}
 use borrow.Author.Needs.{needs}
 use Rattle.vioapic.proofs.version.Statement.{statement}
 use Rattle.vioapic.proofs.version.Tie as tie
 
-element-copy-out-if1 : tie.Need-element-copy-out-if1
-element-copy-out-if1 c = search needs
+element-copy-out-of : tie.Need-element-copy-out-of
+element-copy-out-of c = search needs
+
+of-requires : tie.Need-of-requires
+of-requires c κs = search needs
 
 returns : tie.Need-returns
-unfolding view
-returns c = search cases
-
-returns-2 : tie.Need-returns-2
-unfolding view
-returns-2 c = search cases
+returns c = search version-held
 
 pub version-spec : {M : Type 1} → statement M
-version-spec = tie.close (tie.spec element-copy-out-if1 returns returns-2)
+version-spec = tie.close (tie.spec element-copy-out-of of-requires returns)

@@ -6,6 +6,12 @@ use Rattle.vioapic.proofs.write_at.Tie as tie
 seen-requires : tie.Need-seen-requires
 seen-requires c κs = search needs
 
+element-copy-out-with-low : tie.Need-element-copy-out-with-low
+element-copy-out-with-low c = search needs
+
+with-low-requires : tie.Need-with-low-requires
+with-low-requires c κs = search needs
+
 element-write-words : tie.Need-element-write-words
 element-write-words c = search needs
 
@@ -32,6 +38,8 @@ write-at-spec =
     tie.close
     (tie.spec
     seen-requires
+    element-copy-out-with-low
+    with-low-requires
     element-write-words
     returns
     write-selected-register-requires

@@ -1,6 +1,5 @@
 use Rattle.vlapic_icr.specs.Icr.{selfIpi}
 use borrow.Author.Tests.{lt-ltb, le-ltb}
-use native.Mathlib.Omega.{arith}
 use borrow.Author.Needs.{needs}
 use Rattle.vlapic_icr.proofs.handle_self_ipi.Statement.{statement}
 use Rattle.vlapic_icr.proofs.handle_self_ipi.Tie as tie
@@ -14,7 +13,7 @@ mask-requires c κs = search needs
 
 returns-2 : tie.Need-returns-2
 unfolding selfIpi
-returns-2 c = rw (le-ltb _ _ (c .before .if1 .left), c .mask .ensures, lt-ltb (c .before .before .before .args .vcpu-id .0) 64 (omega arith))
+returns-2 c = rw (le-ltb _ _ (c .before .if1 .left), c .mask .ensures)
 
 pub handle-self-ipi-spec : {M : Type 1} → statement M
 handle-self-ipi-spec = tie.close (tie.spec returns mask-requires returns-2)

@@ -1,3 +1,4 @@
+use native.Mathlib.Omega.{arith}
 use Rattle.vlapic_words.proofs.Ways.{eoi-none, eoi-told, eoi-silent}
 use borrow.Author.Needs.{needs}
 use Rattle.vlapic_words.proofs.handle_eoi.Statement.{statement}
@@ -25,7 +26,7 @@ end-requires : tie.Need-end-requires
 end-requires c κs = search needs
 
 returns-2 : tie.Need-returns-2
-returns-2 c = search eoi-told
+returns-2 c = eoi-told _ (omega arith) _ (c .before .before .before .before .before .before .before .before .before .before .find-isrv .ensures) _ _ _ _ (c .before .before .before .before .before .before .before .before .if1 .left) (c .before .before .before .before .before .before .has .ensures) (c .before .before .before .before .word .ensures) (c .before .before .before .is-eoi-broadcast .ensures) (c .before .end .ensures) (c .if2 .taken)
 
 returns-3 : tie.Need-returns-3
 returns-3 c = search eoi-silent

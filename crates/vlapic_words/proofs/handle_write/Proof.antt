@@ -6,8 +6,8 @@ use Rattle.vlapic_words.proofs.handle_write.Tie as tie
 word-requires : tie.Need-word-requires
 word-requires c κs = search needs
 
-cast-is-out-of-range : tie.Need-cast-is-out-of-range
-cast-is-out-of-range c = search needs
+of-apic-requires : tie.Need-of-apic-requires
+of-apic-requires c κs = search needs
 
 is-out-of-range-requires : tie.Need-is-out-of-range-requires
 is-out-of-range-requires c κs = search needs
@@ -29,7 +29,7 @@ handle-write-spec =
     tie.close
     (tie.spec
     word-requires
-    cast-is-out-of-range
+    of-apic-requires
     is-out-of-range-requires
     returns
     write-at-requires

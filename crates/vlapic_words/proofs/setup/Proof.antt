@@ -1,6 +1,3 @@
-use native.Mathlib.Omega.{arith}
-use mathlib.Core.Path.{sym, _∙_}
-use Rattle.vlapic.proofs.Range.{in-range}
 use Rattle.vlapic_words.proofs.Ways.{setup-out, setup-in}
 use borrow.Author.Needs.{needs}
 use Rattle.vlapic_words.proofs.setup.Statement.{statement}
@@ -12,26 +9,26 @@ is-out-of-range-requires c κs = search needs
 returns : tie.Need-returns
 returns c = search setup-out
 
-element-copy-out-t11 : tie.Need-element-copy-out-t11
-element-copy-out-t11 c = search needs
+element-copy-out-t10 : tie.Need-element-copy-out-t10
+element-copy-out-t10 c = search needs
 
-element-copy-out-t14 : tie.Need-element-copy-out-t14
-element-copy-out-t14 c = search needs
+element-copy-out-t13 : tie.Need-element-copy-out-t13
+element-copy-out-t13 c = search needs
 
-element-copy-out-t17 : tie.Need-element-copy-out-t17
-element-copy-out-t17 c = search needs
+element-copy-out-t16 : tie.Need-element-copy-out-t16
+element-copy-out-t16 c = search needs
 
-element-copy-out-t20 : tie.Need-element-copy-out-t20
-element-copy-out-t20 c = search needs
+element-copy-out-t19 : tie.Need-element-copy-out-t19
+element-copy-out-t19 c = search needs
 
-element-copy-out-t23 : tie.Need-element-copy-out-t23
-element-copy-out-t23 c = search needs
+element-copy-out-t22 : tie.Need-element-copy-out-t22
+element-copy-out-t22 c = search needs
 
-element-copy-out-t26 : tie.Need-element-copy-out-t26
-element-copy-out-t26 c = search needs
+element-copy-out-t25 : tie.Need-element-copy-out-t25
+element-copy-out-t25 c = search needs
 
-cast-reset : tie.Need-cast-reset
-cast-reset c = record { fits = omega (arith, in-range (c .before .before .before .before .before .before .before .before .before .args .vcpu-num) (c .before .before .before .before .before .before .before .before .before .args .vcpu-id .0) (sym (c .before .before .before .before .before .before .before .before .is-out-of-range .ensures) ∙ c .before .before .before .before .before .before .before .if1 .left) .1) }
+apic-id-requires : tie.Need-apic-id-requires
+apic-id-requires c κs = search needs
 
 reset-requires : tie.Need-reset-requires
 reset-requires c κs = search needs
@@ -45,12 +42,12 @@ setup-spec =
     (tie.spec
     is-out-of-range-requires
     returns
-    element-copy-out-t11
-    element-copy-out-t14
-    element-copy-out-t17
-    element-copy-out-t20
-    element-copy-out-t23
-    element-copy-out-t26
-    cast-reset
+    element-copy-out-t10
+    element-copy-out-t13
+    element-copy-out-t16
+    element-copy-out-t19
+    element-copy-out-t22
+    element-copy-out-t25
+    apic-id-requires
     reset-requires
     returns-2)

@@ -1,4 +1,3 @@
-use Rattle.vlapic.proofs.Range.{in-range}
 use borrow.Author.Needs.{needs}
 use Rattle.vlapic_words.proofs.Ways.{at-eoi, at-icr, at-self, at-rest}
 use Rattle.vlapic_words.proofs.write_at.Statement.{statement}
@@ -8,10 +7,10 @@ write-eoi-requires : tie.Need-write-eoi-requires
 write-eoi-requires c κs = search needs
 
 write-icr-low-requires : tie.Need-write-icr-low-requires
-write-icr-low-requires c κs = in-range _ _ (c .before .before .pre)
+write-icr-low-requires c κs = search needs
 
 write-self-ipi-requires : tie.Need-write-self-ipi-requires
-write-self-ipi-requires c κs = in-range (c .before .before .args .vcpu-num) _ (c .before .before .pre) .1
+write-self-ipi-requires c κs = search needs
 
 cast-write-register : tie.Need-cast-write-register
 cast-write-register c = search needs

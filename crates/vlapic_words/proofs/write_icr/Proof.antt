@@ -1,5 +1,5 @@
 use native.Mathlib.Omega.{arith}
-use Rattle.vlapic_words.proofs.Ways.{id-is, icr-way}
+use Rattle.vlapic_words.proofs.Ways.{icr-way}
 use borrow.Author.Needs.{needs}
 use Rattle.vlapic_words.proofs.write_icr.Statement.{statement}
 use Rattle.vlapic_words.proofs.write_icr.Tie as tie
@@ -29,7 +29,7 @@ put-requires-2 : tie.Need-put-requires-2
 put-requires-2 c κs = search needs
 
 carry-out-requires : tie.Need-carry-out-requires
-carry-out-requires c κs = (c .before .before .before .before .before .before .before .before .before .before .before .before .before .before .before .before .before .pre .0, rw (c .before .before .before .before .before .before .before .before .before .before .word .ensures, id-is) (c .before .before .before .before .before .before .before .before .before .before .before .before .before .before .before .before .before .pre .1))
+carry-out-requires c κs = search needs
 
 answer-requires : tie.Need-answer-requires
 answer-requires c κs = search needs

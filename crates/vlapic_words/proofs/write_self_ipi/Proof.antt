@@ -1,4 +1,4 @@
-use Rattle.vlapic_words.proofs.Ways.{id-is, self-in, self-out}
+use Rattle.vlapic_words.proofs.Ways.{self-in, self-out}
 use borrow.Author.Needs.{needs}
 use Rattle.vlapic_words.proofs.write_self_ipi.Statement.{statement}
 use Rattle.vlapic_words.proofs.write_self_ipi.Tie as tie
@@ -12,11 +12,11 @@ cast-t8 c = search needs
 word-requires : tie.Need-word-requires
 word-requires c κs = search needs
 
-cast-t11 : tie.Need-cast-t11
-cast-t11 c = search needs
+of-apic-requires : tie.Need-of-apic-requires
+of-apic-requires c κs = search needs
 
 handle-self-ipi-requires : tie.Need-handle-self-ipi-requires
-handle-self-ipi-requires c κs = rw (c .before .word .ensures, id-is) (c .before .before .before .before .before .before .pre)
+handle-self-ipi-requires c κs = search needs
 
 answer-requires : tie.Need-answer-requires
 answer-requires c κs = search needs
@@ -34,7 +34,7 @@ write-self-ipi-spec =
     is-x2apic-requires
     cast-t8
     word-requires
-    cast-t11
+    of-apic-requires
     handle-self-ipi-requires
     answer-requires
     returns

@@ -1,7 +1,25 @@
-use Rattle.vpic.proofs.Laws.{pending-reply}
+use Rattle.vpic.proofs.Laws.{quiet-reply, unasked-reply, pending-reply}
 use borrow.Author.Needs.{needs}
 use Rattle.vpic.proofs.claim_pending_interrupt.Statement.{statement}
 use Rattle.vpic.proofs.claim_pending_interrupt.Tie as tie
+
+is-quiet-requires : tie.Need-is-quiet-requires
+is-quiet-requires c κs = search needs
+
+returns : tie.Need-returns
+returns c = search quiet-reply
+
+master-requires : tie.Need-master-requires
+master-requires c κs = search needs
+
+asks-requires : tie.Need-asks-requires
+asks-requires c κs = search needs
+
+settle-requires : tie.Need-settle-requires
+settle-requires c κs = search needs
+
+returns-2 : tie.Need-returns-2
+returns-2 c = search unasked-reply
 
 claim-pending-requires : tie.Need-claim-pending-requires
 claim-pending-requires c κs = search needs
@@ -9,8 +27,19 @@ claim-pending-requires c κs = search needs
 claim-requires : tie.Need-claim-requires
 claim-requires c κs = search needs
 
-returns : tie.Need-returns
-returns c = search pending-reply
+returns-3 : tie.Need-returns-3
+returns-3 c = search pending-reply
 
 pub claim-pending-interrupt-spec : {M : Type 1} → statement M
-claim-pending-interrupt-spec = tie.close (tie.spec claim-pending-requires claim-requires returns)
+claim-pending-interrupt-spec =
+    tie.close
+    (tie.spec
+    is-quiet-requires
+    returns
+    master-requires
+    asks-requires
+    settle-requires
+    returns-2
+    claim-pending-requires
+    claim-requires
+    returns-3)

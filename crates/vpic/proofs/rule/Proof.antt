@@ -1,15 +1,17 @@
-use mathlib.Core.Path.{refl}
 use Rattle.vpic.specs.Words.{view}
 use borrow.Author.Needs.{needs}
 use Rattle.vpic.proofs.rule.Statement.{statement}
 use Rattle.vpic.proofs.rule.Tie as tie
 
-element-copy-out-result : tie.Need-element-copy-out-result
-element-copy-out-result c = search needs
+element-copy-out-from-number : tie.Need-element-copy-out-from-number
+element-copy-out-from-number c = search needs
+
+from-number-requires : tie.Need-from-number-requires
+from-number-requires c κs = search needs
 
 returns : tie.Need-returns
 unfolding view
-returns c = refl
+returns c = c .from-number .ensures
 
 pub rule-spec : {M : Type 1} → statement M
-rule-spec = tie.close (tie.spec element-copy-out-result returns)
+rule-spec = tie.close (tie.spec element-copy-out-from-number from-number-requires returns)

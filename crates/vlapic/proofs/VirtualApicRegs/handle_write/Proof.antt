@@ -1,13 +1,12 @@
-use mathlib.Core.Path.{sym, _∙_}
-use Rattle.vlapic.proofs.Range.{in-range}
+use Rattle.vlapic.proofs.Range.{own-range}
 use borrow.Author.Tests.{ne-eqb}
 use Rattle.vlapic.specs.Calls.{handleWrite}
 use borrow.Author.Needs.{needs}
 use Rattle.vlapic.proofs.VirtualApicRegs.handle_write.Statement.{statement}
 use Rattle.vlapic.proofs.VirtualApicRegs.handle_write.Tie as tie
 
-cast-is-out-of-range : tie.Need-cast-is-out-of-range
-cast-is-out-of-range c = search needs
+of-apic-requires : tie.Need-of-apic-requires
+of-apic-requires c κs = search needs
 
 is-out-of-range-requires : tie.Need-is-out-of-range-requires
 is-out-of-range-requires c κs = search needs
@@ -17,16 +16,16 @@ refuse-requires c κs = search needs
 
 returns : tie.Need-returns
 unfolding handleWrite
-returns c = rw (← c .before .before .is-out-of-range .ensures, c .before .if1 .taken) (c .refuse .ensures)
+returns c = rw (own-range _ _ _ _ _ (c .before .before .before .of-apic .ensures) (c .before .before .is-out-of-range .ensures) (c .before .if1 .taken)) (c .refuse .ensures)
 
 write-eoi-requires : tie.Need-write-eoi-requires
 write-eoi-requires c κs = search needs
 
 write-icr-low-requires : tie.Need-write-icr-low-requires
-write-icr-low-requires c κs = in-range _ _ (sym (c .before .before .is-out-of-range .ensures) ∙ c .before .if1 .left)
+write-icr-low-requires c κs = search needs
 
 write-self-ipi-requires : tie.Need-write-self-ipi-requires
-write-self-ipi-requires c κs = in-range (c .before .before .before .before .args .vcpu-num) _ (sym (c .before .before .is-out-of-range .ensures) ∙ c .before .if1 .left) .1
+write-self-ipi-requires c κs = search needs
 
 cast-write-register : tie.Need-cast-write-register
 cast-write-register c = search needs
@@ -36,27 +35,27 @@ write-register-requires c κs = search needs
 
 returns-2 : tie.Need-returns-2
 unfolding handleWrite
-returns-2 c = rw (← c .before .before .before .is-out-of-range .ensures, c .before .before .if1 .left, c .before .match .keys1) (c .write-eoi .ensures)
+returns-2 c = rw (own-range _ _ _ _ _ (c .before .before .before .before .of-apic .ensures) (c .before .before .before .is-out-of-range .ensures) (c .before .before .if1 .left), c .before .match .keys1) (c .write-eoi .ensures)
 
 returns-3 : tie.Need-returns-3
 unfolding handleWrite
-returns-3 c = rw (← c .before .before .before .is-out-of-range .ensures, c .before .before .if1 .left, c .before .match .keys2) (c .write-icr-low .ensures)
+returns-3 c = rw (own-range _ _ _ _ _ (c .before .before .before .before .of-apic .ensures) (c .before .before .before .is-out-of-range .ensures) (c .before .before .if1 .left), c .before .match .keys2) (c .write-icr-low .ensures)
 
 returns-4 : tie.Need-returns-4
 unfolding handleWrite
-returns-4 c = rw (← c .before .before .before .is-out-of-range .ensures, c .before .before .if1 .left, c .before .match .keys3) (c .write-self-ipi .ensures)
+returns-4 c = rw (own-range _ _ _ _ _ (c .before .before .before .before .of-apic .ensures) (c .before .before .before .is-out-of-range .ensures) (c .before .before .if1 .left), c .before .match .keys3) (c .write-self-ipi .ensures)
 
 returns-5 : tie.Need-returns-5
 unfolding handleWrite
 returns-5 c =
     let r = c .before .match .rest in
-    rw (← c .before .before .before .is-out-of-range .ensures, c .before .before .if1 .left, ne-eqb _ _ (r .1), ne-eqb _ _ (r .0 .1), ne-eqb _ _ (r .0 .0 .1)) (c .write-register .ensures)
+    rw (own-range _ _ _ _ _ (c .before .before .before .before .of-apic .ensures) (c .before .before .before .is-out-of-range .ensures) (c .before .before .if1 .left), ne-eqb _ _ (r .1), ne-eqb _ _ (r .0 .1), ne-eqb _ _ (r .0 .0 .1)) (c .write-register .ensures)
 
 pub handle-write-spec : {M : Type 1} → statement M
 handle-write-spec =
     tie.close
     (tie.spec
-    cast-is-out-of-range
+    of-apic-requires
     is-out-of-range-requires
     refuse-requires
     returns

@@ -1,8 +1,8 @@
 use mathlib.Core.Path.{sym, ap, _∙_}
-use native.Mathlib.Omega.{arith}
 use Rattle.utils.specs.Cases.{cond-no, cases}
+use Rattle.vlapic.specs.Regs.{start}
 use Rattle.vlapic.specs.Answers.{done}
-use Rattle.vlapic.proofs.Range.{in-range}
+use Rattle.vlapic.proofs.Range.{id-kept}
 use Rattle.vlapic.specs.Calls.{setup}
 use borrow.Author.Needs.{needs}
 use Rattle.vlapic.proofs.VirtualApicRegs.setup.Statement.{statement}
@@ -18,10 +18,8 @@ returns : tie.Need-returns
 unfolding setup
 returns c = search cases
 
-cast-reset : tie.Need-cast-reset
-cast-reset c =
-    let r = c .before .is-out-of-range in
-    record { fits = omega (arith, in-range (c .before .before .args .vcpu-num) (c .before .before .args .vcpu-id .0) (sym (r .ensures) ∙ c .if1 .left) .1) }
+apic-id-requires : tie.Need-apic-id-requires
+apic-id-requires c κs = search needs
 
 reset-requires : tie.Need-reset-requires
 reset-requires c κs = search needs
@@ -31,7 +29,11 @@ ok-requires c κs = search needs
 
 returns-2 : tie.Need-returns-2
 unfolding setup
-returns-2 c = cond-no _ _ _ _ _ (sym (c .before .before .before .is-out-of-range .ensures) ∙ c .before .before .if1 .left) (c .ok .ensures ∙ ap done (c .before .reset .ensures))
+returns-2 c =
+    let out = c .before .before .before .before .is-out-of-range .ensures in
+    let in-range = c .before .before .before .if1 .left in
+    cond-no _ _ _ _ _ (sym out ∙ in-range)
+    (c .ok .ensures ∙ ap done (c .before .reset .ensures ∙ ap (start (c .before .before .before .before .before .args .x2apic)) (id-kept (c .before .before .before .before .before .args .vcpu-num) _ _ _ out in-range (c .before .before .apic-id .ensures))))
 
 pub setup-spec : {M : Type 1} → statement M
 setup-spec =
@@ -40,7 +42,7 @@ setup-spec =
     is-out-of-range-requires
     refuse-requires
     returns
-    cast-reset
+    apic-id-requires
     reset-requires
     ok-requires
     returns-2)

@@ -7,8 +7,8 @@ use Rattle.vlapic.proofs.VirtualApicRegs.write_self_ipi.Tie as tie
 cast-t6 : tie.Need-cast-t6
 cast-t6 c = search needs
 
-cast-t8 : tie.Need-cast-t8
-cast-t8 c = search needs
+of-apic-requires : tie.Need-of-apic-requires
+of-apic-requires c κs = search needs
 
 handle-self-ipi-requires : tie.Need-handle-self-ipi-requires
 handle-self-ipi-requires c κs = search needs
@@ -18,7 +18,7 @@ answer-requires c κs = search needs
 
 returns : tie.Need-returns
 unfolding writeSelfIpi
-returns c = cond-yes _ _ _ _ _ (c .before .before .before .if1 .taken) (rw (← c .before .handle-self-ipi .ensures) (c .answer .ensures))
+returns c = cond-yes _ _ _ _ _ (c .before .before .before .if1 .taken) (rw (← c .before .before .of-apic .ensures, ← c .before .handle-self-ipi .ensures) (c .answer .ensures))
 
 refuse-requires : tie.Need-refuse-requires
 refuse-requires c κs = search needs
@@ -32,7 +32,7 @@ write-self-ipi-spec =
     tie.close
     (tie.spec
     cast-t6
-    cast-t8
+    of-apic-requires
     handle-self-ipi-requires
     answer-requires
     returns

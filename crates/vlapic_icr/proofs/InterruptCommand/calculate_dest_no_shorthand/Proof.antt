@@ -26,12 +26,15 @@ returns-2 : tie.Need-returns-2
 unfolding destNoShorthand
 returns-2 c = rw (← c .before .before .before .before .before .before .is-broadcast .ensures, c .before .before .before .before .before .if1 .left, ← c .before .before .before .is-logical .ensures, c .before .before .if2 .taken, ← c .before .before .before .before .dest-field .ensures, ← c .before .is-dest-field-matched .ensures) (c .logical-dest .ensures)
 
+of-apic-requires : tie.Need-of-apic-requires
+of-apic-requires c κs = search needs
+
 physical-dest-requires : tie.Need-physical-dest-requires
 physical-dest-requires c κs = search needs
 
 returns-3 : tie.Need-returns-3
 unfolding destNoShorthand
-returns-3 c = rw (← c .before .before .before .before .before .is-broadcast .ensures, c .before .before .before .before .if1 .left, ← c .before .before .is-logical .ensures, c .before .if2 .left, ← c .before .before .before .dest-field .ensures) (c .physical-dest .ensures)
+returns-3 c = rw (← c .before .before .before .before .before .before .is-broadcast .ensures, c .before .before .before .before .before .if1 .left, ← c .before .before .before .is-logical .ensures, c .before .before .if2 .left, ← c .before .before .before .before .dest-field .ensures) (rw (c .before .of-apic .ensures) at (c .physical-dest .ensures))
 
 pub calculate-dest-no-shorthand-spec : {M : Type 1} → statement M
 calculate-dest-no-shorthand-spec =
@@ -44,5 +47,6 @@ calculate-dest-no-shorthand-spec =
     is-dest-field-matched-requires
     logical-dest-requires
     returns-2
+    of-apic-requires
     physical-dest-requires
     returns-3)

@@ -1,12 +1,16 @@
 use Rattle.utils.specs.Cases.{cases}
+use borrow.Author.Needs.{needs}
 use Rattle.vlapic_icr.proofs.fields.is_unsent.Statement.{statement}
 use Rattle.vlapic_icr.proofs.fields.is_unsent.Tie as tie
 
+delivery-mode-requires : tie.Need-delivery-mode-requires
+delivery-mode-requires c κs = search needs
+
 returns : tie.Need-returns
-returns c = search cases
+returns c = rw (← c .before .delivery-mode .ensures) (search cases)
 
 returns-2 : tie.Need-returns-2
-returns-2 c = search cases
+returns-2 c = rw (← c .before .delivery-mode .ensures) (search cases)
 
 pub is-unsent-spec : {M : Type 1} → statement M
-is-unsent-spec = tie.close (tie.spec returns returns-2)
+is-unsent-spec = tie.close (tie.spec delivery-mode-requires returns returns-2)

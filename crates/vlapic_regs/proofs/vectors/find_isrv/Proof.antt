@@ -53,17 +53,17 @@ sub-bit c = search needs
 shr-if3 : tie.Need-shr-if3 Inv-loop μ-loop Inv-search μ-search
 shr-if3 c = search needs
 
-cast-result : tie.Need-cast-result Inv-loop μ-loop Inv-search μ-search
-cast-result c = search needs
+cast-t15 : tie.Need-cast-t15 Inv-loop μ-loop Inv-search μ-search
+cast-t15 c = search needs
 
-mul-result : tie.Need-mul-result Inv-loop μ-loop Inv-search μ-search
-mul-result c = search needs
+mul-t16 : tie.Need-mul-t16 Inv-loop μ-loop Inv-search μ-search
+mul-t16 c = search needs
 
-cast-result-2 : tie.Need-cast-result-2 Inv-loop μ-loop Inv-search μ-search
-cast-result-2 c = search needs
+cast-t17 : tie.Need-cast-t17 Inv-loop μ-loop Inv-search μ-search
+cast-t17 c = search needs
 
-add-result : tie.Need-add-result Inv-loop μ-loop Inv-search μ-search
-add-result c = search needs
+add-t18 : tie.Need-add-t18 Inv-loop μ-loop Inv-search μ-search
+add-t18 c = search needs
 
 loop-less : tie.Need-loop-less Inv-loop μ-loop Inv-search μ-search
 loop-less c = search needs
@@ -100,10 +100,10 @@ find-isrv-spec =
     search-again-2
     sub-bit
     shr-if3
-    cast-result
-    mul-result
-    cast-result-2
-    add-result
+    cast-t15
+    mul-t16
+    cast-t17
+    add-t18
     loop-less
     loop-again
     returns
