@@ -313,7 +313,7 @@ def choices():
         yield b"".join(fields[:n]) + choice + b"".join(fields[n:])
         yield b"".join(f for f in fields[:n] if f[0] >> 4 != tag >> 4) + choice + b"".join(fields[n:])
     for tag, (byte, unjudged) in CHOICES.items():
-        yield from (field(tag, other) + whole for other in (0, 1, 2, 3, 0x10, 0x11, 0x12, 0x20, 0x21, 255) if other != unjudged)
+        yield from (field(tag, other) + whole for other in (0, 1, 2, 3, 0x10, 0x11, 0x12, 0x20, 0x21, 255) if other not in unjudged)
         yield from (bytes([tag, length, 0]) + bytes([byte] * length) + whole for length in (0, 2, 17))
 
 
@@ -449,7 +449,7 @@ def random_field(dice):
     """A field with a right length and width code, and any numbers; often small ones or the ones that mean something."""
     tag = dice.pick([tag for tag in TAGS if tag not in CHOICES])
     values = []
-    for part, size in TAGS[tag][1]:
+    for part, size in TAGS[tag]:
         likely = {
             "width": [1, 2, 4, 8, 1, 4, 4, 8],
             "address": [IO_BASE, IO_BASE + 0x10, IO_BASE + 0x10, IO_BASE + dice.below(0x49), IO_BASE + dice.pick(FAR), IO_BASE - 1,

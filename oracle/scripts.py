@@ -1,38 +1,29 @@
 """Scripts as bytes: fields made, taken apart and shown; batches of scripts."""
+import pathlib
+import sys
 
-LONGEST = 65536
+sys.path.insert(0, str(pathlib.Path(__file__).resolve().parents[1] / "tools"))
+import script_fields as table  # noqa: E402: the one table of fields, which the text tool has too
+
+LONGEST = table.LONGEST
 IO_BASE = 0xFEC00000
 
-# A tag's name, and its body's parts with their sizes in bytes. (Document 01, "Scripts"; 06 and 16, document 02.)
+LENGTH = {tag: table.body_length(row) for tag, row in table.BY_TAG.items()}
+# The fields of the chips that the Rust has: a tag's parts by name, with their sizes in bytes.
 TAGS = {
-    0x01: ("I/O read", [("width", 1), ("address", 8)]),
-    0x02: ("I/O write", [("width", 1), ("address", 8), ("value", 8)]),
-    0x03: ("line", [("gsi", 1), ("up", 1)]),
-    0x04: ("assert", [("gsi", 1)]),
-    0x05: ("I/O EOI", [("vector", 1)]),
-    0x06: ("I/O version", [("version", 1)]),
-    0x10: ("PIC read", [("width", 1), ("port", 2)]),
-    0x11: ("PIC write", [("width", 1), ("port", 2), ("value", 8)]),
-    0x12: ("claim", [("line", 1)]),
-    0x13: ("claim pending", []),
-    0x14: ("restore", [("vector", 1), ("line", 1), ("flags", 1)]),
-    0x16: ("PIC rule", [("rule", 1)]),
-    0x20: ("accept", [("vector", 1), ("level", 1)]),
-    0x21: ("local write", [("width", 1), ("offset", 2), ("value", 8)]),
-    0x22: ("local EOI", []),
-    0x23: ("local read", [("offset", 2)]),
-    0x24: ("setup", [("x2", 1), ("id", 1), ("count", 1), ("active", 8)]),
+    tag: [(part.name, part.size) for part in row.parts]
+    for tag, row in table.BY_TAG.items()
+    if table.CHIPS[table.chip_of(tag)].in_rust
 }
-# The choices of what a chip is: the byte that names what the Rust is, and the one to which it has no answer.
-CHOICES = {0x06: (0x11, 0x20), 0x16: (0, 1)}
-LENGTH = {tag: sum(size for _, size in parts) for tag, (_, parts) in TAGS.items()}
-WITH_WIDTH = [tag for tag, (_, parts) in TAGS.items() if parts and parts[0][0] == "width"]
+WITH_WIDTH = [tag for tag, parts in TAGS.items() if parts and parts[0][0] == "width"]
+# The choices of what a chip is: the byte that names what the Rust is, and those to which it has no answer.
+CHOICES = {tag: (codes[0], codes[1:]) for tag, codes in table.choices().items() if tag in TAGS}
 
 
 def field(tag, *values):
     """One field; each value is cut to its part's size."""
     body = b"".join(
-        (value % 256**size).to_bytes(size, "little") for value, (_, size) in zip(values, TAGS[tag][1], strict=True)
+        (value % 256**size).to_bytes(size, "little") for value, (_, size) in zip(values, TAGS[tag], strict=True)
     )
     return bytes([tag]) + len(body).to_bytes(2, "little") + body
 
@@ -131,10 +122,7 @@ def split(script):
 
 def is_bad(piece, used=()):
     """Whether a piece of `split` is a bad field, behind fields of the used chips (the high digits of their tags)."""
-    right = LENGTH.get(piece[0]) == int.from_bytes(piece[1:3], "little") and len(piece) == 3 + LENGTH[piece[0]]
-    if right and piece[0] in CHOICES:
-        return piece[3] not in CHOICES[piece[0]] or piece[0] >> 4 in used
-    return not right or (piece[0] in WITH_WIDTH and piece[3] not in (1, 2, 4, 8))
+    return bool(table.what_is_wrong(piece, 0, used))
 
 
 def performed(script):
@@ -145,7 +133,7 @@ def performed(script):
         yield piece, bad
         if bad:
             return
-        used.add(piece[0] >> 4)
+        used.add(table.chip_of(piece[0]))
 
 
 def count_lines(script):
@@ -158,30 +146,29 @@ def ends_badly(script):
     return any(bad for _, bad in performed(script))
 
 
-UNJUDGED = [field(tag, byte) for tag, (_, byte) in CHOICES.items()]
+# How the fields start to which the Rust has no answer: choices of what it isn't, and all fields of chips that it hasn't.
+UNJUDGED = tuple(
+    [field(tag, byte) for tag, (_, others) in CHOICES.items() for byte in others]
+    + [bytes([tag]) + length.to_bytes(2, "little") for tag, length in LENGTH.items() if tag not in TAGS]
+)
 
 
 def is_unjudged(script):
-    """Whether a script chooses what the Rust isn't: `06 20` or `16 01` before all other fields of its chip.
+    """Whether a script has such a field where it is good: `06 20` or `16 01` before all other fields of its chip.
 
-    Ours takes the choice, and the Rust has no answer to it (the harness calls it bad): such a script compares nothing. Too
-    late, the same field is bad to both.
+    Ours takes it, and the Rust has no answer to it (the harness calls it bad): such a script compares nothing. Too late, the
+    same choice is bad to both.
     """
-    if len(script) > LONGEST or not any(choice in script for choice in UNJUDGED):
+    if len(script) > LONGEST or not any(start in script for start in UNJUDGED):
         return False
-    return any(piece in UNJUDGED and not bad for piece, bad in performed(script))
+    return any(piece.startswith(UNJUDGED) and not bad for piece, bad in performed(script))
 
 
 def describe(piece):
-    """A field as text, `01 I/O read width=0x4 address=0xfec00000`; other bytes as a bad field."""
+    """A field as text, `io-read 4 0xfec00000`; other bytes as a bad field."""
     if is_bad(piece):
         return f"bad field of {len(piece)} bytes"
-    name, parts = TAGS[piece[0]]
-    words, at = [f"{piece[0]:02x} {name}"], 3
-    for part, size in parts:
-        words.append(f"{part}={int.from_bytes(piece[at : at + size], 'little'):#x}")
-        at += size
-    return " ".join(words)
+    return table.field_text(table.BY_TAG[piece[0]], piece[3:])
 
 
 def pack(texts):
