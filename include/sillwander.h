@@ -93,7 +93,9 @@ uint64_t sillwander_ioapic_address_range(const uint64_t words[32], uint64_t rang
 /* A memory read: one value. Refused: 1 for a width other than 4 and 8, then 4 for an address below the base. */
 uint64_t sillwander_ioapic_handle_read(const uint64_t words[32], uint64_t addr, uint64_t width);
 
-/* A memory write, of the value's low 32 bits. Refused as a read is. In version 0x20 a write at base + 0x40 is an EOI of the value's low 8 bits, and answers as one. */
+/* A memory write, of the value's low 32 bits. Refused as a read is. Version 0x11 answers none. In version 0x20 a write at base + 0x40 is an EOI of the value's low 8
+   bits, and answers as one; and a low word, of which bits 12 and 14 aren't written, that leaves its entry fit to be sent, level-triggered and not in flight with its
+   line up sends at once: two values, vector and level, as sillwander_ioapic_assert_gsi has them. Which of the two a write's values are goes by its address. */
 uint64_t sillwander_ioapic_handle_write(uint64_t words[32], uint64_t addr, uint64_t width, uint64_t value);
 
 /*

@@ -505,6 +505,78 @@ static void eoi_registers(void)
     EXPECT(io_eoi(0x41), three(3, 0x41, 1));
 }
 
+/* Bits 12 and 14 of a low word are read-only (82093AA). A guest masks a line while its handler runs, and unmasks it after the EOI. */
+static void masked_in_flight(void)
+{
+    start_20("masked, ended, unmasked", 8, 0x8041);
+    EXPECT(window(0x18041), NONE);
+    CHECK(io[3] == 0x1c041 && io[30] == 8);
+    EXPECT(look(), one(0x1c041));
+    EXPECT(io_eoi(0x41), two(8, 0));
+    CHECK(io[3] == 0x18041 && io[30] == 0);
+    EXPECT(window(0x8041), two(0x41, 1)); /* the line is up still */
+    CHECK(io[3] == 0xc041 && io[30] == 8);
+    IDLE(io_lent, window(0x8041)); /* once */
+    EXPECT(io_eoi(0x41), two(8, 8));
+
+    start_20("masked, unmasked, ended", 8, 0x8041);
+    EXPECT(window(0x18041), NONE);
+    EXPECT(window(0x8041), NONE);
+    EXPECT(io_eoi(0x41), two(8, 8));
+    EXPECT(window(0x18041), NONE);
+    EXPECT(line(3, 0), NONE);
+    EXPECT(io_eoi(0x41), two(8, 0));
+    EXPECT(window(0x8041), NONE); /* the line is down */
+    EXPECT(window(0x18041), NONE);
+    EXPECT(line(3, 1), NONE);
+    EXPECT(window(0x8041), two(0x41, 1)); /* raised while masked */
+
+    start_20("other low words", 8, 0x8041);
+    EXPECT(window(0x41), NONE);
+    CHECK(io[3] == 0x41 && io[30] == 0); /* edge: Remote IRR goes, and nothing is sent */
+    EXPECT(window(0xd041), two(0x41, 1));
+    CHECK(io[3] == 0xc041); /* neither bit 12 nor 14 is the guest's */
+    EXPECT(window(0x8141), NONE);
+    CHECK(io[3] == 0xc141 && io[30] == 8);
+    EXPECT(io_eoi(0x41), two(8, 0)); /* not fixed: cleared, and not sent */
+    EXPECT(window(0x800f), NONE);
+    EXPECT(window(0x8010), two(0x10, 1));
+    EXPECT(window(0x8042), NONE);
+    EXPECT(io_eoi(0x10), NONE);
+    EXPECT(io_eoi(0x42), two(8, 8)); /* the vector that stands there now */
+
+    start_20("deferred and the low word", 8, 0x8041);
+    EXPECT(line(3, 1), NONE);
+    EXPECT(window(0xd041), NONE);
+    CHECK(io[24] == 8); /* the same word */
+    EXPECT(window(0x8043), NONE);
+    CHECK(io[24] == 0 && io[3] == 0xc043);
+    EXPECT(line(3, 1), NONE);
+    EXPECT(window(0x18043), NONE);
+    CHECK(io[24] == 0);
+
+    start_20("a high word", 8, 0x8041);
+    EXPECT(window(0x18041), NONE);
+    EXPECT(io_eoi(0x41), two(8, 0));
+    io[3] = 0x8041; /* made up: owed its interrupt */
+    EXPECT(select_register(0x17), NONE);
+    EXPECT(window(0x1000000), NONE);
+    CHECK(io[3] == 0x100000000008041);
+    EXPECT(select_register(0x16), NONE);
+    EXPECT(window(0x8041), two(0x41, 1)); /* the same low word sends what is owed */
+    io[3] |= 0x1000;
+    EXPECT(look(), one(0xc041)); /* bit 12 reads 0 */
+
+    start("masked, ended, unmasked in version 0x11");
+    EXPECT(select_register(0x16), NONE);
+    EXPECT(window(0x8041), NONE);
+    EXPECT(line(3, 1), two(0x41, 1));
+    EXPECT(window(0x19041), NONE);
+    EXPECT(look(), one(0x19041));
+    EXPECT(io_eoi(0x41), NONE);
+    EXPECT(window(0x8041), NONE);
+}
+
 static void versions(void)
 {
     start("version words");
@@ -975,6 +1047,7 @@ int main(void)
     shared_vectors();
     put_off_and_dropped();
     eoi_registers();
+    masked_in_flight();
     versions();
     cascade_rule();
     refusals_of_the_io_apic();

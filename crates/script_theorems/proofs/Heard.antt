@@ -65,7 +65,7 @@ pub io-apic-sends : IoApicSends
 unfolding scriptSends ioCalls startOf inTime sends performed
 io-apic-sends used g m [] h = refl
 io-apic-sends used g m (Io c ∷ cs) h =
-    ap (λ (n : ℕ). sent g (ioCall c) (performed m (Io c) .reply) + n)
+    ap (λ (n : ℕ). sent g (m .ioapic) (ioCall c) (performed m (Io c) .reply) + n)
     (io-apic-sends (usedAfter used (Io c)) g (performed m (Io c) .state) cs (later used (Io c) cs h)
     ∙ ap (λ (x : IoApicState). sends g x (ioCalls cs)) (no-choice (usedAfter used (Io c)) (performed m (Io c) .state .ioapic) cs refl (later used (Io c) cs h)))
 io-apic-sends used g m (IoVersion v ∷ cs) h =

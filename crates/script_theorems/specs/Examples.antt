@@ -1,6 +1,6 @@
 -- The numbered examples 1 to 12 of document 01, about the definitions: one list under one statement, computed. Each is a list of calls on a new machine, what
--- each of them says back (the number, and then the values), and what is looked at in the machine after them. And four more of the same form: of T-01, last spring's lines in
--- both versions; of T-02, examples 7 and 8 under the cascade rule.
+-- each of them says back (the number, and then the values), and what is looked at in the machine after them. And six more of the same form: of T-01, last spring's lines in
+-- both versions; of T-08, a line that is masked while it is served, in both; of T-02, examples 7 and 8 under the cascade rule.
 use Prim.Native.Nat.{ℕ, suc}
 use mathlib.Core.Bool.{Bool, true, false}
 use mathlib.Core.List.{List, [], _∷_, map}
@@ -244,8 +244,41 @@ springs =
     ∷ []
 
 pub springs-hold : Holds 1 2 springs
-unfolding vioapic.createdVersion set.with set.without set.outside set.lowest set.highest set.lastSet32 redirection.sendEntry redirection.raiseEntry redirection.lowerEntry redirection.endEntry redirection.endEntry20 redirection.writeLow redirection.writeHigh table.interruptForEntry table.setLevel table.firstAwaiting table.endOfEntry table.endOfEvery table.endOf table.vectorFor window.readFixed window.readWord window.readSelected window.writeWord window.writeSelected window.readAt window.writeEoi window.writeAt vioapic.assertGsi vioapic.setGsiLevel vioapic.endOfInterrupt vioapic.vectorForGsi vioapic.addressRange vioapic.handleRead vioapic.handleWrite ioapic.outcome ioapic.run newMachine machine.picOutcome machine.localOutcome performed afterCalls replies
+unfolding vioapic.createdVersion set.with set.without set.outside set.lowest set.highest set.lastSet32 redirection.sendEntry redirection.raiseEntry redirection.lowerEntry redirection.endEntry redirection.endEntry20 redirection.writeLow redirection.storeLow20 redirection.writeLow20 redirection.writeHigh table.interruptForEntry table.setLevel table.firstAwaiting table.endOfEntry table.endOfEvery table.endOf table.vectorFor window.readFixed window.readWord window.readSelected window.writeWord window.writeSelected window.readAt window.writeEoi window.writeAt vioapic.assertGsi vioapic.setGsiLevel vioapic.endOfInterrupt vioapic.vectorForGsi vioapic.addressRange vioapic.handleRead vioapic.handleWrite ioapic.outcome ioapic.run newMachine machine.picOutcome machine.localOutcome performed afterCalls replies
 springs-hold = ((refl, refl, refl), ((refl, refl, refl), refl))
+
+-- ---- T-08: a guest masks line 3 while it is served, and unmasks it after the EOI; the line stays up. In version 0x11 the mask ends the flight, the EOI finds nothing and the
+-- unmasking sends nothing; in version 0x20 Remote IRR stays, the EOI ends it, and the unmasking sends. There bit 12 isn't stored, and an edge word clears Remote IRR
+
+abbrev masked : IoApicVersion → List Call
+masked version =
+    IoVersion version ∷ select 0x16 ∷ write 0x8041 ∷ line 3 true ∷ write 0x18041 ∷ read ∷ eoi 0x41 ∷ write 0x8041 ∷ write 0x9041 ∷ read ∷ write 0x41 ∷ read ∷ []
+
+abbrev pub maskings : List Example
+maskings =
+    record {
+      number = 1;
+      calls = masked V11;
+      says =
+          (0 ∷ []) ∷ (0 ∷ []) ∷ (0 ∷ []) ∷ (0 ∷ 0x41 ∷ 1 ∷ []) ∷ (0 ∷ []) ∷ (0 ∷ 0x18041 ∷ []) ∷ (0 ∷ []) ∷ (0 ∷ []) ∷ (0 ∷ []) ∷ (0 ∷ 0x9041 ∷ [])
+          ∷ (0 ∷ []) ∷ (0 ∷ 0x41 ∷ []) ∷ [];
+      look = nothing;
+      seen = [];
+    }
+    ∷ record {
+      number = 2;
+      calls = masked V20;
+      says =
+          (0 ∷ []) ∷ (0 ∷ []) ∷ (0 ∷ []) ∷ (0 ∷ 0x41 ∷ 1 ∷ []) ∷ (0 ∷ []) ∷ (0 ∷ 0x1C041 ∷ []) ∷ (0 ∷ 8 ∷ 0 ∷ []) ∷ (0 ∷ 0x41 ∷ 1 ∷ []) ∷ (0 ∷ []) ∷ (0 ∷ 0xC041 ∷ [])
+          ∷ (0 ∷ []) ∷ (0 ∷ 0x41 ∷ []) ∷ [];
+      look = nothing;
+      seen = [];
+    }
+    ∷ []
+
+pub maskings-hold : Holds 1 2 maskings
+unfolding vioapic.createdVersion set.with set.without set.outside set.lowest set.highest set.lastSet32 redirection.sendEntry redirection.raiseEntry redirection.lowerEntry redirection.endEntry redirection.endEntry20 redirection.writeLow redirection.storeLow20 redirection.writeLow20 redirection.writeHigh table.interruptForEntry table.setLevel table.firstAwaiting table.endOfEntry table.endOfEvery table.endOf table.vectorFor window.readFixed window.readWord window.readSelected window.writeWord window.writeSelected window.readAt window.writeEoi window.writeAt vioapic.assertGsi vioapic.setGsiLevel vioapic.endOfInterrupt vioapic.vectorForGsi vioapic.addressRange vioapic.handleRead vioapic.handleWrite ioapic.outcome ioapic.run newMachine machine.picOutcome machine.localOutcome performed afterCalls replies
+maskings-hold = ((refl, refl, refl), ((refl, refl, refl), refl))
 
 -- ---- T-02: examples 7 and 8 under the cascade rule. Line 14 is answered once line 13 is done, and its request is gone; line 2, raised or restored, is no request
 

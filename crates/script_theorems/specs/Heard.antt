@@ -50,7 +50,7 @@ answers chip (c ∷ cs) = ioapic.outcome chip c .reply ∷ answers (ioapic.next 
 -- how often entry g is sent, read off the fields' answers
 unfoldable pub scriptSends : ℕ → Machine → List Call → ℕ
 scriptSends g m [] = 0
-scriptSends g m (c ∷ cs) = byPart (ioPart c) (λ d. sent g d (performed m c .reply)) (λ version. 0) 0 + scriptSends g (performed m c .state) cs
+scriptSends g m (c ∷ cs) = byPart (ioPart c) (λ d. sent g (m .ioapic) d (performed m c .reply)) (λ version. 0) 0 + scriptSends g (performed m c .state) cs
 
 -- the machine's I/O APIC after calls of which none is late, as those of every run (`InTime`), and what it answered
 abbrev pub IoApicRuns : Type 0
@@ -96,7 +96,8 @@ HeardInScripts =
     → throughout (demanded v (g .0)) (performed m (Io (SetGsiLevel g true)) .state .ioapic) (ioCalls after) ≡ true
     → scriptSends (g .0) m (callsAfter s a b) ≡ 1 + (eois v (ioCalls after) - lowerInFlight v (g .0) (m .ioapic))
 
--- and in version 0x20: the line stays up and the entry's low word the same, and nothing is asked of other entries; then each EOI of v, by either road, sends entry g once more
+-- and in version 0x20: the line stays up, and the entry unmasked, with its vector, delivery mode and trigger mode; nothing is asked of other entries. Then each EOI of v, by either road, sends
+-- entry g once more
 abbrev pub HeardInScripts20 : Type 0
 HeardInScripts20 =
     (s : List ℕ) (a b : ℕ) (g : Gsi) (v : Vector) (m : Machine) (after : List Call)

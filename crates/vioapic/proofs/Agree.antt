@@ -13,7 +13,7 @@ use Rattle.types.specs.declared.Vector.{Vector}
 use Rattle.vioapic_entry.specs.Redirection.{EntryStep, sendEntry, moveLine, endEntry}
 use Rattle.vioapic.specs.State.{IoApicState}
 use Rattle.vioapic.specs.Table.{Ending, entryAt, put, routeAt, unrouted, endAt, ending, interruptForEntry, setLevel, firstAwaiting, endOfEntry, endOfEvery, isVersion20, endOf}
-use Rattle.vioapic.specs.Registers.{isEntryWord, entryOf, writeWord, done, writeSelected, eoiWritten, writeEoi, withSelector, writeAt}
+use Rattle.vioapic.specs.Registers.{isEntryWord, entryOf, writeWord, done, entryWritten, writeSelected, eoiWritten, writeEoi, withSelector, writeAt}
 use Rattle.vioapic.specs.IoApic.{goodWidth, assertGsi, setGsiLevel, endOfInterrupt, handleWrite}
 use Rattle.vioapic.specs.Calls.{Call, SetGsiLevel, AssertGsi, EndOfInterrupt, VectorForGsi, AddressRange, HandleRead, HandleWrite, outcome, next, run}
 use Rattle.vioapic.specs.Agreement.{Agrees, endEachInTable, endOfEveryInTable, NewAgrees, CallsAgree, RunsAgree}
@@ -66,10 +66,10 @@ module _ (s : IoApicState) (k : Agrees s) where
   window x = go (isEntryWord (s .selector)) refl
     where
       go : (b : Bool) → isEntryWord (s .selector) ≡ b
-          → Agrees (cond b (done (put s (entryOf (s .selector)) (writeWord (s .selector) (entryAt s (entryOf (s .selector))) x))) (done s) .state)
+          → Agrees (cond b (entryWritten s (entryOf (s .selector)) (writeWord (isVersion20 s) (s .selector) (entryAt s (entryOf (s .selector))) x)) (done s) .state)
       go true e =
           let r = entry-word-range (s .selector) e in
-          put-agrees s (entryOf (s .selector)) (writeWord (s .selector) (entryAt s (entryOf (s .selector))) x) k (omega (arith, r .0, r .1))
+          put-agrees s (entryOf (s .selector)) (writeWord (isVersion20 s) (s .selector) (entryAt s (entryOf (s .selector))) x .entry) k (omega (arith, r .0, r .1))
       go false e = k
 
   eoi : (x : ℕ) → Agrees (writeEoi s x .state)

@@ -5,7 +5,7 @@ use mathlib.Core.Path.{_≡_, refl}
 use Prim.Native.Nat.{ℕ}
 use Rattle.utils.specs.Set.{with, without}
 use Rattle.types.specs.Reply.{replyValues}
-use Rattle.vioapic_entry.specs.Redirection.{sendEntry, raiseEntry, endEntry, endEntry20, writeLow, writeHigh}
+use Rattle.vioapic_entry.specs.Redirection.{sendEntry, raiseEntry, endEntry, endEntry20, writeLow, writeHigh, storeLow20, writeLow20}
 use Rattle.vioapic.specs.Table.{setLevel, interruptForEntry, firstAwaiting, endOfEntry, endOfEvery, endOf}
 use Rattle.vioapic.specs.Registers.{readFixed, readWord, readSelected, writeWord, writeSelected, writeEoi, readAt, writeAt}
 use Rattle.vioapic.specs.IoApic.{chipOf, setGsiLevel, assertGsi, endOfInterrupt, handleRead, handleWrite}
@@ -18,24 +18,24 @@ after version cs c = replyValues (outcome (run (run (chipOf version 0 0x1000) (s
 
 -- the EOI register: none in version 0x11
 pub eoi-register : (after 0x11 (assert 0 ∷ HandleWrite 0x40 4 0x30 ∷ []) (eoi 0x30) ≡ 0 ∷ []) × (after 0x20 (assert 0 ∷ HandleWrite 0x40 4 0x30 ∷ []) (eoi 0x30) ≡ [])
-unfolding run outcome with without setGsiLevel assertGsi endOfInterrupt handleWrite setLevel interruptForEntry firstAwaiting endOfEntry endOfEvery endOf writeWord writeSelected writeEoi writeAt sendEntry raiseEntry endEntry endEntry20 writeLow writeHigh
+unfolding run outcome with without setGsiLevel assertGsi endOfInterrupt handleWrite setLevel interruptForEntry firstAwaiting endOfEntry endOfEvery endOf writeWord writeSelected writeEoi writeAt sendEntry raiseEntry endEntry endEntry20 writeLow writeHigh storeLow20 writeLow20
 eoi-register = (refl, refl)
 
 -- an entry that was sent is found by the EOI, and one that has ended isn't
 pub noted-case : (after 0x11 (assert 1 ∷ []) (eoi 0x30) ≡ 1 ∷ []) × (after 0x11 (assert 1 ∷ eoi 0x30 ∷ []) (eoi 0x30) ≡ [])
-unfolding run outcome with without assertGsi endOfInterrupt handleWrite interruptForEntry firstAwaiting endOfEntry endOf writeWord writeSelected writeAt sendEntry endEntry writeLow writeHigh
+unfolding run outcome with without assertGsi endOfInterrupt handleWrite interruptForEntry firstAwaiting endOfEntry endOf writeWord writeSelected writeAt sendEntry endEntry writeLow writeHigh storeLow20 writeLow20
 noted-case = (refl, refl)
 
 -- of two entries in flight with one vector version 0x11 ends the lower one, and version 0x20 both, of which it names those sent again
 pub ended-case :
     (after 0x11 (assert 0 ∷ assert 1 ∷ []) (eoi 0x30) ≡ 0 ∷ []) × (after 0x20 (assert 0 ∷ raise 1 ∷ []) (eoi 0x30) ≡ 3 ∷ 2 ∷ [])
     × (after 0x20 (assert 0 ∷ raise 1 ∷ eoi 0x30 ∷ []) (eoi 0x30) ≡ 2 ∷ 2 ∷ [])
-unfolding run outcome with without setGsiLevel assertGsi endOfInterrupt handleWrite setLevel interruptForEntry firstAwaiting endOfEntry endOfEvery endOf writeWord writeSelected writeAt sendEntry raiseEntry endEntry endEntry20 writeLow writeHigh
+unfolding run outcome with without setGsiLevel assertGsi endOfInterrupt handleWrite setLevel interruptForEntry firstAwaiting endOfEntry endOfEvery endOf writeWord writeSelected writeAt sendEntry raiseEntry endEntry endEntry20 writeLow writeHigh storeLow20 writeLow20
 ended-case = (refl, refl, refl)
 
 -- and an entry that has ended isn't among the lines in flight, in either version
 pub flight-case :
     (run (chipOf 0x11 0 0x1000) (select 0x10 ∷ write 0x8030 ∷ assert 0 ∷ eoi 0x30 ∷ []) .«in_flight» ≡ 0)
     × (run (chipOf 0x20 0 0x1000) (select 0x10 ∷ write 0x8030 ∷ assert 0 ∷ eoi 0x30 ∷ []) .«in_flight» ≡ 0)
-unfolding run outcome with without assertGsi endOfInterrupt handleWrite interruptForEntry firstAwaiting endOfEntry endOfEvery endOf writeWord writeSelected writeAt sendEntry endEntry endEntry20 writeLow writeHigh
+unfolding run outcome with without assertGsi endOfInterrupt handleWrite interruptForEntry firstAwaiting endOfEntry endOfEvery endOf writeWord writeSelected writeAt sendEntry endEntry endEntry20 writeLow writeHigh storeLow20 writeLow20
 flight-case = (refl, refl)

@@ -1,24 +1,27 @@
 -- What the code does to an entry in place, part by part, is the entry's rule: l are the words before, w those after. Assumes nothing.
 use Prim.Native.Nat.{ℕ, _%_, _^_, _<_}
 use native.Mathlib.Omega.{arith}
-use mathlib.Core.Bool.{Bool, true, false, not, _&&_, _||_}
+use mathlib.Core.Bool.{Bool, true, false, not, cond, _&&_, _||_}
 use mathlib.Core.List.{List}
 use mathlib.Core.Path.{_≡_, refl, sym, _∙_, ap, ap₂}
-use borrow.Author.Tests.{not-true, not-false}
+use borrow.Author.Tests.{eqb-true, not-true, not-false}
+use lib.Dec.{eqb}
 use lib.ListN.{length, getD, set, length-set}
 use lib.Seq.{getD-set-same, set-getD, set-set}
-use Rattle.utils.specs.Set.{marked}
+use Rattle.utils.specs.Set.{bit, marked}
+use Rattle.utils.proofs.Laws.{bit-above}
+use Rattle.utils.proofs.Bools.{never, both, and-true}
 use Rattle.utils.specs.Cases.{and-yes, and-left-no, and-right-no, or-left-yes, or-right-yes, or-no}
-use Rattle.vioapic_entry.specs.Redirection.{EntryStep, vectorOf, isFit, isLevel, isMasked, remoteIrr, sameLow, withRemoteIrr, withoutRemoteIrr, replaceLow, replaceHigh, withWord, withDeferred, withInput, quietly, sending, sendEntry, raiseEntry, lowerEntry, moveLine, endEntry, endEntry20, writeLow, writeHigh}
-use Rattle.vioapic_entry.proofs.EntryLaws.{send-unfit, send-edge, send-later, send-level, raise-again, raise-new, lower-is, end-up, end-deferred, end-quiet, end20-asks, end20-quiet, resend-fit, resend-unfit, low-masked, low-same, low-changed, high-is}
-use Rattle.vioapic_entry.proofs.Fields.{alike-with, same-level, irr-with, irr-without, irr-low, irr-high}
+use Rattle.vioapic_entry.specs.Redirection.{EntryStep, vectorOf, isFit, isLevel, isMasked, remoteIrr, sameLow, withRemoteIrr, withoutRemoteIrr, replaceLow, replaceHigh, withWord, withDeferred, withInput, quietly, sending, sendEntry, raiseEntry, lowerEntry, moveLine, endEntry, endEntry20, writeLow, writeHigh, withoutStatus, replaceLow20, keepsDeferred, storeLow20, isOwed, writeLow20}
+use Rattle.vioapic_entry.proofs.EntryLaws.{send-unfit, send-edge, send-later, send-level, raise-again, raise-new, lower-is, end-up, end-deferred, end-quiet, end20-asks, end20-quiet, resend-fit, resend-unfit, low-masked, low-same, low-changed, low20-owed, low20-quiet, low20-resting, owed-level, high-is}
+use Rattle.vioapic_entry.proofs.Fields.{alike-with, alike-low20, same-level, irr-with, irr-without, irr-low, irr-low20, irr-high}
 use Rattle.vioapic_entry.specs.declared.Entry.{Entry}
 use Rattle.vioapic_entry.specs.declared.Routed.{Routed}
 use Rattle.vioapic_entry.specs.declared.Routed.the-variants.{NotRouted, Interrupt}
 use Rattle.vioapic.specs.State.{IoApicState, view}
 use Rattle.vioapic.specs.Table.{noEntry, routing, withFlight, noted, put, routeAt, entryAt}
-use Rattle.vioapic.specs.Inside.{Keeps, putFlag, parts}
-use Rattle.vioapic.proofs.Words.{view-long, word-at, word-is, deferred-is, input-is, flight-is, still, then, so-that}
+use Rattle.vioapic.specs.Inside.{Keeps, putFlag, parts, NoneDeferred, Resting, forgetting, StoredLow}
+use Rattle.vioapic.proofs.Words.{view-long, word-at, deferred-at, word-is, deferred-is, input-is, flight-is, still, then, so-that}
 
 -- ---- an entry that is put
 
@@ -294,3 +297,121 @@ module _ (l : List ℕ) (g word x : ℕ) (at : word ≡ entryAt (view l) g .word
 
     pub low-written-same : b ≡ false → Keeps l l (view l ≡ put (view l) g (writeLow (entryAt (view l) g) x))
     low-written-same h = still l (sym (put-back (view l) g (writeLow (entryAt (view l) g) x) (low-same (entryAt (view l) g) x (sames true (not-false a is)) (masks false h))))
+
+-- ---- the guest's writes, version 0x20
+
+module _ (l : List ℕ) (g word x : ℕ) (at : word ≡ entryAt (view l) g .word) where
+  module _ (a : Bool) (is : a ≡ keepsDeferred word x) where
+    forgets : (b : Bool) → a ≡ b → forgetting (entryAt (view l) g) x ≡ cond b (entryAt (view l) g) (withDeferred (entryAt (view l) g) false)
+    forgets b h = ap (λ (c : Bool). cond c (entryAt (view l) g) (withDeferred (entryAt (view l) g) false)) (ap (λ (n : ℕ). keepsDeferred n x) (sym at) ∙ sym is ∙ h)
+
+    pub forgot-nothing : a ≡ true → Keeps l l (view l ≡ put (view l) g (forgetting (entryAt (view l) g) x))
+    forgot-nothing h = still l (sym (put-back (view l) g (forgetting (entryAt (view l) g) x) (forgets true h)))
+
+    pub forgot : (w : List ℕ) → a ≡ false → Keeps l w (view w ≡ put (view l) g (withDeferred (entryAt (view l) g) false)) → Keeps l w (view w ≡ put (view l) g (forgetting (entryAt (view l) g) x))
+    forgot w h k = so-that k (λ p. p ∙ ap (put (view l) g) (sym (forgets false h)))
+
+  -- the register is stored after that
+  module _ (u : List ℕ) (y : ℕ) (here : g < 24) (new : y ≡ replaceLow20 word x) (left : Keeps l u (view u ≡ put (view l) g (forgetting (entryAt (view l) g) x))) where
+    forgot-word : forgetting (entryAt (view l) g) x .word ≡ entryAt (view l) g .word
+    forgot-word = both (λ (e : Entry). e .word ≡ entryAt (view l) g .word) (keepsDeferred (entryAt (view l) g .word) x) (entryAt (view l) g) (withDeferred (entryAt (view l) g) false) refl refl
+
+    forgot-at : entryAt (view u) g ≡ forgetting (entryAt (view l) g) x
+    forgot-at = ap (λ (s : IoApicState). entryAt s g) (left .is) ∙ at-put (view l) g (forgetting (entryAt (view l) g) x) (view-long l) here
+
+    pub word-forgot : word ≡ entryAt (view u) g .word
+    word-forgot = at ∙ sym (ap (λ (e : Entry). e .word) forgot-at ∙ forgot-word)
+
+    pub stored20 : (w : List ℕ) → Keeps u w (view w ≡ put (view u) g (withWord (entryAt (view u) g) y))
+        → Keeps l w (StoredLow (view l) (view w) g x y)
+    unfolding storeLow20
+    stored20 w k =
+        let f : Entry = forgetting (entryAt (view l) g) x in
+        let q : y ≡ replaceLow20 (entryAt (view l) g .word) x = new ∙ ap (λ (n : ℕ). replaceLow20 n x) at in
+        then left k
+        (λ p r. record {
+          state =
+              r ∙ ap (λ (s : IoApicState). put s g (withWord (entryAt (view u) g) y)) p ∙ put-put (view l) g f (view-long l) here (withWord (entryAt (view u) g) y) (ap remoteIrr forgot-word)
+              ∙ ap (put (view l) g) (ap₂ (λ (z : Entry) (n : ℕ). withWord z n) forgot-at q);
+          register = sym (ap (λ (s : IoApicState). entryAt s g .word) r ∙ ap (λ (e : Entry). e .word) (at-put (view u) g (withWord (entryAt (view u) g) y) (view-long u) here));
+        })
+
+-- a low word flies only if it flew
+pub flew : (word x y : ℕ) → y ≡ replaceLow20 word x → remoteIrr y ≡ true → remoteIrr word ≡ true
+flew word x y q h = and-true (isLevel x) (remoteIrr word) (sym (irr-low20 word x) ∙ ap remoteIrr (sym q) ∙ h) .1
+
+pub replaced-flying : (l w : List ℕ) (g word y : ℕ) (b : Bool) → length l ≡ 32 → g < 24 → word ≡ entryAt (view l) g .word → (remoteIrr y ≡ true → remoteIrr word ≡ true) → b ≡ remoteIrr y → b ≡ true → w ≡ set l g y
+    → Keeps l w (view w ≡ put (view l) g (withWord (entryAt (view l) g) y))
+replaced-flying l w g word y b long here at f is h q =
+    let i : remoteIrr y ≡ true = sym is ∙ h in
+    rw q (so-that (word-is l g long here y) (λ p. p ∙ put-same (view l) g (withWord (entryAt (view l) g) y) (i ∙ sym (ap remoteIrr (sym at) ∙ f i))))
+
+-- nothing is deferred
+pub none-deferred : (l : List ℕ) → eqb (getD l 24 0) 0 ≡ true → NoneDeferred (view l)
+none-deferred l h g i =
+    let z : getD l 24 0 ≡ 0 = eqb-true (getD l 24 0) 0 h in
+    sym (deferred-at l g false i (sym (ap (λ (n : ℕ). bit n g) z ∙ bit-above 0 0 g (omega arith) (omega arith))))
+
+-- at rest with the line down
+pub not-resting : (e : Entry) → false ≡ true → Resting e
+not-resting e h = never h refl
+
+pub resting : (l : List ℕ) (g word : ℕ) (a b c : Bool) → g < 24 → word ≡ entryAt (view l) g .word → a ≡ remoteIrr word → a ≡ false → (b ≡ true → NoneDeferred (view l)) → not b ≡ false
+    → c ≡ entryAt (view l) g .«input_level» → not c ≡ true → Resting (entryAt (view l) g)
+resting l g word a b c i at flies h none n line d =
+    record { still = ap remoteIrr (sym at) ∙ sym flies ∙ h; undeferred = none (not-false b n) g i; down = sym line ∙ not-true c d }
+
+pub low20-rested : (l w : List ℕ) (g word x y : ℕ) (b : Bool) → word ≡ entryAt (view l) g .word → (b ≡ true → Resting (entryAt (view l) g)) → b ≡ true → y ≡ replaceLow word (withoutStatus x)
+    → Keeps l w (view w ≡ put (view l) g (withWord (entryAt (view l) g) y)) → Keeps l w (routing (view w) NotRouted ≡ routeAt (view l) g (writeLow20 (entryAt (view l) g) x))
+low20-rested l w g word x y b at is h q k =
+    let e : Entry = entryAt (view l) g in
+    let r : Resting e = is h in
+    steps l w g (withWord e y) NotRouted (writeLow20 e x) k
+    (low20-resting e x (r .still) (r .undeferred) (r .down) ∙ ap (λ (n : ℕ). quietly (withWord e n)) (sym (q ∙ ap (λ (n : ℕ). replaceLow n (withoutStatus x)) at)))
+
+-- what is owed
+module _ (l : List ℕ) (g word : ℕ) (at : word ≡ entryAt (view l) g .word) (a : Bool) (level : a ≡ isLevel word) where
+  pub unowed-edge : not a ≡ true → false ≡ isOwed (entryAt (view l) g)
+  unowed-edge h = let p : isLevel (entryAt (view l) g .word) ≡ false = ap isLevel (sym at) ∙ sym level ∙ not-true a h in rw p
+
+  module _ (b : Bool) (there : not a ≡ false) (flies : b ≡ remoteIrr word) where
+    owes : (c : Bool) → b ≡ c → isOwed (entryAt (view l) g) ≡ (not c && entryAt (view l) g .«input_level»)
+    owes c h =
+        let p : isLevel (entryAt (view l) g .word) ≡ true = ap isLevel (sym at) ∙ sym level ∙ not-false a there in
+        let q : remoteIrr (entryAt (view l) g .word) ≡ c = ap remoteIrr (sym at) ∙ sym flies ∙ h in
+        rw (p, q)
+
+    pub unowed-flying : b ≡ true → false ≡ isOwed (entryAt (view l) g)
+    unowed-flying h = sym (owes true h)
+
+    pub owed-up : (c : Bool) → b ≡ false → c ≡ entryAt (view l) g .«input_level» → c ≡ isOwed (entryAt (view l) g)
+    owed-up c h q = q ∙ sym (owes false h)
+
+-- the entry as it is stored, and what it is owed
+module _ (l u : List ℕ) (g x word : ℕ) (here : g < 24) (stored : Keeps l u (StoredLow (view l) (view u) g x word)) where
+  stored-at : entryAt (view u) g ≡ storeLow20 (entryAt (view l) g) x
+  stored-at = ap (λ (s : IoApicState). entryAt s g) (stored .is .state) ∙ at-put (view l) g (storeLow20 (entryAt (view l) g) x) (view-long l) here
+
+  module _ (b : Bool) (is : b ≡ isOwed (entryAt (view u) g)) where
+    owing : (c : Bool) → b ≡ c → isOwed (storeLow20 (entryAt (view l) g) x) ≡ c
+    owing c h = ap isOwed (sym stored-at) ∙ sym is ∙ h
+
+    -- a level word flies as it did
+    as-before : b ≡ true → remoteIrr (storeLow20 (entryAt (view l) g) x .word) ≡ remoteIrr (entryAt (view l) g .word)
+    unfolding storeLow20
+    as-before h =
+        let w : ℕ = entryAt (view l) g .word in
+        let p : isLevel (replaceLow20 w x) ≡ true = owed-level (storeLow20 (entryAt (view l) g) x) (owing true h) in
+        irr-low20 w x ∙ ap (λ (c : Bool). c && remoteIrr w) (sym (same-level (alike-low20 w x)) ∙ p)
+
+    pub low20-sent : (w : List ℕ) (r : Routed) → b ≡ true → Keeps u w (routing (view w) r ≡ routeAt (view u) g (sendEntry (entryAt (view u) g)))
+        → Keeps l w (routing (view w) r ≡ routeAt (view l) g (writeLow20 (entryAt (view l) g) x))
+    low20-sent w r h k =
+        moves l u w g (storeLow20 (entryAt (view l) g) x) r (writeLow20 (entryAt (view l) g) x) (sendEntry (entryAt (view u) g)) here (as-before h)
+        (so-that stored (λ p. p .state)) k
+        (low20-owed (entryAt (view l) g) x (owing true h) ∙ ap sendEntry (sym stored-at))
+
+    pub low20-unsent : b ≡ false → Keeps l u (routing (view u) NotRouted ≡ routeAt (view l) g (writeLow20 (entryAt (view l) g) x))
+    low20-unsent h =
+        steps l u g (storeLow20 (entryAt (view l) g) x) NotRouted (writeLow20 (entryAt (view l) g) x) (so-that stored (λ p. p .state))
+        (low20-quiet (entryAt (view l) g) x (owing false h))

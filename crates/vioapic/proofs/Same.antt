@@ -1,17 +1,19 @@
--- Nothing is lost in an outcome: each answer can be read back from its reply, so equal outcomes come from equal results. Assumes nothing.
+-- Nothing is lost in an outcome: each answer can be read back from its reply, a write's with its address, so equal outcomes come from equal results. Assumes nothing.
 use Prim.Native.Nat.{ℕ, zero, suc, _+_, _-_, _/_, _%_, _^_, _<_}
 use native.Mathlib.Nat.{mod-lt}
 use native.Mathlib.Omega.{arith}
-use mathlib.Core.Bool.{Bool, true, false}
+use mathlib.Core.Bool.{Bool, true, false, cond}
 use mathlib.Core.List.{List}
-use mathlib.Core.Path.{_≡_, refl, sym, _∙_, ap}
+use mathlib.Core.Path.{_≡_, refl, sym, _∙_, ap, subst⁻¹}
 use borrow.Author.Tests.{ltb-true, ltb-false}
-use lib.Dec.{ltb, lit<}
+use lib.Dec.{eqb, ltb, leb, lit<}
 use lib.ListN.{length, getD}
 use lib.Seq.{ext-getD}
 use Rattle.utils.specs.Set.{bit}
+use Rattle.utils.proofs.Bools.{never}
 use Rattle.utils.proofs.Laws.{same-bits, bit-cut}
 use Rattle.types.specs.Reply.{Outcome}
+use Rattle.types.specs.declared.Refusal.the-variants.{Unsupported, InvalidAddress}
 use Rattle.types.specs.declared.Reply.{Reply}
 use Rattle.types.specs.declared.Reply.the-variants.{Refused, Nothing, One, Two, Three}
 use Rattle.vioapic_entry.proofs.Same.{same, interruptOf, interrupt-back, routedOf, routed-back}
@@ -20,11 +22,12 @@ use Rattle.vioapic_entry.specs.declared.Routed.{Routed}
 use Rattle.vioapic_entry.specs.declared.Routed.the-variants.{NotRouted, Interrupt}
 use Rattle.vioapic.specs.Answers.{eoiReply, gsiVectorReply, readReply, writtenReply, rangeReply}
 use Rattle.vioapic_entry.specs.declared.Entry.{Entry}
+use Rattle.vioapic_entry.specs.Redirection.{EntryStep}
 use Rattle.vioapic.specs.State.{IoApicState, entryIn, view, spare, Whole}
-use Rattle.vioapic.specs.Table.{Routing, Ending, routing, ending, entryAt}
-use Rattle.vioapic.specs.Registers.{Writing, writing}
+use Rattle.vioapic.specs.Table.{Routing, Ending, routing, ending, isVersion20, entryAt, endOfEvery}
+use Rattle.vioapic.specs.Registers.{Writing, writing, done, isEntryWord, entryOf, writeWord, writtenSend, entryWritten, writeSelected, writtenBy, eoiWritten, writeEoi, withSelector, writeAt}
 use Rattle.vioapic.proofs.Words.{view-at}
-use Rattle.vioapic.specs.IoApic.{routingOutcome, endingOutcome, writingOutcome}
+use Rattle.vioapic.specs.IoApic.{routingOutcome, endingOutcome, writingOutcome, goodWidth, handleWriting}
 use Rattle.vioapic.specs.declared.Eoi.{Eoi}
 use Rattle.vioapic.specs.declared.Eoi.the-variants.{NotEnded, Ended, EndedAll}
 use Rattle.vioapic.specs.declared.GsiVector.{GsiVector}
@@ -88,20 +91,37 @@ read-back (NotRead why) = refl
 pub read-reply-same : (a b : Read) → readReply a ≡ readReply b → a ≡ b
 read-reply-same = same readReply readOf read-back
 
-abbrev writtenOf : Reply → Written
-writtenOf (Refused why) = written.NotWritten why
-writtenOf Nothing = written.Done
-writtenOf (One a) = written.Done
-writtenOf (Two cleared sent) = written.EndedAll (record { cleared = cleared; sent = sent })
-writtenOf (Three a b c) = written.Done
+-- a write that sends and one that is an EOI may have the same reply
+pub written-reply-shared :
+    writtenReply (written.Sent (record { vector = record { 0 = 0x30 }; «level_triggered» = true })) ≡ writtenReply (written.EndedAll (record { cleared = 0x30; sent = 1 }))
+written-reply-shared = refl
 
-written-back : (r : Written) → writtenOf (writtenReply r) ≡ r
-written-back written.Done = refl
-written-back (written.EndedAll e) = refl
-written-back (written.NotWritten why) = refl
+-- but only a write to the window sends, and it is no EOI
+abbrev pub Tells : Bool → Written → Type 0
+Tells window written.Done = Unit
+Tells window (written.Sent i) = window ≡ true
+Tells window (written.EndedAll e) = window ≡ false
+Tells window (written.NotWritten why) = Unit
 
-pub written-reply-same : (a b : Written) → writtenReply a ≡ writtenReply b → a ≡ b
-written-reply-same = same writtenReply writtenOf written-back
+abbrev writtenOf : Bool → Reply → Written
+writtenOf window (Refused why) = written.NotWritten why
+writtenOf window Nothing = written.Done
+writtenOf window (One a) = written.Done
+writtenOf true (Two v l) = written.Sent (interruptOf v l)
+writtenOf false (Two cleared sent) = written.EndedAll (record { cleared = cleared; sent = sent })
+writtenOf window (Three a b c) = written.Done
+
+written-back : (window : Bool) (r : Written) → Tells window r → writtenOf window (writtenReply r) ≡ r
+written-back window written.Done t = refl
+written-back true (written.Sent i) t = ap written.Sent (interrupt-back i)
+written-back false (written.Sent i) t = never t refl
+written-back true (written.EndedAll e) t = never refl t
+written-back false (written.EndedAll e) t = refl
+written-back window (written.NotWritten why) t = refl
+
+-- so with the place of the write known, nothing is lost
+pub written-reply-same : (window : Bool) (a b : Written) → Tells window a → Tells window b → writtenReply a ≡ writtenReply b → a ≡ b
+written-reply-same window a b t u e = sym (written-back window a t) ∙ ap (writtenOf window) e ∙ written-back window b u
 
 abbrev rangeOf : Reply → AddressRange
 rangeOf (Refused why) = NoRange why
@@ -129,10 +149,54 @@ ending-same =
     same endingOutcome (λ (o : Outcome IoApicState). ending (o .state) (eoiOf (o .reply)))
     (λ a. ap (ending (a .state)) (eoi-back (a .answer)))
 
-pub writing-same : (a b : Writing) → writingOutcome a ≡ writingOutcome b → a ≡ b
-writing-same =
-    same writingOutcome (λ (o : Outcome IoApicState). writing (o .state) (writtenOf (o .reply)))
-    (λ a. ap (writing (a .state)) (written-back (a .answer)))
+-- of a write, with its place
+abbrev atWindow : IoApicState → ℕ → Bool
+atWindow m addr = eqb (addr - m .base) 0x10
+
+send-tells : (r : Routed) → Tells true (writtenSend r)
+send-tells NotRouted = tt
+send-tells (Interrupt i) = refl
+
+eoi-tells : (r : Eoi) → Tells false (writtenBy r)
+eoi-tells NotEnded = tt
+eoi-tells (Ended e) = tt
+eoi-tells (EndedAll e) = refl
+
+write-tells : (s : IoApicState) (offset x : ℕ) → Tells (eqb offset 0x10) (writeAt s offset x .answer)
+unfolding writeAt writeSelected writeEoi
+write-tells s offset x = go (eqb offset 0) (eqb offset 0x10) (eqb offset 0x40) (isEntryWord (s .selector)) (isVersion20 s)
+  where
+    step : EntryStep
+    step = writeWord (isVersion20 s) (s .selector) (entryAt s (entryOf (s .selector))) x
+
+    go : (a b c d n : Bool)
+        → Tells b (cond a (done (withSelector s x)) (cond b (cond d (entryWritten s (entryOf (s .selector)) step) (done s)) (cond c (cond n (eoiWritten (endOfEvery s (record { 0 = x % 2 ^ 8 }))) (done s)) (done s))) .answer)
+    go true b c d n = tt
+    go false true c true n = send-tells (step .answer)
+    go false true c false n = tt
+    go false false true d true = eoi-tells (endOfEvery s (record { 0 = x % 2 ^ 8 }) .answer)
+    go false false true d false = tt
+    go false false false d n = tt
+
+pub handled-tells : (m : IoApicState) (addr width x : ℕ) → Tells (atWindow m addr) (handleWriting m addr width x .answer)
+handled-tells m addr width x = go (goodWidth width) (leb (m .base) addr)
+  where
+    go : (a b : Bool)
+        → Tells (atWindow m addr) (cond a (cond b (writeAt m (addr - m .base) (x % 2 ^ 32)) (writing m (written.NotWritten InvalidAddress))) (writing m (written.NotWritten Unsupported)) .answer)
+    go true true = write-tells m (addr - m .base) (x % 2 ^ 32)
+    go true false = tt
+    go false b = tt
+
+-- two writes at one address of chips at one base
+pub writing-same : (m n : IoApicState) (addr width other x y : ℕ) → m .base ≡ n .base
+    → writingOutcome (handleWriting m addr width x) ≡ writingOutcome (handleWriting n addr other y) → handleWriting m addr width x ≡ handleWriting n addr other y
+writing-same m n addr width other x y h e =
+    let a : Writing = handleWriting m addr width x in
+    let b : Writing = handleWriting n addr other y in
+    let t : Tells (atWindow m addr) (b .answer) = subst⁻¹ (λ (k : ℕ). Tells (eqb (addr - k) 0x10) (b .answer)) h (handled-tells n addr other y) in
+    let p : a .state ≡ b .state = ap (λ (o : Outcome IoApicState). o .state) e in
+    let q : a .answer ≡ b .answer = written-reply-same (atWindow m addr) (a .answer) (b .answer) (handled-tells m addr width x) t (ap (λ (o : Outcome IoApicState). o .reply) e) in
+    λ i. writing (p i) (q i)
 
 -- ---- words
 

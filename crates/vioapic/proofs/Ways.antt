@@ -16,15 +16,15 @@ use Rattle.types.specs.declared.Refusal.the-variants.{Unsupported, InvalidAddre
 use Rattle.types.specs.declared.Gsi.{Gsi}
 use Rattle.types.specs.declared.Vector.{Vector}
 use Rattle.vioapic_entry.specs.Answers.{routedReply}
-use Rattle.vioapic_entry.specs.Redirection.{vectorOf, isFit, sendEntry, raiseEntry, lowerEntry, moveLine, endEntry, writeLow, writeHigh}
+use Rattle.vioapic_entry.specs.Redirection.{EntryStep, vectorOf, isFit, withoutStatus, quietly, sendEntry, raiseEntry, lowerEntry, moveLine, endEntry, writeLow, writeHigh, writeLow20}
 use Rattle.vioapic_entry.specs.declared.Entry.{Entry}
 use Rattle.vioapic_entry.specs.declared.Routed.{Routed}
 use Rattle.vioapic_entry.specs.declared.Routed.the-variants.{NotRouted, Interrupt}
 use Rattle.vioapic.specs.Answers.{eoiReply, gsiVectorReply, writtenReply}
 use Rattle.vioapic.specs.State.{IoApicState, view, entriesFrom, spare, newWords}
 use Rattle.vioapic.specs.Table.{Routing, Ending, routing, ending, entryAt, put, routeAt, unrouted, interruptForEntry, setLevel, isVersion20, firstAwaiting, endOfEntry, everyAnswer, endOfEvery, endOf, vectorOfEntry, vectorFor}
-use Rattle.vioapic.specs.Registers.{Writing, isEntryWord, entryOf, isLow, readWord, readFixed, readSelected, writeWord, writing, writeSelected, writeAt, done, writtenBy, writeEoi, readAt}
-use Rattle.vioapic.specs.IoApic.{routingOutcome, endingOutcome, writingOutcome, goodWidth, fits, versionNumber, versionOf, isVersion, chipOf, chipAt, newDefault, refuse, Untouched, Leaves, newOr, Makes, createdVersion, vectorForGsi, addressRange, assertGsi, setGsiLevel, endOfInterrupt, handleRead, handleWrite}
+use Rattle.vioapic.specs.Registers.{Writing, isEntryWord, entryOf, isLow, readWord, readFixed, readLow, readSelected, writeWord, writing, writtenSend, entryWritten, writeSelected, writeAt, done, writtenBy, writeEoi, readAt}
+use Rattle.vioapic.specs.IoApic.{routingOutcome, endingOutcome, writingOutcome, goodWidth, fits, versionNumber, versionOf, isVersion, chipOf, chipAt, newDefault, refuse, Untouched, Leaves, Wrote, newOr, Makes, createdVersion, vectorForGsi, addressRange, assertGsi, setGsiLevel, endOfInterrupt, handleRead, handleWriting, handleWrite}
 use Rattle.vioapic.specs.Inside.{Keeps, withLow, everyEnd, everyEnding, clearedIn, sentIn}
 use Rattle.vioapic.specs.declared.Ends.{Ends}
 use Rattle.vioapic.specs.declared.IoApicVersion.{IoApicVersion}
@@ -143,30 +143,47 @@ module _ (l : List ℕ) (sel : ℕ) (b : Bool) (is : sel ≡ view l .selector) (
   found : (c : Bool) → b ≡ c → isEntryWord (view l .selector) ≡ c
   found c h = sym (there ∙ ap isEntryWord is) ∙ h
 
-  pub read-entry : (g r : ℕ) (e : Entry) → b ≡ true → g ≡ entryOf sel → e ≡ entryAt (view l) g → r ≡ readWord sel e → r ≡ readSelected (view l)
+  pub read-entry : (g r : ℕ) (e : Entry) (n : Bool) → b ≡ true → g ≡ entryOf sel → e ≡ entryAt (view l) g → n ≡ isVersion20 (view l) → r ≡ readWord n sel e → r ≡ readSelected (view l)
   unfolding readSelected
-  read-entry g r e h a c d = rw (found true h, ← is, ← a, ← c) d
+  read-entry g r e n h a c v d = rw (found true h, ← is, ← a, ← c, ← v) d
 
   pub read-other : (r : ℕ) → b ≡ false → r ≡ readFixed (getD l 29 0) sel → r ≡ readSelected (view l)
   unfolding readSelected
   read-other r h d = rw (found false h, ← is, ← version-at l) d
 
   module _ (x g : ℕ) (w : List ℕ) (c : Bool) (yes : b ≡ true) (which : g ≡ entryOf sel) (low : c ≡ isLow sel) where
-    entry-written : (f : Entry → Entry) → ((e : Entry) → f e ≡ writeWord sel e x) → Keeps l w (view w ≡ put (view l) g (f (entryAt (view l) g))) → Keeps l w (done (view w) ≡ writeSelected (view l) x)
+    entry-written : (a : Routed) (f : Entry → EntryStep) → ((e : Entry) → f e ≡ writeWord (isVersion20 (view l)) sel e x)
+        → Keeps l w (routing (view w) a ≡ routeAt (view l) g (f (entryAt (view l) g))) → Keeps l w (writing (view w) (writtenSend a) ≡ writeSelected (view l) x)
     unfolding writeSelected
-    entry-written f q k = so-that k (λ y. rw (y, q (entryAt (view l) g), which, is, found true yes))
+    entry-written a f q k =
+        so-that k
+        (λ y. ap (λ (r : Routing). writing (r .state) (writtenSend (r .answer))) y ∙ ap (λ (r : EntryStep). entryWritten (view l) g r) (q (entryAt (view l) g))
+        ∙ rw (which, is, found true yes))
 
-    pub write-low-word : c ≡ true → Keeps l w (view w ≡ put (view l) g (writeLow (entryAt (view l) g) x)) → Keeps l w (done (view w) ≡ writeSelected (view l) x)
-    unfolding writeWord
-    write-low-word h k = entry-written (λ e. writeLow e x) (λ e. rw (sym low ∙ h)) k
+    -- a word that sends nothing
+    plain : (f : Entry → Entry) → ((e : Entry) → quietly (f e) ≡ writeWord (isVersion20 (view l)) sel e x) → Keeps l w (view w ≡ put (view l) g (f (entryAt (view l) g))) → Keeps l w (done (view w) ≡ writeSelected (view l) x)
+    plain f q k = entry-written NotRouted (λ e. quietly (f e)) q (so-that k (λ y. ap (λ (s : IoApicState). routing s NotRouted) y))
+
+    module _ (n : Bool) (by : n ≡ isVersion20 (view l)) where
+      pub write-low-word20 : (a : Routed) (y : Written) → c ≡ true → n ≡ true → Keeps l w (routing (view w) a ≡ routeAt (view l) g (writeLow20 (entryAt (view l) g) x)) → y ≡ writtenSend a
+          → Keeps l w (writing (view w) y ≡ writeSelected (view l) x)
+      unfolding writeWord
+      write-low-word20 a y h v k q = rw q (entry-written a (λ e. writeLow20 e x) (λ e. rw (sym low ∙ h, sym by ∙ v)) k)
+
+      pub write-low-word : c ≡ true → n ≡ false → Keeps l w (view w ≡ put (view l) g (writeLow (entryAt (view l) g) x)) → Keeps l w (done (view w) ≡ writeSelected (view l) x)
+      unfolding writeWord
+      write-low-word h v k = plain (λ e. writeLow e x) (λ e. rw (sym low ∙ h, sym by ∙ v)) k
 
     pub write-high-word : c ≡ false → Keeps l w (view w ≡ put (view l) g (writeHigh (entryAt (view l) g) x)) → Keeps l w (done (view w) ≡ writeSelected (view l) x)
     unfolding writeWord
-    write-high-word h k = entry-written (λ e. writeHigh e x) (λ e. rw (sym low ∙ h)) k
+    write-high-word h k = plain (λ e. writeHigh e x) (λ e. rw (sym low ∙ h)) k
 
   pub write-other : (x : ℕ) → b ≡ false → Keeps l l (done (view l) ≡ writeSelected (view l) x)
   unfolding writeSelected
   write-other x h = still l (rw (found false h))
+
+pub low-new : (n : Bool) (x r : ℕ) → n ≡ true → r ≡ withoutStatus x → r ≡ readLow n x
+low-new n x r h q = rw h q
 
 -- the EOI register
 module _ (l : List ℕ) (x : ℕ) (b : Bool) (is : b ≡ isVersion20 (view l)) where
@@ -189,13 +206,20 @@ module _ (l : List ℕ) (offset x : ℕ) where
     unfolding writeAt
     at-window a b k = so-that k (λ q. rw (ne-eqb _ _ a, eq-eqb _ _ b) q)
 
-    pub at-eoi : (offset ≡ 0 → ⊥) → (offset ≡ 16 → ⊥) → offset ≡ 64 → Keeps l w (writing (view w) y ≡ writeEoi (view l) x) → Keeps l w (writing (view w) y ≡ writeAt (view l) offset x)
+    pub at-eoi : 16 < offset → offset ≡ 64 → Keeps l w (writing (view w) y ≡ writeEoi (view l) x) → Keeps l w (writing (view w) y ≡ writeAt (view l) offset x)
     unfolding writeAt
-    at-eoi a b c k = so-that k (λ q. rw (ne-eqb _ _ a, ne-eqb _ _ b, eq-eqb _ _ c) q)
+    at-eoi a c k = so-that k (λ q. rw (ne-eqb offset 0 (λ e. omega arith), ne-eqb offset 16 (λ e. omega arith), eq-eqb _ _ c) q)
 
-  pub at-other : (offset ≡ 0 → ⊥) → (offset ≡ 16 → ⊥) → (offset ≡ 64 → ⊥) → Keeps l l (done (view l) ≡ writeAt (view l) offset x)
+  -- at another offset, below the window and above it
+  ignored : (offset ≡ 0 → ⊥) → (offset ≡ 16 → ⊥) → (offset ≡ 64 → ⊥) → Keeps l l (done (view l) ≡ writeAt (view l) offset x)
   unfolding writeAt
-  at-other a b c = still l (rw (ne-eqb _ _ a, ne-eqb _ _ b, ne-eqb _ _ c))
+  ignored a b c = still l (rw (ne-eqb _ _ a, ne-eqb _ _ b, ne-eqb _ _ c))
+
+  pub at-below : offset ≤ 16 → (offset ≡ 0 → ⊥) → (offset ≡ 16 → ⊥) → Keeps l l (done (view l) ≡ writeAt (view l) offset x)
+  at-below h a b = ignored a b (λ e. omega arith)
+
+  pub at-above : 16 < offset → (offset ≡ 64 → ⊥) → Keeps l l (done (view l) ≡ writeAt (view l) offset x)
+  at-above h c = ignored (λ e. omega arith) (λ e. omega arith) c
 
 -- ---- base and size
 
@@ -233,6 +257,7 @@ width-other width h = rw (ne-eqb _ _ h)
 -- a write that is served isn't refused
 abbrev Served : Written → Type 0
 Served written.Done = Unit
+Served (written.Sent i) = Unit
 Served (written.EndedAll e) = Unit
 Served (written.NotWritten why) = ⊥
 
@@ -241,13 +266,18 @@ served-eoi NotEnded = tt
 served-eoi (Ended e) = tt
 served-eoi (EndedAll e) = tt
 
+served-send : (r : Routed) → Served (writtenSend r)
+served-send NotRouted = tt
+served-send (Interrupt i) = tt
+
 write-done : (p : IoApicState) (offset x : ℕ) → Served (writeAt p offset x .answer)
 unfolding writeAt writeSelected writeEoi
 write-done p offset x = go (eqb offset 0) (eqb offset 0x10) (eqb offset 0x40) (isEntryWord (p .selector)) (isVersion20 p) refl refl refl refl refl
   where
     go : (a b c d n : Bool) → eqb offset 0 ≡ a → eqb offset 0x10 ≡ b → eqb offset 0x40 ≡ c → isEntryWord (p .selector) ≡ d → isVersion20 p ≡ n → Served (writeAt p offset x .answer)
     go true b c d n e f g h i = rw e tt
-    go false true c true n e f g h i = rw (e, f, h) tt
+    go false true c true n e f g h i =
+        rw (e, f, h) (served-send (writeWord (isVersion20 p) (p .selector) (entryAt p (entryOf (p .selector))) x .answer))
     go false true c false n e f g h i = rw (e, f, h) tt
     go false false true d true e f g h i = rw (e, f, g, i) (served-eoi (endOfEvery p (record { 0 = x % 2 ^ 8 }) .answer))
     go false false true d false e f g h i = rw (e, f, g, i) tt
@@ -255,6 +285,7 @@ write-done p offset x = go (eqb offset 0) (eqb offset 0x10) (eqb offset 0x40) (i
 
 served : (l w : List ℕ) (r : Written) → Served r → Untouched (writtenReply r) l w
 served l w written.Done s = tt
+served l w (written.Sent i) s = tt
 served l w (written.EndedAll e) s = tt
 served l w (written.NotWritten why) s = absurd s
 
@@ -274,26 +305,28 @@ module _ (l : List ℕ) (addr width : ℕ) (b : Bool) (is : b ≡ goodWidth widt
         rw (sym is ∙ not-false b h, le-leb (view l .base) addr (subst (λ (n : ℕ). n ≤ addr) e k)) (ap One (q ∙ ap (λ (n : ℕ). readAt (view l) (addr - n)) e))
 
   module _ (x : ℕ) where
-    pub write-width : not b ≡ true → Leaves l l (Refused Unsupported) (handleWrite (view l) addr width x)
-    unfolding handleWrite
+    pub write-width : not b ≡ true → Wrote l l (written.NotWritten Unsupported) (handleWriting (view l) addr width x)
     write-width h = record { outcome = rw (sym is ∙ not-true b h); untouched = refl; kept = refl }
 
     module _ (base : ℕ) (h : not b ≡ false) (e : base ≡ view l .base) where
-      pub write-below : addr < base → Leaves l l (Refused InvalidAddress) (handleWrite (view l) addr width x)
-      unfolding handleWrite
+      pub write-below : addr < base → Wrote l l (written.NotWritten InvalidAddress) (handleWriting (view l) addr width x)
       write-below k = record { outcome = rw (sym is ∙ not-false b h, ← e, lt-leb _ _ k); untouched = refl; kept = refl }
 
       pub write-served : (w : List ℕ) (r : Written) → base ≤ addr → Keeps l w (writing (view w) r ≡ writeAt (view l) (addr - base) (x % 2 ^ 32))
-          → Leaves l w (writtenReply r) (handleWrite (view l) addr width x)
-      unfolding handleWrite
+          → Wrote l w r (handleWriting (view l) addr width x)
       write-served w r k q =
           record {
             outcome =
                 rw (sym is ∙ not-false b h, le-leb (view l .base) addr (subst (λ (n : ℕ). n ≤ addr) e k))
-                (ap writingOutcome (q .is ∙ ap (λ (n : ℕ). writeAt (view l) (addr - n) (x % 2 ^ 32)) e));
+                (q .is ∙ ap (λ (n : ℕ). writeAt (view l) (addr - n) (x % 2 ^ 32)) e);
             untouched = served l w r (subst⁻¹ (λ (z : Writing). Served (z .answer)) (q .is) (write-done (view l) (addr - base) (x % 2 ^ 32)));
             kept = q .kept;
           }
+
+-- what such a write leaves, in document 01's numbers
+pub wrote-leaves : (l w : List ℕ) (r : Written) (addr width x : ℕ) → Wrote l w r (handleWriting (view l) addr width x) → Leaves l w (writtenReply r) (handleWrite (view l) addr width x)
+unfolding handleWrite
+wrote-leaves l w r addr width x k = record { outcome = ap writingOutcome (k .outcome); untouched = k .untouched; kept = k .kept }
 
 -- ---- a new state
 

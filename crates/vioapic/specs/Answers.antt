@@ -3,6 +3,7 @@ use Prim.Native.Nat.{ℕ}
 use Rattle.types.specs.Reply.{flag}
 use Rattle.types.specs.declared.Reply.{Reply}
 use Rattle.types.specs.declared.Reply.the-variants.{Refused, Nothing, One, Two, Three}
+use Rattle.vioapic_entry.specs.Answers.{interruptReply}
 use Rattle.vioapic_entry.specs.declared.Routed.{Routed}
 use Rattle.vioapic_entry.specs.declared.Routed.the-variants.{NotRouted, Interrupt}
 use Rattle.vioapic.specs.declared.IoApicEoi.{IoApicEoi}
@@ -43,8 +44,10 @@ abbrev pub readReply : Read → Reply
 readReply (Value x) = One x
 readReply (NotRead why) = Refused why
 
+-- a write that sends says what a line's interrupt says; one that is an EOI of version 0x20, what that says
 abbrev pub writtenReply : Written → Reply
 writtenReply written.Done = Nothing
+writtenReply (written.Sent i) = interruptReply i
 writtenReply (written.EndedAll e) = everyReply e
 writtenReply (written.NotWritten why) = Refused why
 

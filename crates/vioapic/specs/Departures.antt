@@ -7,12 +7,12 @@
 use Prim.Native.Nat.{ℕ, _+_}
 use mathlib.Core.Bool.{true, false}
 use mathlib.Core.List.{List, [], _∷_, _++_}
-use mathlib.Core.Path.{refl}
+use mathlib.Core.Path.{_≡_, refl}
 use Rattle.utils.specs.Set.{with, without}
 use Rattle.types.specs.Reply.{replyValues}
 use Rattle.types.specs.Departure.{Departure, Shown}
 use Rattle.types.specs.declared.Gsi.{Gsi}
-use Rattle.vioapic_entry.specs.Redirection.{sendEntry, raiseEntry, lowerEntry, endEntry, endEntry20, writeLow, writeHigh}
+use Rattle.vioapic_entry.specs.Redirection.{sendEntry, raiseEntry, lowerEntry, endEntry, endEntry20, writeLow, writeHigh, storeLow20, writeLow20}
 use Rattle.vioapic.specs.Table.{interruptForEntry, setLevel, firstAwaiting, endOfEntry, endOfEvery, endOf}
 use Rattle.vioapic.specs.Registers.{readFixed, readWord, readSelected, writeWord, writeSelected, readAt, writeAt}
 use Rattle.vioapic.specs.IoApic.{chipOf, assertGsi, setGsiLevel, endOfInterrupt, handleRead, handleWrite}
@@ -86,7 +86,7 @@ inBoth version =
     ∷ record { number = 47; computed = answers version (select 1 ∷ []) (HandleRead 0x10 8); ours = (0x00170000 + version) ∷ []; text = [] }
     ∷ []
 
--- and those that have to do with a changed low word
+-- and those that have to do with a low word's write, which are version 0x11's alone
 abbrev pub ofLowWords : ℕ → List Departure
 ofLowWords version =
     -- it clears Remote IRR, which is read-only in the text: the entry is masked in flight
@@ -121,12 +121,21 @@ departures =
 
 -- version 0x20: its answer to an EOI is two sets of lines
 abbrev pub departures20 : List Departure
-departures20 = record { number = 44; computed = answers 0x20 unaccepted (eoi 0x30); ours = 1 ∷ 1 ∷ []; text = [] } ∷ (ofLowWords 0x20 ++ inBoth 0x20)
+departures20 = record { number = 44; computed = answers 0x20 unaccepted (eoi 0x30); ours = 1 ∷ 1 ∷ []; text = [] } ∷ inBoth 0x20
+
+-- what version 0x11 alone departs in: version 0x20 answers what the text gives (document 02, T-08)
+abbrev pub Cured : List Departure → Type 0
+Cured [] = Unit
+Cured (d ∷ ds) = (d .computed ≡ d .text) × Cured ds
 
 pub departures-hold : Shown departures
 unfolding run outcome with without assertGsi setGsiLevel endOfInterrupt handleRead handleWrite interruptForEntry setLevel firstAwaiting endOfEntry endOfEvery endOf readFixed readWord readSelected writeWord writeSelected readAt writeAt sendEntry raiseEntry lowerEntry endEntry endEntry20 writeLow writeHigh
 departures-hold = ((refl, refl), ((refl, refl), ((refl, refl), ((refl, refl), ((refl, refl), ((refl, refl), ((refl, refl), ((refl, refl), ((refl, refl), ((refl, refl), ((refl, refl), ((refl, refl), ((refl, refl), ((refl, refl), ((refl, refl), ((refl, refl), ((refl, refl), tt)))))))))))))))))
 
 pub departures-hold-20 : Shown departures20
-unfolding run outcome with without assertGsi setGsiLevel endOfInterrupt handleRead handleWrite interruptForEntry setLevel firstAwaiting endOfEntry endOfEvery endOf readFixed readWord readSelected writeWord writeSelected readAt writeAt sendEntry raiseEntry lowerEntry endEntry endEntry20 writeLow writeHigh
-departures-hold-20 = ((refl, refl), ((refl, refl), ((refl, refl), ((refl, refl), ((refl, refl), ((refl, refl), ((refl, refl), ((refl, refl), ((refl, refl), ((refl, refl), ((refl, refl), ((refl, refl), ((refl, refl), ((refl, refl), ((refl, refl), ((refl, refl), tt))))))))))))))))
+unfolding run outcome with without assertGsi setGsiLevel endOfInterrupt handleRead handleWrite interruptForEntry setLevel firstAwaiting endOfEntry endOfEvery endOf readFixed readWord readSelected writeWord writeSelected readAt writeAt sendEntry raiseEntry lowerEntry endEntry endEntry20 storeLow20 writeLow20 writeHigh
+departures-hold-20 = ((refl, refl), ((refl, refl), ((refl, refl), ((refl, refl), ((refl, refl), ((refl, refl), ((refl, refl), ((refl, refl), ((refl, refl), ((refl, refl), ((refl, refl), ((refl, refl), ((refl, refl), tt)))))))))))))
+
+pub cured-20 : Cured (ofLowWords 0x20)
+unfolding run outcome with without assertGsi setGsiLevel endOfInterrupt handleRead handleWrite interruptForEntry setLevel firstAwaiting endOfEntry endOfEvery endOf readFixed readWord readSelected writeWord writeSelected readAt writeAt sendEntry raiseEntry lowerEntry endEntry endEntry20 storeLow20 writeLow20 writeHigh
+cured-20 = (refl, (refl, (refl, tt)))

@@ -1,13 +1,13 @@
 -- What private functions promise of the words. No promise of a public call uses a definition of this file.
-use Prim.Native.Nat.{ℕ, _+_, _*_, _/_, _%_, _^_}
-use mathlib.Core.Bool.{Bool, cond}
+use Prim.Native.Nat.{ℕ, _+_, _*_, _/_, _%_, _^_, _<_}
+use mathlib.Core.Bool.{Bool, false, cond}
 use mathlib.Core.List.{List}
 use mathlib.Core.Path.{_≡_}
 use lib.ListN.{getD, set}
 use Rattle.utils.specs.Set.{with, marked}
 use Rattle.types.specs.declared.Vector.{Vector}
 use Rattle.vioapic_entry.specs.Answers.{isRouted}
-use Rattle.vioapic_entry.specs.Redirection.{awaits, endEntry20}
+use Rattle.vioapic_entry.specs.Redirection.{remoteIrr, withDeferred, awaits, endEntry20, keepsDeferred, storeLow20}
 use Rattle.vioapic_entry.specs.declared.Entry.{Entry}
 use Rattle.vioapic.specs.State.{IoApicState, spare}
 use Rattle.vioapic.specs.Table.{Ending, ending, entryAt, withEntries, put, everyAnswer}
@@ -29,6 +29,25 @@ withLow w x = w / 2 ^ 32 * 2 ^ 32 + x
 -- entry g replaced, without a look at the word of lines in flight
 abbrev pub parts : IoApicState → ℕ → Entry → IoApicState
 parts s g e = withEntries s (set (s .entries) g e)
+
+-- nothing is deferred on any line
+abbrev pub NoneDeferred : IoApicState → Type 0
+NoneDeferred s = (g : ℕ) → g < 24 → entryAt s g .«pending_level» ≡ false
+
+-- an entry at rest with its line down
+pub record Resting (e : Entry) : Type 0 where
+  pub still : remoteIrr (e .word) ≡ false
+  pub undeferred : e .«pending_level» ≡ false
+  pub down : e .«input_level» ≡ false
+
+-- the first half of a low word's write in version 0x20: what was deferred
+abbrev pub forgetting : Entry → ℕ → Entry
+forgetting e x = cond (keepsDeferred (e .word) x) e (withDeferred e false)
+
+-- and the whole of it: entry g is as it is stored, and which register that is
+pub record StoredLow (before after : IoApicState) (g x word : ℕ) : Type 0 where
+  pub state : after ≡ put before g (storeLow20 (entryAt before g) x)
+  pub register : word ≡ entryAt after g .word
 
 -- an EOI of version 0x20 that has come this far, in one number: the set of the GSIs that have ended, and of those sent again
 abbrev pub clearedIn : Ends → ℕ

@@ -19,7 +19,9 @@ use Rattle.vioapic.specs.declared.IoApicVersion.the-variants.{V11, V20}
 use Rattle.vioapic.specs.Answers.{eoiReply, gsiVectorReply, writtenReply}
 use Rattle.vioapic.specs.State.{IoApicState, view, spare}
 use Rattle.vioapic.specs.Table.{Routing, Ending, newEntry, interruptForEntry, setLevel, endOf, vectorFor}
-use Rattle.vioapic.specs.Registers.{Writing, readAt, writeAt}
+use Rattle.vioapic.specs.Registers.{Writing, writing, readAt, writeAt}
+use Rattle.vioapic.specs.declared.Written.{Written}
+use Rattle.vioapic.specs.declared.Written.the-variants.{NotWritten}
 
 -- ---- what a call leaves
 
@@ -49,6 +51,12 @@ Untouched (Three a b c) before after = Unit
 pub record Leaves (before after : List ℕ) (r : Reply) (o : Outcome IoApicState) : Type 0 where
   pub outcome : record { state = view after; reply = r } ≡ o
   pub untouched : Untouched r before after
+  pub kept : spare after ≡ spare before
+
+-- the same of a write, with its answer: a reply of two values doesn't tell a send from an EOI
+pub record Wrote (before after : List ℕ) (r : Written) (w : Writing) : Type 0 where
+  pub outcome : writing (view after) r ≡ w
+  pub untouched : Untouched (writtenReply r) before after
   pub kept : spare after ≡ spare before
 
 -- the words after a call that makes a new state: those, or if it is refused the words untouched
@@ -136,8 +144,11 @@ handleRead m addr width =
     (Refused Unsupported)
 
 -- `handle_write`: the value is taken modulo 2^32
-unfoldable pub handleWrite : IoApicState → ℕ → ℕ → ℕ → Outcome IoApicState
-handleWrite m addr width x =
+abbrev pub handleWriting : IoApicState → ℕ → ℕ → ℕ → Writing
+handleWriting m addr width x =
     cond (goodWidth width)
-    (cond (leb (m .base) addr) (writingOutcome (writeAt m (addr - m .base) (x % 2 ^ 32))) (refuse m InvalidAddress))
-    (refuse m Unsupported)
+    (cond (leb (m .base) addr) (writeAt m (addr - m .base) (x % 2 ^ 32)) (writing m (NotWritten InvalidAddress)))
+    (writing m (NotWritten Unsupported))
+
+unfoldable pub handleWrite : IoApicState → ℕ → ℕ → ℕ → Outcome IoApicState
+handleWrite m addr width x = writingOutcome (handleWriting m addr width x)

@@ -4,12 +4,14 @@
 use Prim.Native.Nat.{ℕ, _-_, _/_, _%_, _^_}
 use mathlib.Core.Bool.{Bool, cond, _&&_}
 use lib.Dec.{eqb, leb}
-use Rattle.vioapic_entry.specs.Redirection.{writeLow, writeHigh}
+use Rattle.vioapic_entry.specs.Redirection.{EntryStep, quietly, withoutStatus, writeLow, writeHigh, writeLow20}
 use Rattle.vioapic_entry.specs.declared.Entry.{Entry}
+use Rattle.vioapic_entry.specs.declared.Routed.{Routed}
+use Rattle.vioapic_entry.specs.declared.Routed.the-variants.{NotRouted, Interrupt}
 use Rattle.vioapic.specs.State.{IoApicState}
 use Rattle.vioapic.specs.Table.{Ending, isVersion20, entryAt, put, endOfEvery}
 use Rattle.vioapic.specs.declared.Written.{Written}
-use Rattle.vioapic.specs.declared.Written.the-variants.{Done, EndedAll}
+use Rattle.vioapic.specs.declared.Written.the-variants.{Done, Sent, EndedAll}
 use Rattle.vioapic.specs.declared.Eoi.{Eoi}
 use Rattle.vioapic.specs.declared.Eoi.the-variants as eoi
 
@@ -50,22 +52,38 @@ readFixed version sel =
     (cond (eqb sel 2) 0x01000000
     0))
 
-unfoldable pub readWord : ℕ → Entry → ℕ
-readWord sel e = cond (isLow sel) (e .word % 2 ^ 32) (e .word / 2 ^ 32)
+-- an entry's word, by version
+abbrev pub readLow : Bool → ℕ → ℕ
+readLow version20 w = cond version20 (withoutStatus w) w
+
+unfoldable pub readWord : Bool → ℕ → Entry → ℕ
+readWord version20 sel e = cond (isLow sel) (readLow version20 (e .word % 2 ^ 32)) (e .word / 2 ^ 32)
 
 -- IOWIN is read
 unfoldable pub readSelected : IoApicState → ℕ
 readSelected s =
-    cond (isEntryWord (s .selector)) (readWord (s .selector) (entryAt s (entryOf (s .selector)))) (readFixed (s .version) (s .selector))
+    cond (isEntryWord (s .selector))
+    (readWord (isVersion20 s) (s .selector) (entryAt s (entryOf (s .selector))))
+    (readFixed (s .version) (s .selector))
 
-unfoldable pub writeWord : ℕ → Entry → ℕ → Entry
-writeWord sel e x = cond (isLow sel) (writeLow e x) (writeHigh e x)
+-- an entry's word is written, by version: in version 0x20 a low word may send the entry
+unfoldable pub writeWord : Bool → ℕ → Entry → ℕ → EntryStep
+writeWord version20 sel e x =
+    cond (isLow sel) (cond version20 (writeLow20 e x) (quietly (writeLow e x))) (quietly (writeHigh e x))
+
+-- what that answers to the write
+abbrev pub writtenSend : Routed → Written
+writtenSend NotRouted = Done
+writtenSend (Interrupt i) = Sent i
+
+abbrev pub entryWritten : IoApicState → ℕ → EntryStep → Writing
+entryWritten s g r = writing (put s g (r .entry)) (writtenSend (r .answer))
 
 -- IOWIN is written: only the redirection table can be (D-36)
 unfoldable pub writeSelected : IoApicState → ℕ → Writing
 writeSelected s x =
     cond (isEntryWord (s .selector))
-    (done (put s (entryOf (s .selector)) (writeWord (s .selector) (entryAt s (entryOf (s .selector))) x)))
+    (entryWritten s (entryOf (s .selector)) (writeWord (isVersion20 s) (s .selector) (entryAt s (entryOf (s .selector))) x))
     (done s)
 
 -- ---- the EOI register

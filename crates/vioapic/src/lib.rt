@@ -21,15 +21,15 @@ ghost use mathlib.Core.Path.{_≡_};
 ghost use mathlib.Core.Bool.{true, false};
 ghost use Prim.Native.Nat.{_<_, _%_, _^_};
 ghost use Rattle.vioapic_entry.specs.Answers.{routedReply};
-ghost use Rattle.vioapic_entry.specs.Redirection.{vectorOf, remoteIrr, isLevel, withRemoteIrr, withoutRemoteIrr, withWord, withDeferred, withInput, awaits, sendEntry, raiseEntry, lowerEntry, endEntry, endEntry20, writeLow, writeHigh};
+ghost use Rattle.vioapic_entry.specs.Redirection.{vectorOf, remoteIrr, isLevel, withRemoteIrr, withoutRemoteIrr, withWord, withDeferred, withInput, awaits, sendEntry, raiseEntry, lowerEntry, endEntry, endEntry20, writeLow, writeHigh, isOwed, writeLow20};
 ghost use Rattle.vioapic_entry.specs.declared.Routed.the-variants.{Interrupt};
 ghost use Rattle.vioapic.specs.Answers.{eoiReply, everyReply, gsiVectorReply, readReply, writtenReply, rangeReply, endedReply};
 ghost use Rattle.vioapic.specs.declared.IoApicVersion.the-variants.{V11};
 ghost use Rattle.vioapic.specs.State.{view, newWords};
 ghost use Rattle.vioapic.specs.Table.{isVersion20, entryAt, put, routing, routeAt, ending, firstAwaiting, endOfEntry, everyAnswer, endOfEvery, vectorOfEntry};
-ghost use Rattle.vioapic.specs.Registers.{isEntryWord, isLow, entryOf, versionWord, readFixed, readWord, readSelected, writing, writeSelected, readAt, writtenBy, writeEoi, writeAt};
-ghost use Rattle.vioapic.specs.IoApic.{goodWidth, fits, versionNumber, versionOf, isVersion, chipAt, newDefault, Leaves, Makes, createdVersion, vectorForGsi, addressRange, assertGsi, setGsiLevel, endOfInterrupt, handleRead, handleWrite};
-ghost use Rattle.vioapic.specs.Inside.{Keeps, putFlag, withLow, everyEnd, endNext, everyEnding, clearedIn, sentIn};
+ghost use Rattle.vioapic.specs.Registers.{isEntryWord, isLow, entryOf, versionWord, readFixed, readLow, readWord, readSelected, writing, writtenSend, writeSelected, readAt, writtenBy, writeEoi, writeAt};
+ghost use Rattle.vioapic.specs.IoApic.{goodWidth, fits, versionNumber, versionOf, isVersion, chipAt, newDefault, Leaves, Wrote, Makes, createdVersion, vectorForGsi, addressRange, assertGsi, setGsiLevel, endOfInterrupt, handleRead, handleWriting};
+ghost use Rattle.vioapic.specs.Inside.{Keeps, putFlag, withLow, NoneDeferred, Resting, forgetting, StoredLow, everyEnd, endNext, everyEnding, clearedIn, sentIn};
 
 pub const IOAPIC_BASE: u64 = 0xfec0_0000;
 
@@ -117,6 +117,8 @@ pub enum Read {
 
 pub enum Written {
     Done,
+    // Version 0x20: the entry whose low word was written is owed its interrupt.
+    Sent(IoApicInterrupt),
     // The EOI register's write.
     EndedAll(IoApicEois),
     NotWritten(Refusal),
@@ -225,6 +227,7 @@ impl Written {
     {
         match self {
             Written::Done => Reply::Nothing,
+            Written::Sent(interrupt) => interrupt.reply(),
             Written::EndedAll(eois) => eois.reply(),
             Written::NotWritten(why) => Reply::Refused(why),
         }
@@ -369,6 +372,13 @@ fn is_up(words: &[u64; 32], g: usize) -> bool
     ensures { λ r. ⌜ r ≡ entryAt (view (now (words .entry))) g .«input_level» ⌝ }
 {
     set64::has(words[INPUT], g as u64)
+}
+
+// Nothing is deferred on any line, as is usual.
+fn none_deferred(words: &[u64; 32]) -> bool
+    ensures { λ r. ⌜ (r ≡ true → NoneDeferred (view (now (words .entry)))) ⌝ }
+{
+    words[PENDING] == 0
 }
 
 fn interrupt(word: u64, level: bool) -> Routed
@@ -645,7 +655,11 @@ fn read_selected_register(words: &[u64; 32]) -> u64
 {
     let selected = selector(words);
     if is_entry_word(selected) {
-        return read_word(selected, entry_in(words, entry_of(selected)));
+        return read_word(
+            is_version_20(words),
+            selected,
+            entry_in(words, entry_of(selected)),
+        );
     }
     read_fixed(words[VERSION], selected)
 }
@@ -708,6 +722,102 @@ fn write_low(words: &mut [u64; 32], g: usize, value: u32)
     }
 }
 
+// Version 0x20: what was deferred is forgotten, unless the low word that is there is written, unmasked.
+fn forget(words: &mut [u64; 32], g: usize, word: u64, value: u32)
+    requires { ⌜ (g < 24) × (word ≡ entryAt (view (now words)) g .word) ⌝ }
+    ensures { λ _. ⌜ Keeps (now (words .entry)) (now (words .exit)) (view (now (words .exit)) ≡ put (view (now (words .entry))) g (forgetting (entryAt (view (now (words .entry))) g) value)) ⌝ }
+{
+    if vioapic_entry::keeps_deferred(word, value) {
+        return;
+    }
+    set_deferred(&mut *words, g, false);
+}
+
+// The register is `after`, which is in flight only if it was.
+fn replace(words: &mut [u64; 32], g: usize, word: u64, after: u64)
+    requires { ⌜ (g < 24) × (word ≡ entryAt (view (now words)) g .word) × (remoteIrr after ≡ true → remoteIrr word ≡ true) ⌝ }
+    ensures { λ _. ⌜ Keeps (now (words .entry)) (now (words .exit)) (view (now (words .exit)) ≡ put (view (now (words .entry))) g (withWord (entryAt (view (now (words .entry))) g) after)) ⌝ }
+{
+    if vioapic_entry::remote_irr(after) {
+        seen(&*words);
+        words[g] = after;
+        return;
+    }
+    ground(&mut *words, g, word, after);
+}
+
+// The low word is stored. Answers the register.
+fn store_low20(words: &mut [u64; 32], g: usize, value: u32) -> u64
+    requires { ⌜ g < 24 ⌝ }
+    ensures { λ r. ⌜ Keeps (now (words .entry)) (now (words .exit)) (StoredLow (view (now (words .entry))) (view (now (words .exit))) g value r) ⌝ }
+{
+    let word = word_at(&*words, g);
+    let after = vioapic_entry::replace_low20(word, value);
+    forget(&mut *words, g, word, value);
+    replace(&mut *words, g, word, after);
+    after
+}
+
+// A level entry, its line up, that isn't in flight. `word` is its register.
+fn is_owed(words: &[u64; 32], g: usize, word: u64) -> bool
+    requires { ⌜ (g < 24) × (word ≡ entryAt (view (now words)) g .word) ⌝ }
+    ensures { λ r. ⌜ r ≡ isOwed (entryAt (view (now (words .entry))) g) ⌝ }
+{
+    if !vioapic_entry::is_level(word) {
+        return false;
+    }
+    if vioapic_entry::remote_irr(word) {
+        return false;
+    }
+    is_up(words, g)
+}
+
+// An entry at rest with its line down: it isn't in flight, and nothing is deferred.
+fn is_resting(words: &[u64; 32], g: usize, word: u64) -> bool
+    requires { ⌜ (g < 24) × (word ≡ entryAt (view (now words)) g .word) ⌝ }
+    ensures { λ r. ⌜ (r ≡ true → Resting (entryAt (view (now (words .entry))) g)) ⌝ }
+{
+    if vioapic_entry::remote_irr(word) {
+        return false;
+    }
+    if !none_deferred(words) {
+        return false;
+    }
+    !is_up(words, g)
+}
+
+// And the entry is sent if it is owed that. The usual case first: at rest.
+fn write_low20(words: &mut [u64; 32], g: usize, value: u32) -> Routed
+    requires { ⌜ g < 24 ⌝ }
+    ensures { λ r. ⌜ Keeps (now (words .entry)) (now (words .exit)) (routing (view (now (words .exit))) r ≡ routeAt (view (now (words .entry))) g (writeLow20 (entryAt (view (now (words .entry))) g) value)) ⌝ }
+{
+    let word = word_at(&*words, g);
+    if is_resting(&*words, g, word) {
+        ground(
+            &mut *words,
+            g,
+            word,
+            vioapic_entry::replace_resting(word, value),
+        );
+        return Routed::NotRouted;
+    }
+    let word = store_low20(&mut *words, g, value);
+    if is_owed(&*words, g, word) {
+        return interrupt_for_entry(&mut *words, g, word);
+    }
+    Routed::NotRouted
+}
+
+// What a write answers that may have sent an entry.
+fn written_send(answer: Routed) -> Written
+    ensures { λ r. ⌜ r ≡ writtenSend answer ⌝ }
+{
+    match answer {
+        Routed::NotRouted => Written::Done,
+        Routed::Interrupt(interrupt) => Written::Sent(interrupt),
+    }
+}
+
 fn write_high(words: &mut [u64; 32], g: usize, value: u32)
     requires { ⌜ g < 24 ⌝ }
     ensures { λ _. ⌜ Keeps (now (words .entry)) (now (words .exit)) (view (now (words .exit)) ≡ put (view (now (words .entry))) g (writeHigh (entryAt (view (now (words .entry))) g) value)) ⌝ }
@@ -723,6 +833,9 @@ fn write_selected_register(words: &mut [u64; 32], value: u32) -> Written
     if is_entry_word(selected) {
         let g = entry_of(selected);
         if is_low(selected) {
+            if is_version_20(&*words) {
+                return written_send(write_low20(&mut *words, g, value));
+            }
             write_low(&mut *words, g, value);
             return Written::Done;
         }
@@ -754,13 +867,16 @@ fn with_low(word: u64, value: u32) -> u64
 fn write_at(words: &mut [u64; 32], offset: u64, value: u32) -> Written
     ensures { λ r. ⌜ Keeps (now (words .entry)) (now (words .exit)) (writing (view (now (words .exit))) r ≡ writeAt (view (now (words .entry))) offset value) ⌝ }
 {
-    if offset == IOREGSEL {
-        seen(&*words);
-        words[SELECTOR] = with_low(words[SELECTOR], value);
+    if offset <= IOWIN {
+        if offset == IOREGSEL {
+            seen(&*words);
+            words[SELECTOR] = with_low(words[SELECTOR], value);
+            return Written::Done;
+        }
+        if offset == IOWIN {
+            return write_selected_register(&mut *words, value);
+        }
         return Written::Done;
-    }
-    if offset == IOWIN {
-        return write_selected_register(&mut *words, value);
     }
     if offset == IOEOI {
         return write_eoi(&mut *words, value);
@@ -770,7 +886,7 @@ fn write_at(words: &mut [u64; 32], offset: u64, value: u32) -> Written
 
 // Handles an IO APIC MMIO write.
 pub fn handle_write(words: &mut [u64; 32], addr: u64, width: u64, value: u64) -> Written
-    ensures { λ r. ⌜ Leaves (now (words .entry)) (now (words .exit)) (writtenReply r) (handleWrite (view (now (words .entry))) addr width value) ⌝ }
+    ensures { λ r. ⌜ Wrote (now (words .entry)) (now (words .exit)) r (handleWriting (view (now (words .entry))) addr width value) ⌝ }
 {
     if !good_width(width) {
         return Written::NotWritten(Refusal::Unsupported);
@@ -917,13 +1033,22 @@ fn is_low(selector: u32) -> bool
     selector % 2 == 0
 }
 
-fn read_word(selector: u32, entry: Entry) -> u64
-    ensures { λ r. ⌜ r ≡ readWord selector entry ⌝ }
+fn read_word(version20: bool, selector: u32, entry: Entry) -> u64
+    ensures { λ r. ⌜ r ≡ readWord version20 selector entry ⌝ }
 {
     if is_low(selector) {
-        return entry.word % 0x1_0000_0000;
+        return read_low(version20, entry.word % 0x1_0000_0000);
     }
     entry.word / 0x1_0000_0000
+}
+
+fn read_low(version20: bool, word: u64) -> u64
+    ensures { λ r. ⌜ r ≡ readLow version20 word ⌝ }
+{
+    if version20 {
+        return vioapic_entry::without_status(word);
+    }
+    word
 }
 
 fn good_width(width: u64) -> bool
@@ -1043,7 +1168,7 @@ impl EmulatedIoApic {
 
     // Handles an IO APIC MMIO write.
     pub fn handle_write(mut self, addr: u64, width: u64, val: u64) -> IoApicWriting
-        ensures { λ r. ⌜ Leaves (self .words) (r .chip .words) (writtenReply (r .answer)) (handleWrite (view (self .words)) addr width val) ⌝ }
+        ensures { λ r. ⌜ Wrote (self .words) (r .chip .words) (r .answer) (handleWriting (view (self .words)) addr width val) ⌝ }
     {
         let answer = handle_write(&mut self.words, addr, width, val);
         IoApicWriting { chip: self, answer }

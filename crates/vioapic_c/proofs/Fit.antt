@@ -20,8 +20,8 @@ use Rattle.vioapic.proofs.Ways.{entry-word-range}
 use Rattle.vioapic_entry.specs.Answers.{routedReply}
 use Rattle.vioapic.specs.Answers.{pendingReply, eoiReply, writtenReply}
 use Rattle.vioapic.specs.IoApic.{goodWidth, assertGsi, setGsiLevel, endOfInterrupt, vectorForGsi, handleRead, handleWrite}
-use Rattle.vioapic_entry.specs.Redirection.{EntryStep, isFit, isLevel, remoteIrr, sendEntry, raiseEntry, lowerEntry, moveLine, endEntry, withWord, withDeferred, withInput, withRemoteIrr, withoutRemoteIrr}
-use Rattle.vioapic.specs.Registers.{isEntryWord, entryOf, isLow, readFixed, readWord, readSelected, readAt, writeSelected, writtenBy, writeEoi, writeAt}
+use Rattle.vioapic_entry.specs.Redirection.{EntryStep, isFit, isLevel, remoteIrr, sendEntry, raiseEntry, lowerEntry, moveLine, endEntry, withWord, withDeferred, withInput, withRemoteIrr, withoutRemoteIrr, storeLow20, isOwed, writeLow20}
+use Rattle.vioapic.specs.Registers.{isEntryWord, entryOf, isLow, readFixed, readLow, readWord, readSelected, readAt, writeWord, writtenSend, writeSelected, writtenBy, writeEoi, writeAt}
 use Rattle.vioapic.specs.Table.{isVersion20, entryAt, interruptForEntry, setLevel, firstAwaiting, endOfEntry, ends, sentBy, everyAnswer, endOfEvery, endOf, vectorFor}
 use Rattle.vioapic_entry.specs.declared.Entry.{Entry}
 use Rattle.vioapic_entry.specs.declared.Routed.{Routed}
@@ -84,6 +84,16 @@ end-small e =
     either (e .«input_level») _ _ (send-small (withWord e (withoutRemoteIrr (e .word))))
     (either (e .«pending_level») _ _ (send-small (withDeferred (withWord e (withoutRemoteIrr (e .word))) false)) tt)
 
+-- a write that may send
+write-small : (n : Bool) (sel : ℕ) (e : Entry) (x : ℕ) → Small (writeWord n sel e x .answer)
+unfolding writeWord writeLow20
+write-small n sel e x =
+    either (isLow sel) _ _ (either n _ _ (either (isOwed (storeLow20 e x)) _ _ (send-small (storeLow20 e x)) tt) tt) tt
+
+written-send-fits : (r : Routed) → Small r → Fits (writtenReply (writtenSend r))
+written-send-fits NotRouted s = tt
+written-send-fits (Interrupt i) s = routed-fits (Interrupt i) s
+
 module _ (m : IoApicState) where
   pub assert-fits : (gsi : Gsi) → Fits (assertGsi m gsi .reply)
   unfolding assertGsi interruptForEntry
@@ -140,7 +150,9 @@ module _ (m : IoApicState) where
       go : (a b c d n : Bool) → eqb offset 0 ≡ a → eqb offset 0x10 ≡ b → eqb offset 0x40 ≡ c → isEntryWord (m .selector) ≡ d → isVersion20 m ≡ n
           → Fits (writtenReply (writeAt m offset x .answer))
       go true b c d n p q r t u = rw p tt
-      go false true c true n p q r t u = rw (p, q, t) tt
+      go false true c true n p q r t u =
+          rw (p, q, t)
+          (written-send-fits (writeWord (isVersion20 m) (m .selector) (entryAt m (entryOf (m .selector))) x .answer) (write-small (isVersion20 m) (m .selector) (entryAt m (entryOf (m .selector))) x))
       go false true c false n p q r t u = rw (p, q, t) tt
       go false false true d true p q r t u = rw (p, q, r, u) (every-write-fits _ _ (setOf-lt 24 (ends v m)) (setOf-lt 24 (sentBy v m)))
       go false false true d false p q r t u = rw (p, q, r, u) tt
@@ -157,12 +169,16 @@ module _ (m : IoApicState) where
 
 -- a read's value has 32 bits
 module _ (l : List ℕ) (words : (i : ℕ) → getD l i 0 < 2 ^ 64) where
-  halves : (sel g : ℕ) → g < 24 → readWord sel (entryAt (view l) g) < 2 ^ 32
+  low-half : (n : Bool) (w : ℕ) → readLow n (w % 2 ^ 32) < 2 ^ 32
+  low-half true w = omega arith
+  low-half false w = omega arith
+
+  halves : (n : Bool) (sel g : ℕ) → g < 24 → readWord n sel (entryAt (view l) g) < 2 ^ 32
   unfolding readWord
-  halves sel g h = go (isLow sel) refl
+  halves n sel g h = go (isLow sel) refl
     where
-      go : (a : Bool) → isLow sel ≡ a → readWord sel (entryAt (view l) g) < 2 ^ 32
-      go true p = rw (p, view-at l g h) (omega arith)
+      go : (a : Bool) → isLow sel ≡ a → readWord n sel (entryAt (view l) g) < 2 ^ 32
+      go true p = rw p (low-half n (entryAt (view l) g .word))
       go false p = rw (p, view-at l g h) (omega (arith, words g))
 
   fixed : (version sel : ℕ) → readFixed version sel < 2 ^ 32
@@ -183,7 +199,7 @@ module _ (l : List ℕ) (words : (i : ℕ) → getD l i 0 < 2 ^ 64) where
       go : (a : Bool) → isEntryWord (view l .selector) ≡ a → readSelected (view l) < 2 ^ 32
       go true p =
           let k = entry-word-range (view l .selector) p in
-          rw p (halves (view l .selector) (entryOf (view l .selector)) (omega (arith, k .0, k .1)))
+          rw p (halves (isVersion20 (view l)) (view l .selector) (entryOf (view l .selector)) (omega (arith, k .0, k .1)))
       go false p = rw p (fixed (view l .version) (view l .selector))
 
   register : (offset : ℕ) → readAt (view l) offset < 2 ^ 32

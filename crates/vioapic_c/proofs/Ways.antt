@@ -13,11 +13,13 @@ use Rattle.types.specs.declared.Refusal.the-variants.{Unsupported, OutOfRange}
 use Rattle.types.specs.declared.Reply.{Reply}
 use Rattle.types.specs.declared.Reply.the-variants.{Refused, Nothing, Two}
 use Rattle.reply_code.specs.Lent.{Lent, replyCode, lent}
-use Rattle.vioapic.specs.Answers.{rangeReply}
+use Rattle.vioapic.specs.Answers.{writtenReply, rangeReply}
 use Rattle.vioapic.specs.State.{IoApicState, view, newWords}
-use Rattle.vioapic.specs.IoApic.{Untouched, newOr, versionNumber, versionOf, isVersion, Leaves, Makes, createdVersion, setGsiLevel, endOfInterrupt, addressRange}
+use Rattle.vioapic.proofs.Ways.{wrote-leaves}
+use Rattle.vioapic.specs.IoApic.{Untouched, newOr, versionNumber, versionOf, isVersion, Leaves, Wrote, Makes, createdVersion, setGsiLevel, endOfInterrupt, addressRange, handleWriting, handleWrite}
 use Rattle.vioapic.specs.declared.IoApicVersion.{IoApicVersion}
 use Rattle.vioapic.specs.declared.IoApicVersion.the-variants.{V11, V20}
+use Rattle.vioapic.specs.declared.Written.{Written}
 use Rattle.vioapic.specs.declared.AddressRange.{AddressRange}
 use Rattle.vioapic.specs.declared.AddressRange.the-variants.{Between, NoRange}
 use Rattle.vioapic_c.specs.Calls.{Coded, Made, newNumber, endNumber, rangeWords}
@@ -46,6 +48,10 @@ module _ (l w : List ℕ) (r x : Reply) (n : ℕ) (same : x ≡ r) (en : n ≡ r
   pub end-coded : (v : ℕ) → v < 256 → Leaves l w r (endOfInterrupt (view l) (record { 0 = v })) → Coded l w n (endNumber (view l) v)
   unfolding endNumber
   end-coded v h k = rw (lt-ltb _ _ h) (coded (endOfInterrupt (view l) (record { 0 = v })) k)
+
+pub write-coded : (l w : List ℕ) (r : Written) (x : Reply) (n addr width value : ℕ) → Wrote l w r (handleWriting (view l) addr width value) → x ≡ writtenReply r → n ≡ replyCode x
+    → Coded l w n (handleWrite (view l) addr width value)
+write-coded l w r x n addr width value k same en = coded l w (writtenReply r) x n same en (handleWrite (view l) addr width value) (wrote-leaves l w r addr width value k)
 
 pub end-wide : (l : List ℕ) (v n : ℕ) → 256 ≤ v → n ≡ replyCode (Refused OutOfRange) → Coded l l n (endNumber (view l) v)
 unfolding endNumber

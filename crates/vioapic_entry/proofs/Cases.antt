@@ -2,7 +2,7 @@
 use mathlib.Core.Bool.{Bool, true, false}
 use mathlib.Core.Path.{_≡_, refl}
 use Prim.Native.Nat.{ℕ}
-use Rattle.vioapic_entry.specs.Redirection.{isFit, awaits, sendEntry, raiseEntry, lowerEntry, endEntry, endEntry20, writeLow, writeHigh}
+use Rattle.vioapic_entry.specs.Redirection.{isFit, awaits, sendEntry, raiseEntry, lowerEntry, endEntry, endEntry20, writeLow, writeHigh, withoutStatus, storeLow20, writeLow20}
 use Rattle.vioapic_entry.specs.declared.Entry.{Entry}
 use Rattle.vioapic_entry.specs.declared.Routed.{Routed}
 use Rattle.vioapic_entry.specs.declared.Routed.the-variants.{NotRouted, Interrupt}
@@ -48,3 +48,32 @@ pub write-cases :
     × (writeHigh (entry 0xC030 true false) 1 ≡ entry 0x10000C030 true false)
 unfolding writeLow writeHigh
 write-cases = (refl, refl, refl, refl)
+
+-- version 0x20: a mask keeps the flight and forgets what was deferred; so does another vector; an edge word ends the flight; Delivery Status isn't stored, and reads 0
+pub mask-case : writeLow20 (entry 0xC030 false true) 0x18030 ≡ record { entry = entry 0x1C030 false true; answer = NotRouted }
+unfolding writeLow20 storeLow20 sendEntry
+mask-case = refl
+
+pub deferred-case :
+    (writeLow20 (entry 0xC030 true true) 0x8031 ≡ record { entry = entry 0xC031 false true; answer = NotRouted })
+    × (writeLow20 (entry 0xC030 true true) 0x8030 ≡ record { entry = entry 0xC030 true true; answer = NotRouted })
+unfolding writeLow20 storeLow20 sendEntry
+deferred-case = (refl, refl)
+
+pub edge-case : writeLow20 (entry 0xC030 false true) 0x30 ≡ record { entry = entry 0x30 false true; answer = NotRouted }
+unfolding writeLow20 storeLow20 sendEntry
+edge-case = refl
+
+pub status-case : (writeLow20 (entry 0x30 false false) 0x5030 ≡ record { entry = entry 0x30 false false; answer = NotRouted }) × (withoutStatus 0x1030 ≡ 0x30)
+unfolding writeLow20 storeLow20 sendEntry
+status-case = (refl, refl)
+
+-- and a level entry whose line is up and that isn't in flight is sent, once, if it is fit
+pub owed-cases :
+    (writeLow20 (entry 0x18030 false true) 0x8030 ≡ record { entry = entry 0xC030 false true; answer = sent 0x30 true })
+    × (writeLow20 (entry 0xC030 false true) 0x8030 ≡ record { entry = entry 0xC030 false true; answer = NotRouted })
+    × (writeLow20 (entry 0x18030 false false) 0x8030 ≡ record { entry = entry 0x8030 false false; answer = NotRouted })
+    × (writeLow20 (entry 0x18030 false true) 0x30 ≡ record { entry = entry 0x30 false true; answer = NotRouted })
+    × (writeLow20 (entry 0x18030 false true) 0x800F ≡ record { entry = entry 0x800F false true; answer = NotRouted })
+unfolding writeLow20 storeLow20 sendEntry
+owed-cases = (refl, refl, refl, refl, refl)

@@ -1,13 +1,14 @@
 -- The rules of one entry, a law for each case: what the proofs of the code cite. Assumes nothing.
 use Prim.Native.Nat.{ℕ, _+_, _*_, _/_, _%_, _^_, _<_, _≤_}
 use native.Mathlib.Omega.{arith}
-use mathlib.Core.Bool.{Bool, true, false, cond, _&&_, _||_}
-use mathlib.Core.Path.{_≡_, refl, sym, _∙_, ap}
+use mathlib.Core.Bool.{Bool, true, false, not, cond, _&&_, _||_}
+use mathlib.Core.Path.{_≡_, refl, sym, _∙_, ap, ap₂}
 use lib.Dec.{eqb, ltb, leb}
 use borrow.Author.Tests.{eqb-true, eqb-false, eq-eqb, ne-eqb, lt-ltb, le-ltb, lt-leb, le-leb}
 use Rattle.utils.specs.Set.{bit}
-use Rattle.utils.proofs.Bools.{both}
-use Rattle.vioapic_entry.specs.Redirection.{EntryStep, isFixed, isFit, isLevel, isMasked, remoteIrr, sameLow, withRemoteIrr, withoutRemoteIrr, replaceLow, replaceHigh, withWord, withDeferred, withInput, quietly, sending, settled, sendEntry, raiseEntry, lowerEntry, moveLine, endEntry, endEntry20, writeLow, writeHigh}
+use Rattle.utils.specs.Cases.{and-right-no}
+use Rattle.utils.proofs.Bools.{both, and-true, not-is}
+use Rattle.vioapic_entry.specs.Redirection.{EntryStep, isFixed, isFit, isLevel, isMasked, remoteIrr, sameLow, withRemoteIrr, withoutRemoteIrr, replaceLow, replaceHigh, withWord, withDeferred, withInput, quietly, sending, settled, sendEntry, raiseEntry, lowerEntry, moveLine, endEntry, endEntry20, writeLow, writeHigh, withoutStatus, sameLow20, keepsFlight, replaceLow20, keepsDeferred, storeLow20, isOwed, writeLow20}
 use Rattle.vioapic_entry.specs.declared.Entry.{Entry}
 use Rattle.vioapic_entry.proofs.Fields.{same-fit, same-level, alike-without, irr-without}
 
@@ -83,6 +84,14 @@ module _ (e : Entry) where
   unfolding sendEntry
   resend-unfit f = let x : isFit (withoutRemoteIrr (e .word)) ≡ false = same-fit (alike-without (e .word)) ∙ f in rw x
 
+  -- what is owed is level, not in flight, and its line is up
+  module _ (h : isOwed e ≡ true) where
+    pub owed-level : isLevel (e .word) ≡ true
+    owed-level = and-true (isLevel (e .word)) (not (remoteIrr (e .word))) (and-true (isLevel (e .word) && not (remoteIrr (e .word))) (e .«input_level») h .0) .0
+
+    pub owed-grounded : remoteIrr (e .word) ≡ false
+    owed-grounded = not-is (remoteIrr (e .word)) (and-true (isLevel (e .word)) (not (remoteIrr (e .word))) (and-true (isLevel (e .word) && not (remoteIrr (e .word))) (e .«input_level») h .0) .1)
+
   -- ---- the guest writes it
   module _ (x : ℕ) where
     pub low-masked : sameLow (e .word) x ≡ true → isMasked (e .word) ≡ true → writeLow e x ≡ withDeferred e false
@@ -99,9 +108,56 @@ module _ (e : Entry) where
         let d : Entry = withDeferred (withWord e (replaceLow (e .word) x)) false in
         rw h (both (λ (z : Entry). z ≡ d) (isMasked (d .word)) (withDeferred d false) d refl refl)
 
+    pub low20-owed : isOwed (storeLow20 e x) ≡ true → writeLow20 e x ≡ sendEntry (storeLow20 e x)
+    unfolding writeLow20
+    low20-owed h = rw h
+
+    pub low20-quiet : isOwed (storeLow20 e x) ≡ false → writeLow20 e x ≡ quietly (storeLow20 e x)
+    unfolding writeLow20
+    low20-quiet h = rw h
+
+    -- at rest with its line down the register is stored, and nothing else happens
+    pub low20-resting : remoteIrr (e .word) ≡ false → e .«pending_level» ≡ false → e .«input_level» ≡ false
+        → writeLow20 e x ≡ quietly (withWord e (replaceLow (e .word) (withoutStatus x)))
+    unfolding writeLow20 storeLow20
+    low20-resting f d u =
+        let k : keepsFlight (e .word) x ≡ false = and-right-no (isLevel x) (remoteIrr (e .word)) f in
+        let n : cond (keepsDeferred (e .word) x) e (withDeferred e false) ≡ e = both (λ (z : Entry). z ≡ e) (keepsDeferred (e .word) x) e (withDeferred e false) refl (ap (withDeferred e) (sym d)) in
+        let s : storeLow20 e x ≡ withWord e (replaceLow (e .word) (withoutStatus x)) = rw (k, n) in
+        let o : isOwed (storeLow20 e x) ≡ false = ap isOwed s ∙ and-right-no (isLevel (replaceLow (e .word) (withoutStatus x)) && not (remoteIrr (replaceLow (e .word) (withoutStatus x)))) (e .«input_level») u in
+        low20-quiet o ∙ ap quietly s
+
     pub high-is : writeHigh e x ≡ withWord e (replaceHigh (e .word) x)
     unfolding writeHigh
     high-is = refl
+
+-- the ways out of version 0x20's functions
+module _ (w x : ℕ) where
+  pub flight-level : (a r : Bool) → a ≡ isLevel x → a ≡ true → r ≡ remoteIrr w → r ≡ keepsFlight w x
+  flight-level a r e h q = rw (sym e ∙ h) q
+
+  pub flight-edge : (a : Bool) → a ≡ isLevel x → a ≡ false → false ≡ keepsFlight w x
+  flight-edge a e h = rw (sym e ∙ h)
+
+  pub low-resting : (r z : ℕ) → z ≡ withoutStatus x → r ≡ replaceLow w z → r ≡ replaceLow w (withoutStatus x)
+  low-resting r z q p = p ∙ ap (replaceLow w) q
+
+  module _ (b : Bool) (y : ℕ) (is : b ≡ keepsFlight w x) (put : y ≡ replaceLow w (withoutStatus x)) where
+    pub low-flying : (r : ℕ) → b ≡ true → r ≡ withRemoteIrr y → r ≡ replaceLow20 w x
+    low-flying r h q = rw (sym is ∙ h) (q ∙ ap withRemoteIrr put)
+
+    pub low-still : b ≡ false → y ≡ replaceLow20 w x
+    low-still h = rw (sym is ∙ h) put
+
+  module _ (a : Bool) (y z : ℕ) (before : y ≡ withoutStatus w) (after : z ≡ withoutStatus x) (is : a ≡ sameLow y z) where
+    sames : (b : Bool) → a ≡ b → sameLow20 w x ≡ b
+    sames b h = ap₂ (λ (m n : ℕ). sameLow m n) (sym before) (sym after) ∙ sym is ∙ h
+
+    pub deferred-same : (m : Bool) → a ≡ true → m ≡ isMasked x → not m ≡ keepsDeferred w x
+    deferred-same m h q = rw (sames true h) (ap not q)
+
+    pub deferred-changed : a ≡ false → false ≡ keepsDeferred w x
+    deferred-changed h = rw (sames false h)
 
 -- level and in flight, and the vector, in one number: an EOI of the vector ends exactly the entry in which both bits stand beside it
 abbrev fields : ℕ → ℕ

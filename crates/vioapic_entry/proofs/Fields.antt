@@ -1,11 +1,11 @@
 -- What setting and clearing Remote IRR, and writing a half of the register, do to its fields. Assumes nothing.
-use Prim.Native.Nat.{ℕ, _/_, _%_, _<_}
+use Prim.Native.Nat.{ℕ, _+_, _*_, _/_, _%_, _<_}
 use native.Mathlib.Omega.{arith}
-use mathlib.Core.Bool.{true, false}
+use mathlib.Core.Bool.{Bool, true, false, cond}
 use mathlib.Core.Path.{_≡_, refl, sym, _∙_, ap}
 use borrow.Author.Tests.{eq-eqb, ne-eqb}
 use Rattle.types.specs.declared.Vector.{Vector}
-use Rattle.vioapic_entry.specs.Redirection.{remoteIrr, isLevel, isFit, hasVector, withRemoteIrr, withoutRemoteIrr, lowPart, replaceLow, replaceHigh}
+use Rattle.vioapic_entry.specs.Redirection.{remoteIrr, isLevel, isFit, hasVector, withRemoteIrr, withoutRemoteIrr, lowPart, replaceLow, replaceHigh, withoutStatus, keepsFlight, replaceLow20}
 
 -- two registers with the same vector, delivery mode, trigger mode and mask
 pub record Alike (u w : ℕ) : Type 0 where
@@ -67,3 +67,39 @@ irr-high w x = rw (irr-bit-high w x)
 -- another low word is the one that was written
 pub low-written : (w x : ℕ) → x < 4294967296 → lowPart (replaceLow w x) ≡ withoutRemoteIrr x
 low-written w x h = omega arith
+
+-- ---- version 0x20
+
+alike-status : (x : ℕ) → Alike (withoutStatus x) x
+alike-status x =
+    let e : withoutStatus x / 8192 ≡ x / 8192 = omega arith in
+    let t : (n : ℕ) → n / 32768 ≡ n / 8192 / 4 = λ n. omega arith in
+    alike-upper (withoutStatus x) x (omega arith) (omega arith) (t (withoutStatus x) ∙ ap (λ (n : ℕ). n / 4) e ∙ sym (t x))
+
+low-bit : (u a y : ℕ) → u ≡ a * 2 + y → u % 2 ≡ y % 2
+low-bit u a y e = omega arith
+
+alike-low : (w x : ℕ) → Alike (replaceLow w x) x
+alike-low w x =
+    let e : replaceLow w x / 32768 ≡ w / 4294967296 * 131072 + x / 32768 = omega arith in
+    let f : replaceLow w x / 65536 ≡ w / 4294967296 * 65536 + x / 65536 = omega arith in
+    record { vector = omega arith; mode = omega arith; trigger = low-bit _ (w / 4294967296 * 65536) _ (omega (arith, e)); mask = low-bit _ (w / 4294967296 * 32768) _ (omega (arith, f)) }
+
+-- another low word has the fields of the one that was written
+pub alike-low20 : (w x : ℕ) → Alike (replaceLow20 w x) x
+alike-low20 w x = go (keepsFlight w x)
+  where
+    fields : Alike (replaceLow w (withoutStatus x)) x
+    fields = alike-then (alike-low w (withoutStatus x)) (alike-status x)
+
+    go : (b : Bool) → Alike (cond b (withRemoteIrr (replaceLow w (withoutStatus x))) (replaceLow w (withoutStatus x))) x
+    go true = alike-then (alike-with (replaceLow w (withoutStatus x))) fields
+    go false = fields
+
+-- and it is in flight as before if it is level, else not
+pub irr-low20 : (w x : ℕ) → remoteIrr (replaceLow20 w x) ≡ keepsFlight w x
+irr-low20 w x = go (keepsFlight w x)
+  where
+    go : (b : Bool) → remoteIrr (cond b (withRemoteIrr (replaceLow w (withoutStatus x))) (replaceLow w (withoutStatus x))) ≡ b
+    go true = irr-with (replaceLow w (withoutStatus x))
+    go false = irr-low w (withoutStatus x)

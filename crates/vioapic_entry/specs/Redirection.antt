@@ -1,6 +1,6 @@
 -- One entry of the I/O redirection table, and each rule as a function of one entry.
--- 82093AA: IOREDTBL (Interrupt Vector, Delivery Mode, Remote IRR, Trigger Mode, Interrupt Mask). Beside its register an entry
--- has the level of its input line and a flag for a level interrupt that was deferred (`pending_level`, the Rust's name).
+-- 82093AA: IOREDTBL (Interrupt Vector, Delivery Mode, Delivery Status, Remote IRR, Trigger Mode, Interrupt Mask). Beside its register
+-- an entry has the level of its input line and a flag for a level interrupt that was deferred (`pending_level`, the Rust's name).
 -- D-nn marks where a rule departs from the data sheet (docs/DIFFERENCES.md).
 use Prim.Native.Nat.{ℕ, _+_, _*_, _/_, _%_, _^_}
 use mathlib.Core.Bool.{Bool, true, false, not, cond, _&&_, _||_}
@@ -129,7 +129,7 @@ endEntry20 e =
     cond (e .«input_level» || e .«pending_level») (sendEntry (withDeferred (withWord e (withoutRemoteIrr (e .word))) false))
     (quietly (withDeferred (withWord e (withoutRemoteIrr (e .word))) false))
 
--- ---- the guest's writes
+-- ---- the guest's writes, version 0x11
 
 -- the low word of the register, Remote IRR apart
 abbrev pub lowPart : ℕ → ℕ
@@ -159,3 +159,36 @@ writeLow e x =
 
 unfoldable pub writeHigh : Entry → ℕ → Entry
 writeHigh e x = withWord e (replaceHigh (e .word) x)
+
+-- ---- the guest's writes, version 0x20 (document 02, T-08); the high word is written as above
+
+-- Delivery Status, bit 12, is read-only: it isn't written, and reads 0 whatever the register holds
+abbrev pub withoutStatus : ℕ → ℕ
+withoutStatus w = w / 2 ^ 13 * 2 ^ 13 + w % 2 ^ 12
+
+-- the low word written is the one that is there, Delivery Status and Remote IRR apart
+abbrev pub sameLow20 : ℕ → ℕ → Bool
+sameLow20 w x = sameLow (withoutStatus w) (withoutStatus x)
+
+-- another low word. Remote IRR is read-only: it stays as it is with a level word. With an edge word it is clear
+abbrev pub keepsFlight : ℕ → ℕ → Bool
+keepsFlight w x = isLevel x && remoteIrr w
+
+abbrev pub replaceLow20 : ℕ → ℕ → ℕ
+replaceLow20 w x =
+    cond (keepsFlight w x) (withRemoteIrr (replaceLow w (withoutStatus x))) (replaceLow w (withoutStatus x))
+
+-- what was deferred stays with the same low word, unless that is masked
+abbrev pub keepsDeferred : ℕ → ℕ → Bool
+keepsDeferred w x = sameLow20 w x && not (isMasked x)
+
+unfoldable pub storeLow20 : Entry → ℕ → Entry
+storeLow20 e x = withWord (cond (keepsDeferred (e .word) x) e (withDeferred e false)) (replaceLow20 (e .word) x)
+
+-- a level entry whose line is up and that isn't in flight
+abbrev pub isOwed : Entry → Bool
+isOwed e = isLevel (e .word) && not (remoteIrr (e .word)) && e .«input_level»
+
+-- the low word is stored, and the entry is sent if it is owed that then
+unfoldable pub writeLow20 : Entry → ℕ → EntryStep
+writeLow20 e x = cond (isOwed (storeLow20 e x)) (sendEntry (storeLow20 e x)) (quietly (storeLow20 e x))

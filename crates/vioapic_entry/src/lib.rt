@@ -8,7 +8,7 @@ use types::Reply;
 use types::Vector;
 ghost use mathlib.Core.Path.{_≡_};
 ghost use Rattle.vioapic_entry.specs.Answers.{interruptReply, routedReply, isRouted};
-ghost use Rattle.vioapic_entry.specs.Redirection.{vectorOf, remoteIrr, isLevel, isMasked, withRemoteIrr, withoutRemoteIrr, isFit, sameLow, replaceLow, replaceHigh, awaits};
+ghost use Rattle.vioapic_entry.specs.Redirection.{vectorOf, remoteIrr, isLevel, isMasked, withRemoteIrr, withoutRemoteIrr, isFit, sameLow, replaceLow, replaceHigh, withoutStatus, keepsFlight, replaceLow20, keepsDeferred, awaits};
 
 // A redirection entry: its register, whether a level interrupt was deferred, and the level of its input line.
 pub struct Entry {
@@ -123,6 +123,49 @@ pub fn replace_high(word: u64, value: u32) -> u64
     ensures { λ r. ⌜ r ≡ replaceHigh word value ⌝ }
 {
     value as u64 * 0x1_0000_0000 + word % 0x1_0000_0000
+}
+
+// Version 0x20, in which Delivery Status and Remote IRR are read-only.
+
+pub fn without_status(word: u64) -> u64
+    ensures { λ r. ⌜ r ≡ withoutStatus word ⌝ }
+{
+    word / 0x2000 * 0x2000 + word % 0x1000
+}
+
+fn keeps_flight(word: u64, value: u64) -> bool
+    ensures { λ r. ⌜ r ≡ keepsFlight word value ⌝ }
+{
+    if is_level(value) {
+        return remote_irr(word);
+    }
+    false
+}
+
+// The register of an entry that isn't in flight.
+pub fn replace_resting(word: u64, value: u32) -> u64
+    ensures { λ r. ⌜ r ≡ replaceLow word (withoutStatus value) ⌝ }
+{
+    replace_low(word, without_status(value as u64) as u32)
+}
+
+pub fn replace_low20(word: u64, value: u32) -> u64
+    ensures { λ r. ⌜ r ≡ replaceLow20 word value ⌝ }
+{
+    let after = replace_resting(word, value);
+    if keeps_flight(word, value as u64) {
+        return with_remote_irr(after);
+    }
+    after
+}
+
+pub fn keeps_deferred(word: u64, value: u32) -> bool
+    ensures { λ r. ⌜ r ≡ keepsDeferred word value ⌝ }
+{
+    if same_low(without_status(word), without_status(value as u64)) {
+        return !is_masked(value as u64);
+    }
+    false
 }
 
 impl Entry {

@@ -1,9 +1,11 @@
-// Runs document 01's numbered examples 1 to 6 on the I/O APIC, and prints the number and the values of each reply.
+// Runs document 01's numbered examples 1 to 6 on the I/O APIC, and document 02's masking (T-08) on version 0x20, and prints the number
+// and the values of each reply.
 
 use types::Gsi;
 use types::Reply;
 use types::Vector;
 use vioapic::EmulatedIoApic;
+use vioapic::IoApicVersion;
 
 const IOREGSEL: u64 = 0xfec0_0000;
 
@@ -110,6 +112,32 @@ fn example_6() {
     say(b"write of width 4 below the base", wide_answer.reply());
 }
 
+// A write whose reply is told.
+fn tell(chip: EmulatedIoApic, value: u64) -> EmulatedIoApic {
+    let writing = chip.handle_write(IOWIN, 4, value);
+    let answer = writing.answer;
+    say(b"write", answer.reply());
+    writing.chip
+}
+
+// A threaded handler: the guest masks the entry, ends the interrupt, and unmasks the entry when its thread has run. The device still holds
+// its line, so that the unmasking sends (82093AA: Remote IRR is read-only, and a level that is up is delivered once it isn't masked). Then the
+// same with the end after the unmasking.
+fn threaded() {
+    let made = EmulatedIoApic::new_version(IOREGSEL, 0x1000, IoApicVersion::V20);
+    let chip = raise(write(select(made.chip, 0x14), 0x8030), 2);
+    let chip = tell(chip, 0x18030);
+    read(chip);
+    let chip = eoi(chip, 0x30);
+    let chip = tell(chip, 0x8030);
+    read(chip);
+    let chip = tell(chip, 0x18030);
+    let chip = tell(chip, 0x8030);
+    let chip = eoi(chip, 0x30);
+    let chip = lower(chip, 2);
+    eoi(chip, 0x30);
+}
+
 fn main() {
     reply_text::print_text(b"example 1\n");
     example_1();
@@ -123,4 +151,6 @@ fn main() {
     example_5();
     reply_text::print_text(b"example 6\n");
     example_6();
+    reply_text::print_text(b"version 0x20, a threaded handler\n");
+    threaded();
 }

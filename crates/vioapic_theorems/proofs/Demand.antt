@@ -163,7 +163,7 @@ demand-3 base size before after g v q h =
 record Starved (v : Vector) (h g : ℕ) (m : IoApicState) : Type 0 where
   fly : Flying v (entryAt (next m (EndOfInterrupt v)) h)
   up : entryAt (next m (EndOfInterrupt v)) h .«input_level» ≡ true
-  unsent : sent g (EndOfInterrupt v) (outcome m (EndOfInterrupt v) .reply) ≡ 0
+  unsent : sent g m (EndOfInterrupt v) (outcome m (EndOfInterrupt v) .reply) ≡ 0
 
 starved : (v : Vector) (h g : ℕ) (m : IoApicState) (x : Ending) → ChipRules m → h < g → g < 24 → Flying v (entryAt m h) → entryAt m h .«input_level» ≡ true
     → Ends m v x → next m (EndOfInterrupt v) ≡ x .state → outcome m (EndOfInterrupt v) .reply ≡ eoiReply (x .answer) → Starved v h g m
@@ -177,7 +177,7 @@ starved v h g m x k l w f u (Ends.found n) q r = go (ℕ-discrete h (firstAwaiti
     le : firstAwaiting m v ≤ h
     le = first-lowest m v (k .agrees) h (f .fly) (omega arith)
 
-    none : sent g (EndOfInterrupt v) (outcome m (EndOfInterrupt v) .reply) ≡ 0
+    none : sent g m (EndOfInterrupt v) (outcome m (EndOfInterrupt v) .reply) ≡ 0
     none = ap (resends g) r ∙ resends-one g (firstAwaiting m v) (endEntry e .answer) ∙ rw (ne-eqb (firstAwaiting m v) g (λ p. omega (arith, le)))
 
     go : Dec (h ≡ firstAwaiting m v) → Starved v h g m
@@ -201,5 +201,5 @@ starves (suc n) v h g m o k l w f u =
 
 pub never-heard : NeverHeard
 never-heard m h g v n o k l w a u =
-    let r = rules-of (entryAt m h) (k .each h (omega arith)) in
-    starves n v h g m o k l w (record { fly = a; fit = r .fit (awaiting v (entryAt m h) a .flight) }) u
+    let r = rules-of (isVersion20 m) (entryAt m h) (k .each h (omega arith)) in
+    starves n v h g m o k l w (record { fly = a; fit = r .fit o (awaiting v (entryAt m h) a .flight) }) u

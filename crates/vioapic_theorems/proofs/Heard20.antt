@@ -1,22 +1,22 @@
 -- Demand 3 in version 0x20, and the cure. Assumes nothing.
-use Prim.Native.Nat.{ℕ, zero, suc, _+_, _-_, _%_, _^_, _<_}
+use Prim.Native.Nat.{ℕ, zero, suc, _+_, _-_, _/_, _%_, _^_, _<_}
 use native.Mathlib.Omega.{arith}
 use native.Mathlib.Decide.{ℕ-discrete}
-use mathlib.Core.Bool.{Bool, true, false, cond, _&&_, _||_}
+use mathlib.Core.Bool.{Bool, true, false, not, cond, _&&_}
 use mathlib.Core.List.{List, [], _∷_}
 use mathlib.Core.Path.{_≡_, refl, sym, _∙_, ap}
 use borrow.Author.Tests.{eq-eqb, ne-eqb, eqb-true, le-leb}
 use lib.Dec.{eqb, leb}
-use lib.ListN.{length, replicate}
+use lib.ListN.{length, length-set, replicate}
 use Rattle.utils.specs.Set.{bit, setOf}
 use Rattle.utils.proofs.Laws.{bit-setOf, bit-above}
-use Rattle.utils.proofs.Bools.{never, and-true, and-false}
+use Rattle.utils.proofs.Bools.{never, not-is, and-true, and-false}
 use Rattle.types.specs.Reply.{Outcome}
 use Rattle.types.specs.declared.Vector.{Vector}
 use Rattle.vioapic_entry.specs.Answers.{isRouted}
 use Rattle.vioapic.specs.Answers.{eoiReply, writtenReply}
-use Rattle.vioapic_entry.specs.Redirection.{EntryStep, isFit, remoteIrr, hasVector, awaits, withDeferred, withWord, withoutRemoteIrr, quietly, sendEntry, endEntry20}
-use Rattle.vioapic.specs.Table.{Ending, isVersion20, entryAt, setLevel, everyAnswer, endOfEvery, endOf}
+use Rattle.vioapic_entry.specs.Redirection.{EntryStep, vectorOf, isFixed, isDeliverable, isFit, isLevel, isMasked, remoteIrr, awaits, endEntry20}
+use Rattle.vioapic.specs.Table.{Ending, isVersion20, entryAt, put, setLevel, everyAnswer, endOfEvery, endOf}
 use Rattle.vioapic.specs.Agreement.{Agrees, endEachInTable, sentInTable, endOfEveryInTable}
 use Rattle.vioapic.proofs.Every.{every-in-table}
 use Rattle.vioapic.proofs.Agree.{calls-agree}
@@ -26,15 +26,15 @@ use Rattle.vioapic.specs.Calls.{Call, SetGsiLevel, AssertGsi, EndOfInterrupt, V
 use Rattle.vioapic_entry.specs.declared.Entry.{Entry}
 use Rattle.vioapic.specs.State.{IoApicState}
 use Rattle.vioapic.specs.declared.Eoi.the-variants.{NotEnded, EndedAll}
-use Rattle.vioapic_theorems.specs.Sends.{resends, sent, sends}
-use Rattle.vioapic_theorems.specs.Premises.{allTrue, always, lineUp, keepsLow, asks, throughout}
-use Rattle.vioapic_theorems.specs.Heard20.{isEoiAt, eoisAt, again, EveryEnded, heldUp, Heard20, Demand3Of20, waits, BothSent, sentAtEoi, BothHeard, NeverStarved}
+use Rattle.vioapic_theorems.specs.Sends.{resends, writeSends, sent, sends}
+use Rattle.vioapic_theorems.specs.Premises.{allTrue, always, lineUp, asks, throughout}
+use Rattle.vioapic_theorems.specs.Heard20.{isEoiAt, eoisAt, again, EveryEnded, unmasked, keeps, heldUp, ownEoi, staysLevel, asksAtEoi, ownEois, SentAtItsEois, Heard20, Demand3Of20, waits, BothSent, sentAtEoi, BothHeard, NeverStarved}
 use Rattle.vioapic_entry.proofs.Fields.{same-fit, same-level, alike-without, irr-without}
-use Rattle.vioapic_theorems.proofs.Views.{Sent, sent-view, Over, over-view20, level-view}
-use Rattle.vioapic_theorems.proofs.Steps.{imply, awaiting, awaits-no, grounded, Flying, end-again, end-input}
-use Rattle.vioapic_theorems.proofs.Tables.{every-at, every-size}
-use Rattle.vioapic_theorems.proofs.Keeps.{rules-of, runs-keep-rules, new-keeps-rules, calls-keep-version, call-isVersion20, run-isVersion20}
-use Rattle.vioapic_theorems.proofs.Quiet.{Going, Quiet, still, level-quiet, assert-quiet, write-quiet, begins}
+use Rattle.vioapic_theorems.proofs.Views.{Sent, Over, over-view20, level-view, Writes, Write, write-view}
+use Rattle.vioapic_theorems.proofs.Steps.{implied, imply, one, awaiting, awaits-yes, awaits-no, grounded, Flying, end-again, end-input, end-pending, wrote-aloft}
+use Rattle.vioapic_theorems.proofs.Tables.{put-same, every-at, every-size}
+use Rattle.vioapic_theorems.proofs.Keeps.{runs-keep-rules, new-keeps-rules, calls-keep-version, call-isVersion20, run-isVersion20}
+use Rattle.vioapic_theorems.proofs.Quiet.{Aloft, Unmoved, idle, only, at-replaced, level-idle, assert-idle, Going, aloft, writes-nothing, writes-refused, writes-window, begins}
 
 -- ---- an entry's end
 
@@ -54,24 +54,6 @@ ends-again v e r (Over.rested a) h =
     let t : (isFit (e .word) && asks e) ≡ false = rw a (and-false (isFit (e .word))) in
     (sym t, grounded v (r .entry) (irr-without (e .word)) ∙ sym t)
 
--- nothing stays deferred
-sent-pending : (e : Entry) (r : EntryStep) → Sent e r → remoteIrr (e .word) ≡ false → r .entry .«pending_level» ≡ e .«pending_level»
-sent-pending e r (Sent.unfit p) h = refl
-sent-pending e r (Sent.edge p q) h = refl
-sent-pending e r (Sent.later p q i) h = never i h
-sent-pending e r (Sent.fresh p q i) h = refl
-
-end-pending : (e : Entry) → endEntry20 e .entry .«pending_level» ≡ false
-unfolding endEntry20
-end-pending e = go (e .«input_level» || e .«pending_level»)
-  where
-    f : Entry
-    f = withDeferred (withWord e (withoutRemoteIrr (e .word))) false
-
-    go : (b : Bool) → cond b (sendEntry f) (quietly f) .entry .«pending_level» ≡ false
-    go true = sent-pending f (sendEntry f) (sent-view f) (irr-without (e .word))
-    go false = refl
-
 module _ (v : Vector) (e : Entry) where
   each-sent : (awaits v e && isRouted (endEntry20 e .answer)) ≡ again v e
   each-sent = go (awaits v e) refl
@@ -90,7 +72,7 @@ module _ (v : Vector) (e : Entry) where
   each-pending : awaits v e ≡ true → endEachInTable v e .«pending_level» ≡ false
   each-pending p = rw p (end-pending e)
 
-  each-input : endEachInTable v e .«input_level» ≡ e .«input_level»
+  pub each-input : endEachInTable v e .«input_level» ≡ e .«input_level»
   each-input = go (awaits v e)
     where
       go : (b : Bool) → cond b (endEntry20 e .entry) e .«input_level» ≡ e .«input_level»
@@ -131,9 +113,9 @@ every-sent s v g a l =
 
 -- ---- either road
 
-record Ended (m : IoApicState) (c : Call) (v : Vector) : Type 0 where
-  after : next m c ≡ endOfEvery m v .state
-  reply : (g : ℕ) → g < 24 → sent g c (outcome m c .reply) ≡ cond (again v (entryAt m g)) 1 0
+pub record Ended (m : IoApicState) (c : Call) (v : Vector) : Type 0 where
+  pub after : next m c ≡ endOfEvery m v .state
+  pub reply : (g : ℕ) → g < 24 → sent g m c (outcome m c .reply) ≡ cond (again v (entryAt m g)) 1 0
 
 by-call : (m : IoApicState) (v : Vector) → isVersion20 m ≡ true → Agrees m → Ended m (EndOfInterrupt v) v
 unfolding outcome endOfInterrupt endOf sent
@@ -148,13 +130,14 @@ by-write m addr width x n a p e =
     let o : addr - m .base ≡ 0x40 = omega arith in
     let y : x % 2 ^ 32 % 2 ^ 8 ≡ x % 2 ^ 8 = omega arith in
     let u : Vector = record { 0 = x % 2 ^ 8 } in
+    let away : eqb addr (m .base + 0x10) ≡ false = ne-eqb addr (m .base + 0x10) (omega arith) in
     let w : handleWrite m addr width x ≡ record { state = endOfEvery m u .state; reply = writtenReply (writtenBy (endOfEvery m u .answer)) } = rw (p, q, o, n, y) in
     record {
       after = ap (λ (r : Outcome IoApicState). r .state) w;
-      reply = λ g l. ap (λ (r : Outcome IoApicState). resends g (r .reply)) w ∙ every-sent m u g a l .1;
+      reply = λ g l. rw away (ap (λ (r : Outcome IoApicState). resends g (r .reply)) w ∙ every-sent m u g a l .1);
     }
 
-is-eoi : (m : IoApicState) (v : Vector) (c : Call) → isVersion20 m ≡ true → Agrees m → isEoiAt (m .base) v c ≡ true → Ended m c v
+pub is-eoi : (m : IoApicState) (v : Vector) (c : Call) → isVersion20 m ≡ true → Agrees m → isEoiAt (m .base) v c ≡ true → Ended m c v
 is-eoi m v (EndOfInterrupt u) n ag h =
     let e : u ≡ v = ap (λ (k : ℕ). record { 0 = k }) (eqb-true (u .0) (v .0) h) in
     rw e (by-call m v n ag)
@@ -177,17 +160,22 @@ every-ended m g v c n ag l h =
 
 -- ---- a call's part in the count
 
-record Turn (v : Vector) (g : ℕ) (m : IoApicState) (c : Call) : Type 0 where
-  going : Going v g (next m c)
-  count : sent g c (outcome m c .reply) ≡ cond (isEoiAt (m .base) v c) 1 0
+record Turn (g : ℕ) (m : IoApicState) (c : Call) : Type 0 where
+  aloft : Aloft g (next m c)
+  count : sent g m c (outcome m c .reply) ≡ cond (ownEoi g m c) 1 0
 
-passes : (v : Vector) (g : ℕ) (m : IoApicState) (c : Call) → Quiet v g m c → isEoiAt (m .base) v c ≡ false → Turn v g m c
-passes v g m c k i = record { going = k .going; count = rw i (k .unsent) }
+-- a call that is no EOI of the entry's vector, and leaves its register
+passes : (g : ℕ) (m : IoApicState) (c : Call) → Aloft g m → Unmoved g m c → ownEoi g m c ≡ false → Turn g m c
+passes g m c k u i =
+    record {
+      aloft = record { size = u .size; within = k .within; level = rw (u .word) (k .level); flight = rw (u .word) (k .flight) };
+      count = rw i (u .unsent);
+    }
 
--- an EOI of v sends it, and one of another vector leaves it as it is
-eoi-turn : (v : Vector) (g : ℕ) (m : IoApicState) (c : Call) (u : Vector) → Agrees m → Going v g m → lineUp g m ≡ true → Ended m c u
-    → isEoiAt (m .base) v c ≡ eqb (u .0) (v .0) → Turn v g m c
-eoi-turn v g m c u ag k up t i = go (ℕ-discrete (u .0) (v .0))
+-- an EOI of its vector sends it if it is fit and asks, and one of another vector leaves it as it is
+eoi-turn : (g : ℕ) (m : IoApicState) (c : Call) (u : Vector) → Agrees m → Aloft g m → Ended m c u
+    → ownEoi g m c ≡ eqb (u .0) (entryAt m g .word % 2 ^ 8) → (ownEoi g m c ≡ true → (isFit (entryAt m g .word) && asks (entryAt m g)) ≡ true) → Turn g m c
+eoi-turn g m c u ag k t i h = go (ℕ-discrete (u .0) (entryAt m g .word % 2 ^ 8))
   where
     e : Entry
     e = entryAt m g
@@ -198,70 +186,154 @@ eoi-turn v g m c u ag k up t i = go (ℕ-discrete (u .0) (v .0))
     long : length (next m c .entries) ≡ 24
     long = ap (λ (s : IoApicState). length (s .entries)) (t .after) ∙ every-size m u ag ∙ k .size
 
-    go : Dec (u .0 ≡ v .0) → Turn v g m c
+    go : Dec (u .0 ≡ entryAt m g .word % 2 ^ 8) → Turn g m c
     go (yes p) =
-        let s : u ≡ v = ap (λ (n : ℕ). record { 0 = n }) p in
-        let a : asks e ≡ true = rw up in
-        let b : again u e ≡ true = rw s (rw (k .on .fly, k .on .fit, a)) in
+        let own : ownEoi g m c ≡ true = i ∙ eq-eqb (u .0) (e .word % 2 ^ 8) p in
+        let a : awaits u e ≡ true = awaits-yes u e (record { vector = eq-eqb (e .word % 2 ^ 8) (u .0) (sym p); level = k .level; flight = k .flight }) in
+        let b : again u e ≡ true = rw (a, h own) in
+        let f = awaiting u (endEachInTable u e) (each-awaits u e ∙ b) in
         record {
-          going = record { size = long; within = k .within; on = rw at (rw s (each-flies v e (k .on) a)) };
-          count = t .reply g (k .within) ∙ rw (b, i, eq-eqb (u .0) (v .0) p);
+          aloft = record { size = long; within = k .within; level = rw at (f .level); flight = rw at (f .flight) };
+          count = t .reply g (k .within) ∙ rw (b, own);
         }
     go (no p) =
-        let differ : hasVector (e .word) u ≡ true → ⊥ = λ q. p (sym (eqb-true (e .word % 256) (u .0) q) ∙ eqb-true (e .word % 256) (v .0) (awaiting v e (k .on .fly) .vector)) in
-        let b : awaits u e ≡ false = awaits-no u e (λ a. differ (a .vector)) in
+        let own : ownEoi g m c ≡ false = i ∙ ne-eqb (u .0) (e .word % 2 ^ 8) p in
+        let b : awaits u e ≡ false = awaits-no u e (λ a. p (sym (eqb-true (e .word % 2 ^ 8) (u .0) (a .vector)))) in
         record {
-          going = record { size = long; within = k .within; on = rw at (rw b (k .on)) };
-          count = t .reply g (k .within) ∙ rw (b, i, ne-eqb (u .0) (v .0) p);
+          aloft = record { size = long; within = k .within; level = rw at (rw b (k .level)); flight = rw at (rw b (k .flight)) };
+          count = t .reply g (k .within) ∙ rw (b, own);
         }
 
-turn : (v : Vector) (g : ℕ) (m : IoApicState) (c : Call) → isVersion20 m ≡ true → Agrees m → Going v g m → lineUp g m ≡ true → keepsLow m c g ≡ true → Turn v g m c
-unfolding outcome setGsiLevel assertGsi sent
-turn v g m (SetGsiLevel gsi b) n ag k u d =
-    passes v g m (SetGsiLevel gsi b) (level-quiet v g m gsi b k) refl
-turn v g m (AssertGsi gsi) n ag k u d =
-    passes v g m (AssertGsi gsi) (assert-quiet v g m gsi k) refl
-turn v g m (EndOfInterrupt w) n ag k u d = eoi-turn v g m (EndOfInterrupt w) w ag k u (by-call m w n ag) refl
-turn v g m (VectorForGsi gsi) n ag k u d = passes v g m (VectorForGsi gsi) (still v g m (VectorForGsi gsi) k refl refl) refl
-turn v g m AddressRange n ag k u d = passes v g m AddressRange (still v g m AddressRange k refl refl) refl
-turn v g m (HandleRead addr width) n ag k u d = passes v g m (HandleRead addr width) (still v g m (HandleRead addr width) k refl refl) refl
-turn v g m (HandleWrite addr width x) n ag k u d = go (goodWidth width && eqb addr (m .base + 0x40)) refl
+-- a write that is no EOI
+word-turn : (g : ℕ) (m : IoApicState) (c : Call) (addr width x : ℕ) (o : Outcome IoApicState) → isVersion20 m ≡ true → Aloft g m → staysLevel g m c ≡ true
+    → (goodWidth width && eqb addr (m .base + 0x40)) ≡ false → ownEoi g m c ≡ false
+    → Write m addr width x o → outcome m c ≡ o → sent g m c (outcome m c .reply) ≡ writeSends g m addr (o .reply) → Turn g m c
+word-turn g m c addr width x o n k d away i (Write.refused why) q z = passes g m c k (idle g m c k (ap (λ (r : Outcome IoApicState). r .state .entries) q) (z ∙ writes-refused g m addr why)) i
+word-turn g m c addr width x o n k d away i (Write.served p l (Writes.selected y)) q z = passes g m c k (idle g m c k (ap (λ (r : Outcome IoApicState). r .state .entries) q) (z ∙ writes-nothing g m addr)) i
+word-turn g m c addr width x o n k d away i (Write.served p l (Writes.eoi j e)) q z = never (rw (p, eq-eqb addr (m .base + 0x40) (omega arith))) away
+word-turn g m c addr width x o n k d away i (Write.served p l (Writes.word h r b j e u)) q z =
+    record {
+      aloft = record { size = ap (λ (s : IoApicState). length (s .entries)) at ∙ length-set (m .entries) h (r .entry) ∙ k .size; within = k .within; level = d; flight = flies };
+      count = z ∙ writes-window g m addr h (r .answer) l e j ∙ only h g (one (r .answer)) (λ y. mine y .1) ∙ sym (ap (λ (b : Bool). cond b 1 0) i);
+    }
   where
-    go : (b : Bool) → (goodWidth width && eqb addr (m .base + 0x40)) ≡ b → Turn v g m (HandleWrite addr width x)
+    at : next m c ≡ put m h (r .entry)
+    at = ap (λ (y : Outcome IoApicState). y .state) q
+
+    mine : h ≡ g → (remoteIrr (r .entry .word) ≡ true) × (one (r .answer) ≡ 0)
+    mine y =
+        let own : entryAt (next m c) g ≡ r .entry = ap (λ (s : IoApicState). entryAt s g) at ∙ ap (entryAt (put m h (r .entry))) (sym y) ∙ put-same m h (r .entry) (k .size) b in
+        wrote-aloft (isVersion20 m) (entryAt m h) (x % 2 ^ 32) r n u (rw y (k .flight)) (ap (λ (f : Entry). isLevel (f .word)) (sym own) ∙ d)
+
+    flies : remoteIrr (entryAt (next m c) g .word) ≡ true
+    flies =
+        ap (λ (s : IoApicState). remoteIrr (entryAt s g .word)) at
+        ∙ at-replaced (λ f. remoteIrr (f .word) ≡ true) g m h (r .entry) (k .size) b (λ y. mine y .0) (k .flight)
+
+turn : (g : ℕ) (m : IoApicState) (c : Call) → isVersion20 m ≡ true → Agrees m → Aloft g m → staysLevel g m c ≡ true
+    → (ownEoi g m c ≡ true → (isFit (entryAt m g .word) && asks (entryAt m g)) ≡ true) → Turn g m c
+unfolding outcome setGsiLevel assertGsi sent
+turn g m (SetGsiLevel gsi b) n ag k d a = passes g m (SetGsiLevel gsi b) k (level-idle g m gsi b k) refl
+turn g m (AssertGsi gsi) n ag k d a = passes g m (AssertGsi gsi) k (assert-idle g m gsi k) refl
+turn g m (EndOfInterrupt w) n ag k d a = eoi-turn g m (EndOfInterrupt w) w ag k (by-call m w n ag) refl a
+turn g m (VectorForGsi gsi) n ag k d a = passes g m (VectorForGsi gsi) k (idle g m (VectorForGsi gsi) k refl refl) refl
+turn g m AddressRange n ag k d a = passes g m AddressRange k (idle g m AddressRange k refl refl) refl
+turn g m (HandleRead addr width) n ag k d a = passes g m (HandleRead addr width) k (idle g m (HandleRead addr width) k refl refl) refl
+turn g m (HandleWrite addr width x) n ag k d a = go (goodWidth width && eqb addr (m .base + 0x40)) refl
+  where
+    go : (b : Bool) → (goodWidth width && eqb addr (m .base + 0x40)) ≡ b → Turn g m (HandleWrite addr width x)
     go true p =
         let q = and-true (goodWidth width) (eqb addr (m .base + 0x40)) p in
-        eoi-turn v g m (HandleWrite addr width x) (record { 0 = x % 2 ^ 8 }) ag k u (by-write m addr width x n ag (q .0) (eqb-true addr (m .base + 0x40) (q .1))) (rw p)
-    go false p =
-        passes v g m (HandleWrite addr width x)
-        (write-quiet v g m addr width x k d (λ i q e. never (rw (q, eq-eqb addr (m .base + 0x40) e)) p))
-        (rw p)
+        eoi-turn g m (HandleWrite addr width x) (record { 0 = x % 2 ^ 8 }) ag k (by-write m addr width x n ag (q .0) (eqb-true addr (m .base + 0x40) (q .1))) (rw p) a
+    go false p = word-turn g m (HandleWrite addr width x) addr width x (handleWrite m addr width x) n k d p (rw p) (write-view m addr width x) refl refl
 
 -- ---- a run
 
--- the premises of its first call, and of the rest
-first-held : (g : ℕ) (m : IoApicState) (c : Call) (cs : List Call) → throughout (heldUp g) m (c ∷ cs) ≡ true
-    → (lineUp g m ≡ true) × (keepsLow m c g ≡ true) × (throughout (heldUp g) (next m c) cs ≡ true)
-unfolding throughout
-first-held g m c cs h =
-    let p = and-true (allTrue (heldUp g m c)) (throughout (heldUp g) (next m c) cs) h in
-    let q = and-true (always (lineUp g) m c) (keepsLow m c g && true) (p .0) in
-    let r = and-true (keepsLow m c g) true (q .1) in
-    (and-true (lineUp g m) (lineUp g (next m c)) (q .0) .0, r .0, p .1)
+turns : (g : ℕ) (m : IoApicState) (cs : List Call) → isVersion20 m ≡ true → Agrees m → Aloft g m → throughout (λ n c. staysLevel g n c ∷ asksAtEoi g n c ∷ []) m cs ≡ true → sends g m cs ≡ ownEois g m cs
+unfolding sends ownEois throughout
+turns g m [] n ag k h = refl
+turns g m (c ∷ cs) n ag k h =
+    let p = and-true (staysLevel g m c && (asksAtEoi g m c && true)) (throughout (λ n c. staysLevel g n c ∷ asksAtEoi g n c ∷ []) (next m c) cs) h in
+    let q = and-true (staysLevel g m c) (asksAtEoi g m c && true) (p .0) in
+    let r = and-true (asksAtEoi g m c) true (q .1) in
+    let t = turn g m c n ag k (q .0) (implied (ownEoi g m c) (isFit (entryAt m g .word) && asks (entryAt m g)) (r .0)) in
+    rw (t .count, turns g (next m c) cs (call-isVersion20 m c ∙ n) (calls-agree m c ag) (t .aloft) (p .1))
 
-turns : (v : Vector) (g : ℕ) (m : IoApicState) (cs : List Call) → isVersion20 m ≡ true → Agrees m → Going v g m → throughout (heldUp g) m cs ≡ true → sends g m cs ≡ eoisAt (m .base) v cs
+pub sent-at-its-eois : SentAtItsEois
+sent-at-its-eois m g cs n ag l a b h = turns g m cs n ag (record { size = ag .table; within = l; level = a; flight = b }) h
+
+-- ---- the demand's premises
+
+record Held (g : ℕ) (m : IoApicState) (c : Call) : Type 0 where
+  up : lineUp g m ≡ true
+  alike : isFit (entryAt m g .word) ≡ true → isFit (entryAt (next m c) g .word) ≡ true
+  vector : entryAt (next m c) g .word % 2 ^ 8 ≡ entryAt m g .word % 2 ^ 8
+  level : isLevel (entryAt (next m c) g .word) ≡ isLevel (entryAt m g .word)
+
+held-up : (g : ℕ) (m : IoApicState) (c : Call) → allTrue (heldUp g m c) ≡ true → Held g m c
+held-up g m c h =
+    let w : ℕ = entryAt m g .word in
+    let y : ℕ = entryAt (next m c) g .word in
+    let p = and-true (always (lineUp g) m c) (always (unmasked g) m c && (keeps (λ w. w % 2 ^ 8) g m c && (keeps (λ w. w / 2 ^ 8 % 8) g m c && (keeps (λ w. w / 2 ^ 15 % 2) g m c && true)))) h in
+    let q = and-true (always (unmasked g) m c) (keeps (λ w. w % 2 ^ 8) g m c && (keeps (λ w. w / 2 ^ 8 % 8) g m c && (keeps (λ w. w / 2 ^ 15 % 2) g m c && true))) (p .1) in
+    let r = and-true (keeps (λ w. w % 2 ^ 8) g m c) (keeps (λ w. w / 2 ^ 8 % 8) g m c && (keeps (λ w. w / 2 ^ 15 % 2) g m c && true)) (q .1) in
+    let s = and-true (keeps (λ w. w / 2 ^ 8 % 8) g m c) (keeps (λ w. w / 2 ^ 15 % 2) g m c && true) (r .1) in
+    let t = and-true (keeps (λ w. w / 2 ^ 15 % 2) g m c) true (s .1) in
+    let v : y % 2 ^ 8 ≡ w % 2 ^ 8 = eqb-true _ _ (r .0) in
+    let d : y / 2 ^ 8 % 8 ≡ w / 2 ^ 8 % 8 = eqb-true _ _ (s .0) in
+    let l : y / 2 ^ 15 % 2 ≡ w / 2 ^ 15 % 2 = eqb-true _ _ (t .0) in
+    let u : isMasked y ≡ false = not-is (isMasked y) (and-true (unmasked g m) (unmasked g (next m c)) (q .0) .1) in
+    record {
+      up = and-true (lineUp g m) (lineUp g (next m c)) (p .0) .0;
+      alike = λ f.
+          let a = and-true (not (isMasked w) && isFixed w) (isDeliverable w) f in
+          rw (u, d, v, and-true (not (isMasked w)) (isFixed w) (a .0) .1, a .1);
+      vector = v;
+      level = rw l;
+    }
+
+-- with them entry g goes on with v, fit, and is sent at each EOI of v
+record HeldTurn (v : Vector) (g : ℕ) (m : IoApicState) (c : Call) : Type 0 where
+  going : Going v g (next m c)
+  count : sent g m c (outcome m c .reply) ≡ cond (isEoiAt (m .base) v c) 1 0
+
+held-turn : (v : Vector) (g : ℕ) (m : IoApicState) (c : Call) → isVersion20 m ≡ true → Agrees m → Going v g m → allTrue (heldUp g m c) ≡ true → HeldTurn v g m c
+held-turn v g m c n ag k h =
+    let d = held-up g m c h in
+    let a = awaiting v (entryAt m g) (k .on .fly) in
+    let x : entryAt m g .word % 2 ^ 8 ≡ v .0 = eqb-true _ _ (a .vector) in
+    let i : vectorOf (entryAt m g .word) ≡ v = ap (λ (y : ℕ). record { 0 = y }) x in
+    let t = turn g m c n ag (aloft v g m k) (d .level ∙ a .level) (λ o. rw (k .on .fit, d .up)) in
+    record {
+      going = record {
+        size = t .aloft .size;
+        within = k .within;
+        on = record {
+          fly = awaits-yes v (entryAt (next m c) g) (record { vector = eq-eqb _ _ (d .vector ∙ x); level = t .aloft .level; flight = t .aloft .flight });
+          fit = d .alike (k .on .fit);
+        };
+      };
+      count = t .count ∙ ap (λ (u : Vector). cond (isEoiAt (m .base) u c) 1 0) i;
+    }
+
+first-held : (g : ℕ) (m : IoApicState) (c : Call) (cs : List Call) → throughout (heldUp g) m (c ∷ cs) ≡ true → (allTrue (heldUp g m c) ≡ true) × (throughout (heldUp g) (next m c) cs ≡ true)
+unfolding throughout
+first-held g m c cs h = and-true (allTrue (heldUp g m c)) (throughout (heldUp g) (next m c) cs) h
+
+held-turns : (v : Vector) (g : ℕ) (m : IoApicState) (cs : List Call) → isVersion20 m ≡ true → Agrees m → Going v g m → throughout (heldUp g) m cs ≡ true → sends g m cs ≡ eoisAt (m .base) v cs
 unfolding sends eoisAt
-turns v g m [] n ag k h = refl
-turns v g m (c ∷ cs) n ag k h =
+held-turns v g m [] n ag k h = refl
+held-turns v g m (c ∷ cs) n ag k h =
     let p = first-held g m c cs h in
-    let t = turn v g m c n ag k (p .0) (p .1) in
-    let rest : sends g (next m c) cs ≡ eoisAt (m .base) v cs = turns v g (next m c) cs (call-isVersion20 m c ∙ n) (calls-agree m c ag) (t .going) (p .2) ∙ ap (λ (b : ℕ). eoisAt b v cs) (calls-keep-version m c .1) in
+    let t = held-turn v g m c n ag k (p .0) in
+    let rest : sends g (next m c) cs ≡ eoisAt (m .base) v cs = held-turns v g (next m c) cs (call-isVersion20 m c ∙ n) (calls-agree m c ag) (t .going) (p .1) ∙ ap (λ (b : ℕ). eoisAt b v cs) (calls-keep-version m c .1) in
     rw (t .count, rest)
 
 pub heard-20 : Heard20
 unfolding sends sent outcome setGsiLevel
 heard-20 m g v after n l q h =
     let k = begins m g v (setLevel m g true) (l .table) (level-view m g true) q in
-    let t = turns v (g .0) (next m (SetGsiLevel g true)) after (call-isVersion20 m (SetGsiLevel g true) ∙ n) (calls-agree m (SetGsiLevel g true) l) k h in
+    let t = held-turns v (g .0) (next m (SetGsiLevel g true)) after (call-isVersion20 m (SetGsiLevel g true) ∙ n) (calls-agree m (SetGsiLevel g true) l) k h in
     rw (eq-eqb (g .0) (g .0) refl, q, t, calls-keep-version m (SetGsiLevel g true) .1)
 
 pub demand-3-of-20 : Demand3Of20
@@ -271,19 +343,19 @@ demand-3-of-20 base size before after g v q h =
 -- ---- the cure
 
 -- an entry that waits asks, and is sent again
-waiting : (v : Vector) (e : Entry) → waits v e ≡ true → (again v e ≡ true) × Flying v e
+waiting : (v : Vector) (e : Entry) → waits v e ≡ true → (again v e ≡ true) × Flying v e × (e .«input_level» ≡ true)
 waiting v e h =
     let p = and-true (awaits v e) (isFit (e .word) && e .«input_level») h in
     let q = and-true (isFit (e .word)) (e .«input_level») (p .1) in
     let a : asks e ≡ true = rw (q .1) in
-    (rw (p .0, q .0, a), record { fly = p .0; fit = q .0 })
+    (rw (p .0, q .0, a), record { fly = p .0; fit = q .0 }, q .1)
 
 pub both-sent : BothSent
 both-sent m g h v c n ag i j a b o =
     (every-ended m g v c n ag i o .0 ∙ rw (waiting v (entryAt m g) a .0), every-ended m h v c n ag j o .0 ∙ rw (waiting v (entryAt m h) b .0))
 
-turn-sent : (v : Vector) (g : ℕ) (m : IoApicState) (c : Call) → Turn v g m c → sentAtEoi v g m c ≡ true
-turn-sent v g m c t = imply (isEoiAt (m .base) v c) (eqb (sent g c (outcome m c .reply)) 1) (λ i. eq-eqb (sent g c (outcome m c .reply)) 1 (t .count ∙ rw i))
+turn-sent : (v : Vector) (g : ℕ) (m : IoApicState) (c : Call) → HeldTurn v g m c → sentAtEoi v g m c ≡ true
+turn-sent v g m c t = imply (isEoiAt (m .base) v c) (eqb (sent g m c (outcome m c .reply)) 1) (λ i. eq-eqb (sent g m c (outcome m c .reply)) 1 (t .count ∙ rw i))
 
 both-turns : (m : IoApicState) (g h : ℕ) (v : Vector) (cs : List Call) → isVersion20 m ≡ true → Agrees m → Going v g m → Going v h m
     → throughout (heldUp g) m cs ≡ true → throughout (heldUp h) m cs ≡ true → throughout (λ n c. sentAtEoi v g n c ∷ sentAtEoi v h n c ∷ []) m cs ≡ true
@@ -292,28 +364,28 @@ both-turns m g h v [] n ag k l a b = refl
 both-turns m g h v (c ∷ cs) n ag k l a b =
     let p = first-held g m c cs a in
     let q = first-held h m c cs b in
-    let t = turn v g m c n ag k (p .0) (p .1) in
-    let u = turn v h m c n ag l (q .0) (q .1) in
-    rw (turn-sent v g m c t, turn-sent v h m c u) (both-turns (next m c) g h v cs (call-isVersion20 m c ∙ n) (calls-agree m c ag) (t .going) (u .going) (p .2) (q .2))
+    let t = held-turn v g m c n ag k (p .0) in
+    let u = held-turn v h m c n ag l (q .0) in
+    rw (turn-sent v g m c t, turn-sent v h m c u) (both-turns (next m c) g h v cs (call-isVersion20 m c ∙ n) (calls-agree m c ag) (t .going) (u .going) (p .1) (q .1))
 
 pub both-heard : BothHeard
 both-heard m g h v cs n s i j a b =
     both-turns m g h v cs n s (record { size = s .table; within = i; on = waiting v (entryAt m g) a .1 }) (record { size = s .table; within = j; on = waiting v (entryAt m h) b .1 })
 
--- an EOI leaves the line up
-unstarved : (n : ℕ) (v : Vector) (g : ℕ) (m : IoApicState) → isVersion20 m ≡ true → Agrees m → Going v g m → lineUp g m ≡ true → sends g m (replicate n (EndOfInterrupt v)) ≡ n
+-- an EOI leaves such an entry so
+unstarved : (n : ℕ) (v : Vector) (g : ℕ) (m : IoApicState) → isVersion20 m ≡ true → Agrees m → g < 24 → waits v (entryAt m g) ≡ true → sends g m (replicate n (EndOfInterrupt v)) ≡ n
 unfolding sends
-unstarved zero v g m i ag k u = refl
-unstarved (suc n) v g m i ag k u =
+unstarved zero v g m i ag l w = refl
+unstarved (suc n) v g m i ag l w =
+    let k = waiting v (entryAt m g) w in
     let e = by-call m v i ag in
-    let t = eoi-turn v g m (EndOfInterrupt v) v ag k u e refl in
-    let up : lineUp g (next m (EndOfInterrupt v)) ≡ true = ap (λ (s : IoApicState). lineUp g s) (e .after) ∙ ap (λ (x : Entry). x .«input_level») (every-at m v ag g) ∙ each-input v (entryAt m g) ∙ u in
-    rw (t .count, eq-eqb (v .0) (v .0) refl, unstarved n v g (next m (EndOfInterrupt v)) (call-isVersion20 m (EndOfInterrupt v) ∙ i) (calls-agree m (EndOfInterrupt v) ag) (t .going) up) (omega arith)
+    let one : sent g m (EndOfInterrupt v) (outcome m (EndOfInterrupt v) .reply) ≡ 1 = e .reply g l ∙ rw (k .0) in
+    let at : entryAt (next m (EndOfInterrupt v)) g ≡ endEachInTable v (entryAt m g) = ap (λ (s : IoApicState). entryAt s g) (e .after) ∙ every-at m v ag g in
+    let a : asks (entryAt m g) ≡ true = rw (k .2) in
+    let f = each-flies v (entryAt m g) (k .1) a in
+    let up : endEachInTable v (entryAt m g) .«input_level» ≡ true = each-input v (entryAt m g) ∙ k .2 in
+    let still : waits v (entryAt (next m (EndOfInterrupt v)) g) ≡ true = rw at (rw (f .fly, f .fit, up)) in
+    rw (one, unstarved n v g (next m (EndOfInterrupt v)) (call-isVersion20 m (EndOfInterrupt v) ∙ i) (calls-agree m (EndOfInterrupt v) ag) l still) (omega arith)
 
 pub never-starved : NeverStarved
-never-starved m h g v n i k l w a x b y = (unstarved n v h m i (k .agrees) (flies h (omega arith) a) x, unstarved n v g m i (k .agrees) (flies g w b) y)
-  where
-    flies : (j : ℕ) → j < 24 → awaits v (entryAt m j) ≡ true → Going v j m
-    flies j d c =
-        let r = rules-of (entryAt m j) (k .each j d) in
-        record { size = k .agrees .table; within = d; on = record { fly = c; fit = r .fit (awaiting v (entryAt m j) c .flight) } }
+never-starved m h g v n i k l w a b = (unstarved n v h m i (k .agrees) (omega arith) a, unstarved n v g m i (k .agrees) w b)

@@ -1,6 +1,8 @@
 pub mod Demand
+pub mod Each
 pub mod Heard20
 pub mod Keeps
+pub mod Masking
 pub mod OnTime
 pub mod Quiet
 pub mod Steps

@@ -33,7 +33,7 @@ use Rattle.vioapic_theorems.proofs.Views.{sent-view, moved-view, Over, 
 use Rattle.vioapic_theorems.proofs.Steps.{implied, one, awaiting, awaits-no, send-awaits, move-awaits, end-alike, end-again, end-rest, wrote-kept, wrote-none}
 use Rattle.vioapic_theorems.proofs.Tables.{all-at, lower-put, lower-gone, first-awaits, first-lowest, first-own, first-lower}
 use Rattle.vioapic_theorems.proofs.Keeps.{call-isVersion20}
-use Rattle.vioapic_theorems.proofs.Quiet.{Going, Quiet, replaced, still, moves, own, only, level-quiet, assert-quiet, low-kept, write-quiet, begins}
+use Rattle.vioapic_theorems.proofs.Quiet.{Going, Quiet, aloft, quiet, replaced, idle, moves, own, only, level-idle, assert-idle, low-kept, write-quiet, begins}
 
 -- ---- the premises of one call
 
@@ -57,7 +57,7 @@ held-of v g m c h =
 
 record Turn (v : Vector) (g : ℕ) (m : IoApicState) (c : Call) : Type 0 where
   going : Going v g (next m c)
-  count : (n : ℕ) → sent g c (outcome m c .reply) + (n - lowerInFlight v g (next m c)) ≡ cond (isEoi v c) 1 0 + n - lowerInFlight v g m
+  count : (n : ℕ) → sent g m c (outcome m c .reply) + (n - lowerInFlight v g (next m c)) ≡ cond (isEoi v c) 1 0 + n - lowerInFlight v g m
 
 -- a call that sends nothing for entry g, is no EOI of v, and keeps what is in flight with v below g
 passes : (v : Vector) (g : ℕ) (m : IoApicState) (c : Call) → Quiet v g m c → isEoi v c ≡ false → lowerInFlight v g (next m c) ≡ lowerInFlight v g m → Turn v g m c
@@ -92,14 +92,14 @@ write-lower : (v : Vector) (g : ℕ) (m : IoApicState) (c : Call) (addr width x 
 write-lower v g m c addr width x r o n d (Write.refused why) q = refl
 write-lower v g m c addr width x r o n d (Write.served p l (Writes.selected y)) q = refl
 write-lower v g m c addr width x r o n d (Write.served p l (Writes.eoi i e)) q = never i o
-write-lower v g m c addr width x r o n d (Write.served p l (Writes.word h f i u)) q = lower-put v g m n h f i (λ k. lower k (awaits v (entryAt m h)) refl)
+write-lower v g m c addr width x r o n d (Write.served p l (Writes.word h f i j y u)) q = lower-put v g m n h (f .entry) i (λ k. lower k (awaits v (entryAt m h)) refl)
   where
-    lower : h < g → (a : Bool) → awaits v (entryAt m h) ≡ a → awaits v f ≡ awaits v (entryAt m h)
+    lower : h < g → (a : Bool) → awaits v (entryAt m h) ≡ a → awaits v (f .entry) ≡ awaits v (entryAt m h)
     lower k true e =
         let t = all-at g (λ j. implies (awaits v (entryAt m j)) (keepsLow m c j)) d h k in
-        let b = low-kept m c h f n i (ap (λ (z : Outcome IoApicState). z .state) q) (implied (awaits v (entryAt m h)) (keepsLow m c h) t e) in
-        wrote-kept v (entryAt m h) (x % 4294967296) f (omega arith) u b .0
-    lower k false e = wrote-none v (entryAt m h) (x % 4294967296) f u e ∙ sym e
+        let b = low-kept m c h (f .entry) n i (ap (λ (z : Outcome IoApicState). z .state) q) (implied (awaits v (entryAt m h)) (keepsLow m c h) t e) in
+        wrote-kept v (isVersion20 m) (entryAt m h) (x % 4294967296) f o (omega arith) u b .0
+    lower k false e = wrote-none v (isVersion20 m) (entryAt m h) (x % 4294967296) f o u e ∙ sym e
 
 -- ---- an EOI of another vector
 
@@ -129,7 +129,7 @@ other-turn v g m u x k n (Ends.found l) q r =
 
     apart : h ≡ g → ⊥
     apart p = differ (awaiting v (entryAt m h) (own v g m h k p .fly) .vector)
-other-turn v g m u x k n (Ends.unfound l) q r = passes v g m (EndOfInterrupt u) (still v g m (EndOfInterrupt u) k (ap (λ (s : IoApicState). s .entries) q) (ap (resends g) r)) (ne-eqb (u .0) (v .0) n) (rw q)
+other-turn v g m u x k n (Ends.unfound l) q r = passes v g m (EndOfInterrupt u) (quiet v g m (EndOfInterrupt u) k (idle g m (EndOfInterrupt u) (aloft v g m k) (ap (λ (s : IoApicState). s .entries) q) (ap (resends g) r))) (ne-eqb (u .0) (v .0) n) (rw q)
 
 -- ---- an EOI of v
 
@@ -148,7 +148,7 @@ own-turn v g m u x ag k e d (Ends.found l) q r = go (lowerInFlight v g m) refl
     eoi : isEoi v (EndOfInterrupt u) ≡ true
     eoi = eq-eqb (u .0) (v .0) (ap (λ (y : Vector). y .0) e)
 
-    reply : sent g (EndOfInterrupt u) (outcome m (EndOfInterrupt u) .reply) ≡ cond (eqb h g) (one (endEntry (entryAt m h) .answer)) 0
+    reply : sent g m (EndOfInterrupt u) (outcome m (EndOfInterrupt u) .reply) ≡ cond (eqb h g) (one (endEntry (entryAt m h) .answer)) 0
     reply = ap (resends g) r ∙ resends-one g h (endEntry (entryAt m h) .answer)
 
     go : (n : ℕ) → lowerInFlight v g m ≡ n → Turn v g m (EndOfInterrupt u)
@@ -156,7 +156,7 @@ own-turn v g m u x ag k e d (Ends.found l) q r = go (lowerInFlight v g m) refl
         let p : h ≡ g = first-own m v ag g (k .within) (k .on .fly) z in
         let a : asks (entryAt m g) ≡ true = implied (isEoi v (EndOfInterrupt u) && eqb h g) (asks (entryAt m g)) (d .own-asks) (rw (eoi, eq-eqb h g p)) in
         let t = end-again v (entryAt m h) (endEntry (entryAt m h)) over (own v g m h k p) (rw p a) in
-        let y : sent g (EndOfInterrupt u) (outcome m (EndOfInterrupt u) .reply) ≡ 1 = reply ∙ rw (eq-eqb h g p) (t .1) in
+        let y : sent g m (EndOfInterrupt u) (outcome m (EndOfInterrupt u) .reply) ≡ 1 = reply ∙ rw (eq-eqb h g p) (t .1) in
         let b : lowerInFlight v g (next m (EndOfInterrupt u)) ≡ 0 = rw q (lower-put v g m (k .size) h (endEntry (entryAt m h) .entry) l (λ j. absurd (omega arith)) ∙ z) in
         record {
           going = rw q (replaced v g m h (endEntry (entryAt m h) .entry) k l (λ j. t .0));
@@ -166,7 +166,7 @@ own-turn v g m u x ag k e d (Ends.found l) q r = go (lowerInFlight v g m) refl
         let p : h < g = first-lower m v ag g j z in
         let a : asks (entryAt m h) ≡ false = not-is (asks (entryAt m h)) (implied (isEoi v (EndOfInterrupt u) && ltb h g) (not (asks (entryAt m h))) (d .lower-rests) (rw (eoi, lt-ltb h g p))) in
         let t = end-rest v (entryAt m h) (endEntry (entryAt m h)) over a in
-        let y : sent g (EndOfInterrupt u) (outcome m (EndOfInterrupt u) .reply) ≡ 0 = reply ∙ only h g (one (endEntry (entryAt m h) .answer)) (λ i. t .1) in
+        let y : sent g m (EndOfInterrupt u) (outcome m (EndOfInterrupt u) .reply) ≡ 0 = reply ∙ only h g (one (endEntry (entryAt m h) .answer)) (λ i. t .1) in
         let s : lowerInFlight v g m ≡ suc (lowerInFlight v g (put m h (endEntry (entryAt m h) .entry))) = lower-gone v g m (k .size) h (endEntry (entryAt m h) .entry) l p (first-awaits m v l) (t .0) in
         let b : lowerInFlight v g (next m (EndOfInterrupt u)) ≡ j = rw q (omega (arith, s, z)) in
         record {
@@ -179,10 +179,10 @@ own-turn v g m u x ag k e d (Ends.found l) q r = go (lowerInFlight v g m) refl
 turn : (v : Vector) (g : ℕ) (m : IoApicState) (c : Call) → isVersion20 m ≡ false → Agrees m → Going v g m → Held v g m c → Turn v g m c
 unfolding outcome setGsiLevel assertGsi endOfInterrupt sent
 turn v g m (SetGsiLevel gsi b) o ag k d =
-    passes v g m (SetGsiLevel gsi b) (level-quiet v g m gsi b k) refl
+    passes v g m (SetGsiLevel gsi b) (quiet v g m (SetGsiLevel gsi b) k (level-idle g m gsi b (aloft v g m k))) refl
     (line-lower v g m gsi (λ e. moveLine e b) (setLevel m gsi b) (k .size) (λ e. move-awaits v e b (moveLine e b) (moved-view e b)) (level-view m gsi b) (d .lower-unsent))
 turn v g m (AssertGsi gsi) o ag k d =
-    passes v g m (AssertGsi gsi) (assert-quiet v g m gsi k) refl
+    passes v g m (AssertGsi gsi) (quiet v g m (AssertGsi gsi) k (assert-idle g m gsi (aloft v g m k))) refl
     (line-lower v g m gsi sendEntry (interruptForEntry m gsi) (k .size) (λ e. send-awaits v e (sendEntry e) (sent-view e)) (assert-view m gsi) (d .lower-unsent))
 turn v g m (EndOfInterrupt u) o ag k d = go (ℕ-discrete (u .0) (v .0))
   where
@@ -191,12 +191,12 @@ turn v g m (EndOfInterrupt u) o ag k d = go (ℕ-discrete (u .0) (v .0))
         let e : u ≡ v = ap (λ (n : ℕ). record { 0 = n }) p in
         own-turn v g m u (endOf m u) ag k e d (rw e (ends-old m v o)) refl refl
     go (no p) = other-turn v g m u (endOf m u) k p (ends-old m u o) refl refl
-turn v g m (VectorForGsi gsi) o ag k d = passes v g m (VectorForGsi gsi) (still v g m (VectorForGsi gsi) k refl refl) refl refl
-turn v g m AddressRange o ag k d = passes v g m AddressRange (still v g m AddressRange k refl refl) refl refl
-turn v g m (HandleRead addr width) o ag k d = passes v g m (HandleRead addr width) (still v g m (HandleRead addr width) k refl refl) refl refl
+turn v g m (VectorForGsi gsi) o ag k d = passes v g m (VectorForGsi gsi) (quiet v g m (VectorForGsi gsi) k (idle g m (VectorForGsi gsi) (aloft v g m k) refl refl)) refl refl
+turn v g m AddressRange o ag k d = passes v g m AddressRange (quiet v g m AddressRange k (idle g m AddressRange (aloft v g m k) refl refl)) refl refl
+turn v g m (HandleRead addr width) o ag k d = passes v g m (HandleRead addr width) (quiet v g m (HandleRead addr width) k (idle g m (HandleRead addr width) (aloft v g m k) refl refl)) refl refl
 turn v g m (HandleWrite addr width x) o ag k d =
     passes v g m (HandleWrite addr width x)
-    (write-quiet v g m addr width x k (d .own-kept) (λ i p e. never i o))
+    (write-quiet v g m addr width x o k (d .own-kept))
     refl
     (write-lower v g m (HandleWrite addr width x) addr width x (handleWrite m addr width x) o (k .size) (d .lower-kept) (write-view m addr width x) refl)
 

@@ -1,23 +1,24 @@
 -- What each rule does to an entry that is in flight, and what it keeps. Assumes nothing.
-use Prim.Native.Nat.{ℕ, _%_, _^_, _<_}
+use Prim.Native.Nat.{ℕ, _/_, _%_, _^_, _<_}
 use native.Mathlib.Omega.{arith}
-use mathlib.Core.Bool.{Bool, true, false, _&&_}
+use mathlib.Core.Bool.{Bool, true, false, not, cond, _&&_, _||_}
 use mathlib.Core.Path.{_≡_, refl, sym, _∙_, ap}
-use borrow.Author.Tests.{eq-eqb}
-use Rattle.utils.proofs.Bools.{never, and-true}
+use borrow.Author.Tests.{eq-eqb, eqb-true}
+use Rattle.utils.proofs.Bools.{never, and-true, both}
 use Rattle.types.specs.Reply.{flag}
 use Rattle.types.specs.declared.Vector.{Vector}
 use Rattle.types.specs.declared.Reply.{Reply}
 use Rattle.types.specs.declared.Reply.the-variants.{Refused, Nothing, One, Two, Three}
 use Rattle.vioapic_entry.specs.Answers.{routedReply}
-use Rattle.vioapic_entry.specs.Redirection.{EntryStep, isFit, isLevel, remoteIrr, hasVector, awaits, lowPart, withRemoteIrr, withoutRemoteIrr, withWord, withDeferred, withInput}
+use Rattle.vioapic_entry.specs.Redirection.{EntryStep, isFit, isLevel, remoteIrr, hasVector, awaits, lowPart, withRemoteIrr, withoutRemoteIrr, withWord, withDeferred, withInput, isMasked, quietly, sendEntry, endEntry20, withoutStatus, sameLow20, keepsDeferred, storeLow20}
 use Rattle.vioapic_entry.specs.declared.Entry.{Entry}
 use Rattle.vioapic_entry.specs.declared.Routed.{Routed}
 use Rattle.vioapic_entry.specs.declared.Routed.the-variants.{NotRouted, Interrupt}
 use Rattle.vioapic_theorems.specs.Rules.{implies}
 use Rattle.vioapic_theorems.specs.Premises.{asks, levelSent}
-use Rattle.vioapic_entry.proofs.Fields.{Alike, alike-refl, alike-then, same-fit, same-level, same-vector, alike-with, alike-without, alike-high, irr-with, irr-without, irr-low, irr-high, low-written}
-use Rattle.vioapic_theorems.proofs.Views.{Sent, Raised, Moved, Over, Wrote}
+use Rattle.vioapic_entry.proofs.Fields.{Alike, alike-refl, alike-then, same-fit, same-level, same-vector, alike-with, alike-without, alike-high, irr-with, irr-without, irr-low, irr-high, low-written, alike-low20, irr-low20}
+use Rattle.vioapic_entry.proofs.EntryLaws.{owed-level, owed-grounded}
+use Rattle.vioapic_theorems.proofs.Views.{Sent, sent-view, Raised, Moved, Over, Stored, Wrote}
 
 pub implied : (a b : Bool) → implies a b ≡ true → a ≡ true → b ≡ true
 implied true b e h = e
@@ -77,11 +78,11 @@ send-awaits v e r (Sent.fresh p q i) n = other ∙ sym (grounded v e i)
     other = awaits-no v (withWord e (withRemoteIrr (e .word))) (λ a. never (rw (a .vector, level)) n)
 
 -- an entry in flight isn't sent, and its register stays
-pub send-flying : (v : Vector) (e : Entry) (r : EntryStep) → Sent e r → awaits v e ≡ true → (r .entry .word ≡ e .word) × (one (r .answer) ≡ 0)
-send-flying v e r (Sent.unfit p) h = (refl, refl)
-send-flying v e r (Sent.edge p q) h = never (awaiting v e h .level) q
-send-flying v e r (Sent.later p q i) h = (refl, refl)
-send-flying v e r (Sent.fresh p q i) h = never (awaiting v e h .flight) i
+pub send-flying : (e : Entry) (r : EntryStep) → Sent e r → isLevel (e .word) ≡ true → remoteIrr (e .word) ≡ true → (r .entry .word ≡ e .word) × (one (r .answer) ≡ 0)
+send-flying e r (Sent.unfit p) l f = (refl, refl)
+send-flying e r (Sent.edge p q) l f = never l q
+send-flying e r (Sent.later p q i) l f = (refl, refl)
+send-flying e r (Sent.fresh p q i) l f = never f i
 
 -- what a level interrupt of v leaves: an entry in flight with v, fit to be sent
 pub record Flying (v : Vector) (e : Entry) : Type 0 where
@@ -142,10 +143,10 @@ pub move-awaits : (v : Vector) (e : Entry) (b : Bool) (r : EntryStep) → Moved 
 move-awaits v e b r (Moved.up s) n = raise-awaits v e r s n
 move-awaits v e b r Moved.down n = refl
 
-pub move-flying : (v : Vector) (e : Entry) (b : Bool) (r : EntryStep) → Moved e b r → awaits v e ≡ true → (r .entry .word ≡ e .word) × (one (r .answer) ≡ 0)
-move-flying v e b r (Moved.up (Raised.again p q)) h = (refl, refl)
-move-flying v e b r (Moved.up (Raised.raised s)) h = send-flying v (withInput e true) r s h
-move-flying v e b r Moved.down h = (refl, refl)
+pub move-flying : (e : Entry) (b : Bool) (r : EntryStep) → Moved e b r → isLevel (e .word) ≡ true → remoteIrr (e .word) ≡ true → (r .entry .word ≡ e .word) × (one (r .answer) ≡ 0)
+move-flying e b r (Moved.up (Raised.again p q)) l f = (refl, refl)
+move-flying e b r (Moved.up (Raised.raised s)) l f = send-flying (withInput e true) r s l f
+move-flying e b r Moved.down l f = (refl, refl)
 
 pub raised-level : (v : Vector) (e : Entry) (r : EntryStep) → Raised e r → routedReply (r .answer) ≡ Two (v .0) 1
     → (hasVector (e .word) v ≡ true) × (isLevel (e .word) ≡ true) × Flying v (r .entry)
@@ -153,7 +154,7 @@ raised-level v e r (Raised.again p q) h = absurd (let z : 0 ≡ 1 = ap levelIn h
 raised-level v e r (Raised.raised s) h = sent-level v (withInput e true) r s h
 
 -- a sending doesn't move the line, and a raised line is up
-send-input : (e : Entry) (r : EntryStep) → Sent e r → r .entry .«input_level» ≡ e .«input_level»
+pub send-input : (e : Entry) (r : EntryStep) → Sent e r → r .entry .«input_level» ≡ e .«input_level»
 send-input e r (Sent.unfit p) = refl
 send-input e r (Sent.edge p q) = refl
 send-input e r (Sent.later p q i) = refl
@@ -193,17 +194,102 @@ pub end-input : (e : Entry) (r : EntryStep) → Over e r → r .entry .«input_l
 end-input e r (Over.resent b a c s) = send-input (withDeferred (withWord e (withoutRemoteIrr (e .word))) b) r s
 end-input e r (Over.rested a) = refl
 
--- ---- the guest's writes
+-- what was deferred is as before where the entry isn't in flight, and in version 0x20 nothing is deferred after an EOI
+send-pending : (e : Entry) (r : EntryStep) → Sent e r → remoteIrr (e .word) ≡ false → r .entry .«pending_level» ≡ e .«pending_level»
+send-pending e r (Sent.unfit p) h = refl
+send-pending e r (Sent.edge p q) h = refl
+send-pending e r (Sent.later p q i) h = never i h
+send-pending e r (Sent.fresh p q i) h = refl
+
+pub end-pending : (e : Entry) → endEntry20 e .entry .«pending_level» ≡ false
+unfolding endEntry20
+end-pending e = go (e .«input_level» || e .«pending_level»)
+  where
+    f : Entry
+    f = withDeferred (withWord e (withoutRemoteIrr (e .word))) false
+
+    go : (b : Bool) → cond b (sendEntry f) (quietly f) .entry .«pending_level» ≡ false
+    go true = send-pending f (sendEntry f) (sent-view f) (irr-without (e .word))
+    go false = refl
+
+-- ---- the guest's writes, version 0x11
+
+-- nothing is sent
+pub wrote-quiet : (n : Bool) (e : Entry) (x : ℕ) (r : EntryStep) → n ≡ false → Wrote n e x r → r .answer ≡ NotRouted
+wrote-quiet n e x r old (Wrote.kept o b c) = refl
+wrote-quiet n e x r old (Wrote.changed o c) = refl
+wrote-quiet n e x r old (Wrote.stored o s) = never o old
+wrote-quiet n e x r old Wrote.high = refl
 
 -- with the low word kept, the entry is in flight as before, and as fit
-pub wrote-kept : (v : Vector) (e : Entry) (x : ℕ) (f : Entry) → x < 4294967296 → Wrote e x f → lowPart (f .word) ≡ lowPart (e .word)
-    → (awaits v f ≡ awaits v e) × (isFit (f .word) ≡ isFit (e .word))
-wrote-kept v e x f h (Wrote.kept b c) q = (refl, refl)
-wrote-kept v e x f h (Wrote.changed n) q = absurd (n (sym q ∙ low-written (e .word) x h))
-wrote-kept v e x f h Wrote.high q = (awaits-alike v f e (alike-high (e .word) x) (irr-high (e .word) x), same-fit (alike-high (e .word) x))
+pub wrote-kept : (v : Vector) (n : Bool) (e : Entry) (x : ℕ) (r : EntryStep) → n ≡ false → x < 4294967296 → Wrote n e x r → lowPart (r .entry .word) ≡ lowPart (e .word)
+    → (awaits v (r .entry) ≡ awaits v e) × (isFit (r .entry .word) ≡ isFit (e .word))
+wrote-kept v n e x r old h (Wrote.kept o b c) q = (refl, refl)
+wrote-kept v n e x r old h (Wrote.changed o c) q = absurd (c (sym q ∙ low-written (e .word) x h))
+wrote-kept v n e x r old h (Wrote.stored o s) q = never o old
+wrote-kept v n e x r old h Wrote.high q = (awaits-alike v (r .entry) e (alike-high (e .word) x) (irr-high (e .word) x), same-fit (alike-high (e .word) x))
 
 -- and no write puts an entry in flight
-pub wrote-none : (v : Vector) (e : Entry) (x : ℕ) (f : Entry) → Wrote e x f → awaits v e ≡ false → awaits v f ≡ false
-wrote-none v e x f (Wrote.kept b c) q = q
-wrote-none v e x f (Wrote.changed n) q = grounded v f (irr-low (e .word) x)
-wrote-none v e x f Wrote.high q = awaits-alike v f e (alike-high (e .word) x) (irr-high (e .word) x) ∙ q
+pub wrote-none : (v : Vector) (n : Bool) (e : Entry) (x : ℕ) (r : EntryStep) → n ≡ false → Wrote n e x r → awaits v e ≡ false → awaits v (r .entry) ≡ false
+wrote-none v n e x r old (Wrote.kept o b c) q = q
+wrote-none v n e x r old (Wrote.changed o c) q = grounded v (r .entry) (irr-low (e .word) x)
+wrote-none v n e x r old (Wrote.stored o s) q = never o old
+wrote-none v n e x r old Wrote.high q = awaits-alike v (r .entry) e (alike-high (e .word) x) (irr-high (e .word) x) ∙ q
+
+-- ---- the guest's writes, version 0x20
+
+-- bit 15 stands above Delivery Status and Remote IRR, and in the low word
+level-status : (w : ℕ) → isLevel (withoutStatus w) ≡ isLevel w
+level-status w =
+    let e : withoutStatus w / 8192 ≡ w / 8192 = omega arith in
+    let t : (n : ℕ) → n / 32768 ≡ n / 8192 / 4 = λ n. omega arith in
+    let b : withoutStatus w / 32768 ≡ w / 32768 = t (withoutStatus w) ∙ ap (λ (n : ℕ). n / 4) e ∙ sym (t w) in
+    rw b
+
+level-low : (w : ℕ) → isLevel (lowPart w) ≡ isLevel w
+level-low w =
+    let b : w % 4294967296 / 32768 % 2 ≡ w / 32768 % 2 = omega arith in
+    same-level (alike-without (w % 4294967296)) ∙ rw b
+
+-- so that the same low word has the same trigger mode
+pub same-trigger : (w x : ℕ) → sameLow20 w x ≡ true → isLevel w ≡ isLevel x
+same-trigger w x h =
+    let e = eqb-true (lowPart (withoutStatus w)) (withoutRemoteIrr (withoutStatus x)) h in
+    sym (level-low (withoutStatus w) ∙ level-status w) ∙ ap isLevel e ∙ same-level (alike-without (withoutStatus x)) ∙ level-status x
+
+module _ (e : Entry) (x : ℕ) where
+  -- the entry as it is stored: the fields of the word that was written, in flight as before if that is level, the line as it is
+  pub stored-alike : Alike (storeLow20 e x .word) x
+  unfolding storeLow20
+  stored-alike = alike-low20 (e .word) x
+
+  pub stored-flight : remoteIrr (storeLow20 e x .word) ≡ (isLevel x && remoteIrr (e .word))
+  unfolding storeLow20
+  stored-flight = irr-low20 (e .word) x
+
+  pub stored-input : storeLow20 e x .«input_level» ≡ e .«input_level»
+  unfolding storeLow20
+  stored-input = both (λ (f : Entry). f .«input_level» ≡ e .«input_level») (keepsDeferred (e .word) x) e (withDeferred e false) refl refl
+
+  -- what is deferred then was deferred, and the low word is the same
+  pub stored-pending : storeLow20 e x .«pending_level» ≡ true → (sameLow20 (e .word) x ≡ true) × (e .«pending_level» ≡ true)
+  unfolding storeLow20
+  stored-pending = go (sameLow20 (e .word) x) (isMasked x) refl
+    where
+      go : (a b : Bool) → sameLow20 (e .word) x ≡ a → cond (a && not b) e (withDeferred e false) .«pending_level» ≡ true → (a ≡ true) × (e .«pending_level» ≡ true)
+      go true true p h = never h refl
+      go true false p h = (refl, h)
+      go false b p h = never h refl
+
+-- an entry in flight isn't sent by a write, and flies on if that leaves it level
+pub wrote-aloft : (n : Bool) (e : Entry) (x : ℕ) (r : EntryStep) → n ≡ true → Wrote n e x r → remoteIrr (e .word) ≡ true → isLevel (r .entry .word) ≡ true
+    → (remoteIrr (r .entry .word) ≡ true) × (one (r .answer) ≡ 0)
+wrote-aloft n e x r new (Wrote.kept o b c) f l = never new o
+wrote-aloft n e x r new (Wrote.changed o c) f l = never new o
+wrote-aloft n e x r new (Wrote.stored o (Stored.owed h s)) f l =
+    let p : isLevel x ≡ true = sym (same-level (stored-alike e x)) ∙ owed-level (storeLow20 e x) h in
+    never (stored-flight e x ∙ rw (p, f)) (owed-grounded (storeLow20 e x) h)
+wrote-aloft n e x r new (Wrote.stored o (Stored.unowed h)) f l =
+    let p : isLevel x ≡ true = sym (same-level (stored-alike e x)) ∙ l in
+    (stored-flight e x ∙ rw (p, f), refl)
+wrote-aloft n e x r new Wrote.high f l = (irr-high (e .word) x ∙ f, refl)

@@ -11,14 +11,15 @@ use Rattle.types.specs.declared.Gsi.{Gsi}
 use Rattle.types.specs.declared.Vector.{Vector}
 use Rattle.types.specs.declared.Refusal.{Refusal}
 use Rattle.types.specs.declared.Refusal.the-variants.{Unsupported, InvalidAddress}
-use Rattle.vioapic_entry.specs.Redirection.{EntryStep, isFit, isLevel, remoteIrr, isMasked, sameLow, lowPart, withRemoteIrr, withoutRemoteIrr, replaceLow, replaceHigh, withWord, withDeferred, withInput, quietly, sending, settled, sendEntry, raiseEntry, lowerEntry, moveLine, endEntry, endEntry20, writeLow, writeHigh}
-use Rattle.vioapic.specs.Table.{Routing, Ending, isVersion20, entryAt, put, routeAt, unrouted, ending, endAt, interruptForEntry, setLevel, firstAwaiting, endOfEntry, endOfEvery, endOf}
-use Rattle.vioapic.specs.Registers.{Writing, isEntryWord, entryOf, isLow, done, writeWord, writeSelected, eoiWritten, writeEoi, withSelector, writeAt}
+use Rattle.vioapic_entry.specs.Redirection.{EntryStep, isFit, isLevel, remoteIrr, isMasked, sameLow, lowPart, withRemoteIrr, withoutRemoteIrr, replaceLow, replaceHigh, withWord, withDeferred, withInput, quietly, sending, settled, sendEntry, raiseEntry, lowerEntry, moveLine, endEntry, endEntry20, writeLow, writeHigh, storeLow20, isOwed, writeLow20}
+use Rattle.vioapic.specs.Table.{Routing, Ending, isVersion20, entryAt, routeAt, unrouted, ending, endAt, interruptForEntry, setLevel, firstAwaiting, endOfEntry, endOfEvery, endOf}
+use Rattle.vioapic.specs.Registers.{Writing, writing, isEntryWord, entryOf, isLow, done, writeWord, entryWritten, writeSelected, eoiWritten, writeEoi, withSelector, writeAt}
 use Rattle.vioapic.specs.IoApic.{goodWidth, writingOutcome, refuse, handleWrite}
 use Rattle.vioapic.proofs.Ways.{entry-word-range}
 use Rattle.vioapic_entry.specs.declared.Entry.{Entry}
 use Rattle.vioapic.specs.State.{IoApicState}
 use Rattle.vioapic.specs.declared.Eoi.the-variants.{NotEnded}
+use Rattle.vioapic.specs.declared.Written.the-variants.{NotWritten}
 use Rattle.vioapic_theorems.specs.Premises.{asks}
 
 -- ---- an entry is sent
@@ -99,27 +100,47 @@ over-view20 e = go (e .«input_level») (e .«pending_level») refl refl
 
 -- ---- the guest writes it
 
-pub data Wrote (e : Entry) (x : ℕ) : Entry → Type 0 where
-  kept : (b : Bool) → (b ≡ true → e .«pending_level» ≡ true) → Wrote e x (withDeferred e b)
-  changed : (lowPart (e .word) ≡ withoutRemoteIrr x → ⊥) → Wrote e x (withDeferred (withWord e (replaceLow (e .word) x)) false)
-  high : Wrote e x (withWord e (replaceHigh (e .word) x))
+-- a low word of version 0x20: stored, and sent if it is owed that
+pub data Stored (e : Entry) (x : ℕ) : EntryStep → Type 0 where
+  owed : {r : EntryStep} → isOwed (storeLow20 e x) ≡ true → Sent (storeLow20 e x) r → Stored e x r
+  unowed : isOwed (storeLow20 e x) ≡ false → Stored e x (quietly (storeLow20 e x))
 
-pub wrote-view : (sel : ℕ) (e : Entry) (x : ℕ) → Wrote e x (writeWord sel e x)
-unfolding writeWord writeLow writeHigh
-wrote-view sel e x = go (isLow sel) (sameLow (e .word) x) refl refl
+pub stored-view : (e : Entry) (x : ℕ) → Stored e x (writeLow20 e x)
+unfolding writeLow20
+stored-view e x = go (isOwed (storeLow20 e x)) refl
   where
-    settle : (b : Bool) → Wrote e x (cond b (withDeferred e false) e)
-    settle true = kept false (λ h. absurd (let z : _≡_ {A = ℕ} 0 1 = cc in omega arith))
-    settle false = kept (e .«pending_level») (λ h. h)
+    go : (b : Bool) → isOwed (storeLow20 e x) ≡ b → Stored e x (cond b (sendEntry (storeLow20 e x)) (quietly (storeLow20 e x)))
+    go true h = owed h (sent-view (storeLow20 e x))
+    go false h = unowed h
+
+pub data Wrote (version20 : Bool) (e : Entry) (x : ℕ) : EntryStep → Type 0 where
+  kept : version20 ≡ false → (b : Bool) → (b ≡ true → e .«pending_level» ≡ true) → Wrote version20 e x (quietly (withDeferred e b))
+  changed : version20 ≡ false → (lowPart (e .word) ≡ withoutRemoteIrr x → ⊥) → Wrote version20 e x (quietly (withDeferred (withWord e (replaceLow (e .word) x)) false))
+  stored : {r : EntryStep} → version20 ≡ true → Stored e x r → Wrote version20 e x r
+  high : Wrote version20 e x (quietly (withWord e (replaceHigh (e .word) x)))
+
+pub wrote-view : (n : Bool) (sel : ℕ) (e : Entry) (x : ℕ) → Wrote n e x (writeWord n sel e x)
+unfolding writeWord writeLow writeHigh
+wrote-view true sel e x = go (isLow sel)
+  where
+    go : (a : Bool) → Wrote true e x (cond a (writeLow20 e x) (quietly (withWord e (replaceHigh (e .word) x))))
+    go true = stored refl (stored-view e x)
+    go false = high
+wrote-view false sel e x = go (isLow sel) (sameLow (e .word) x) refl refl
+  where
+    settle : (b : Bool) → Wrote false e x (quietly (cond b (withDeferred e false) e))
+    settle true = kept refl false (λ h. absurd (let z : _≡_ {A = ℕ} 0 1 = cc in omega arith))
+    settle false = kept refl (e .«pending_level») (λ h. h)
 
     plain : (f : Entry) → (b : Bool) → cond b (withDeferred (withDeferred f false) false) (withDeferred f false) ≡ withDeferred f false
     plain f true = refl
     plain f false = refl
 
-    go : (a b : Bool) → isLow sel ≡ a → sameLow (e .word) x ≡ b → Wrote e x (cond a (settled (cond b e (withDeferred (withWord e (replaceLow (e .word) x)) false))) (withWord e (replaceHigh (e .word) x)))
+    go : (a b : Bool) → isLow sel ≡ a → sameLow (e .word) x ≡ b
+        → Wrote false e x (cond a (quietly (settled (cond b e (withDeferred (withWord e (replaceLow (e .word) x)) false)))) (quietly (withWord e (replaceHigh (e .word) x))))
     go true true p q = settle (isMasked (e .word))
     go true false p q =
-        rw (plain (withWord e (replaceLow (e .word) x)) (isMasked (replaceLow (e .word) x))) (changed (eqb-false (lowPart (e .word)) (withoutRemoteIrr x) q))
+        rw (plain (withWord e (replaceLow (e .word) x)) (isMasked (replaceLow (e .word) x))) (changed refl (eqb-false (lowPart (e .word)) (withoutRemoteIrr x) q))
     go false b p q = high
 
 -- ---- the calls on a state
@@ -174,26 +195,26 @@ ends-old s v o = rw o (ends-view s v)
 
 pub data Writes (s : IoApicState) (offset x : ℕ) : Writing → Type 0 where
   selected : (y : ℕ) → Writes s offset x (done (withSelector s y))
-  word : (h : ℕ) (f : Entry) → h < 24 → Wrote (entryAt s h) x f → Writes s offset x (done (put s h f))
+  word : (h : ℕ) (r : EntryStep) → h < 24 → h ≡ entryOf (s .selector) → offset ≡ 0x10 → Wrote (isVersion20 s) (entryAt s h) x r → Writes s offset x (entryWritten s h r)
   eoi : isVersion20 s ≡ true → offset ≡ 0x40 → Writes s offset x (eoiWritten (endOfEvery s (record { 0 = x % 2 ^ 8 })))
 
 writes-view : (s : IoApicState) (offset x : ℕ) → Writes s offset x (writeAt s offset x)
 unfolding writeAt writeSelected writeEoi
-writes-view s offset x = go (eqb offset 0) (eqb offset 0x10) (eqb offset 0x40) (isEntryWord (s .selector)) (isVersion20 s) refl refl refl
+writes-view s offset x = go (eqb offset 0) (eqb offset 0x10) (eqb offset 0x40) (isEntryWord (s .selector)) (isVersion20 s) refl refl refl refl
   where
-    word-written : Writing
-    word-written = done (put s (entryOf (s .selector)) (writeWord (s .selector) (entryAt s (entryOf (s .selector))) x))
+    step : EntryStep
+    step = writeWord (isVersion20 s) (s .selector) (entryAt s (entryOf (s .selector))) x
 
-    go : (a b d c n : Bool) → eqb offset 0x40 ≡ d → isEntryWord (s .selector) ≡ c → isVersion20 s ≡ n
-        → Writes s offset x (cond a (done (withSelector s x)) (cond b (cond c word-written (done s)) (cond d (cond n (eoiWritten (endOfEvery s (record { 0 = x % 2 ^ 8 }))) (done s)) (done s))))
-    go true b d c n o p q = selected x
-    go false false false c n o p q = selected (s .selector)
-    go false false true c false o p q = selected (s .selector)
-    go false false true c true o p q = eoi q (eqb-true offset 0x40 o)
-    go false true d false n o p q = selected (s .selector)
-    go false true d true n o p q =
+    go : (a b d c n : Bool) → eqb offset 0x10 ≡ b → eqb offset 0x40 ≡ d → isEntryWord (s .selector) ≡ c → isVersion20 s ≡ n
+        → Writes s offset x (cond a (done (withSelector s x)) (cond b (cond c (entryWritten s (entryOf (s .selector)) step) (done s)) (cond d (cond n (eoiWritten (endOfEvery s (record { 0 = x % 2 ^ 8 }))) (done s)) (done s))))
+    go true b d c n w o p q = selected x
+    go false false false c n w o p q = selected (s .selector)
+    go false false true c false w o p q = selected (s .selector)
+    go false false true c true w o p q = eoi q (eqb-true offset 0x40 o)
+    go false true d false n w o p q = selected (s .selector)
+    go false true d true n w o p q =
         let r = entry-word-range (s .selector) p in
-        word (entryOf (s .selector)) (writeWord (s .selector) (entryAt s (entryOf (s .selector))) x) (omega arith) (wrote-view (s .selector) (entryAt s (entryOf (s .selector))) x)
+        word (entryOf (s .selector)) step (omega arith) refl (eqb-true offset 0x10 w) (wrote-view (isVersion20 s) (s .selector) (entryAt s (entryOf (s .selector))) x)
 
 -- a write as a call: refused, or served
 pub data Write (m : IoApicState) (addr width x : ℕ) : Outcome IoApicState → Type 0 where
@@ -205,10 +226,8 @@ pub write-view : (m : IoApicState) (addr width x : ℕ) → Write m addr width x
 unfolding handleWrite
 write-view m addr width x = go (goodWidth width) (leb (m .base) addr) refl refl
   where
-    done-so : Outcome IoApicState
-    done-so = writingOutcome (writeAt m (addr - m .base) (x % 2 ^ 32))
-
-    go : (a b : Bool) → goodWidth width ≡ a → leb (m .base) addr ≡ b → Write m addr width x (cond a (cond b done-so (refuse m InvalidAddress)) (refuse m Unsupported))
+    go : (a b : Bool) → goodWidth width ≡ a → leb (m .base) addr ≡ b
+        → Write m addr width x (writingOutcome (cond a (cond b (writeAt m (addr - m .base) (x % 2 ^ 32)) (writing m (NotWritten InvalidAddress))) (writing m (NotWritten Unsupported))))
     go false b p q = refused Unsupported
     go true false p q = refused InvalidAddress
     go true true p q = served p (leb-true (m .base) addr q) (writes-view m (addr - m .base) (x % 2 ^ 32))

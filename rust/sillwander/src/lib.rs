@@ -35,7 +35,7 @@ pub use self::{
         X86AccessWidth, X86GuestPhysAddr, X86GuestPhysAddrRange, X86InterruptVector, X86MsrAddr, X86MsrAddrRange, X86Port,
         X86PortRange, X86VcpuId, X86VlapicError, X86VlapicResult,
     },
-    vioapic::{EmulatedIoApic, EmulatedIoApic20, IoApicEoi, IoApicEois, IoApicInterrupt},
+    vioapic::{EmulatedIoApic, EmulatedIoApic20, IoApicEoi, IoApicEois, IoApicInterrupt, IoApicWritten},
     vlapic::{EmulatedLocalApic, Ipi, IpiKind},
     vpic::{EmulatedPic, PicInterruptClaim, PicRule},
 };

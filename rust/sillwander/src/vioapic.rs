@@ -1,7 +1,7 @@
-//! The I/O APIC, in two versions: 0x11, the original's, and 0x20, whose EOI ends every entry of a vector.
+//! The I/O APIC, in two versions: 0x11, the original's, and 0x20, whose EOI ends every entry of a vector and whose Remote IRR (bit 14) is read-only.
 //!
 //! The names and signatures are those of vioapic.rs of x86_vlapic 0.5.4 (Copyright The Axvisor Team, Apache License 2.0; `NOTICE`); behind them are calls of the archive.
-//! The original has no version 0x20: [`EmulatedIoApic20`] and [`IoApicEois`] are ours.
+//! The original has no version 0x20: [`EmulatedIoApic20`], [`IoApicEois`] and [`IoApicWritten`] are ours.
 
 use crate::{
     archives::*,
@@ -12,6 +12,9 @@ use crate::{
 const IOAPIC_BASE: usize = 0xfec0_0000;
 const IOAPIC_SIZE: usize = 0x1000;
 const VERSION_20: u64 = 0x20;
+const IOEOI: u64 = 0x40;
+/// The word that holds the base address.
+const BASE: usize = 27;
 
 /// An interrupt that the I/O APIC sends.
 #[derive(Clone, Copy, Debug, Eq, PartialEq)]
@@ -62,6 +65,17 @@ impl IoApicEois {
     }
 }
 
+/// What a write to an I/O APIC of version 0x20 caused.
+#[derive(Clone, Copy, Debug, Eq, PartialEq)]
+pub enum IoApicWritten {
+    /// Nothing that is to be injected.
+    Done,
+    /// The interrupt of the entry that was written, to be injected now: the low word leaves it fit to be sent and level-triggered, its line is up, and it isn't in flight.
+    Sent(IoApicInterrupt),
+    /// What a write of the EOI register, at offset 0x40, ended.
+    Ended(IoApicEois),
+}
+
 /// The lines of a set, from the lowest up.
 #[inline]
 fn lines(mut set: u32) -> impl Iterator<Item = usize> {
@@ -80,6 +94,9 @@ pub struct EmulatedIoApic {
 
 /// A 24-line I/O APIC of version 0x20, as in Intel's I/O Controller Hubs: an EOI ends every line in flight with the vector, where version 0x11 ends the first, and a
 /// guest may write it to the register at offset 0x40. So two lines that share a vector and stay up are both sent again at each EOI of it.
+///
+/// Remote IRR is read-only there: a guest that masks a line in flight, gives the EOI and unmasks it gets the interrupt of a line that is still up by the unmasking
+/// write, whose answer has it ([`IoApicWritten::Sent`]).
 ///
 /// ```
 /// # use sillwander::{EmulatedIoApic20, IoApicEois, X86AccessWidth::Dword, X86GuestPhysAddr};
@@ -212,16 +229,18 @@ impl EmulatedIoApic20 {
         IoApicEois::of(sillwander_ioapic_end_of_interrupt(&mut self.words, vector.into()))
     }
 
-    /// A memory write, of the value's low 32 bits. Refused as a read is. A write at offset 0x40 is an EOI of the value's low 8 bits, and gives what
-    /// [`end_of_interrupt`](Self::end_of_interrupt) gives; any other gives none.
+    /// A memory write, of the value's low 32 bits. Refused as a read is. A write at offset 0x40 is an EOI of the value's low 8 bits, and ends what
+    /// [`end_of_interrupt`](Self::end_of_interrupt) does; one of an entry's low word may send its interrupt.
     #[inline]
-    pub fn handle_write(
-        &mut self,
-        addr: X86GuestPhysAddr,
-        width: X86AccessWidth,
-        val: usize,
-    ) -> X86VlapicResult<Option<IoApicEois>> {
-        done(sillwander_ioapic_handle_write(&mut self.words, addr.as_usize() as u64, width.size() as u64, val as u64))
-            .map(IoApicEois::of)
+    pub fn handle_write(&mut self, addr: X86GuestPhysAddr, width: X86AccessWidth, val: usize) -> X86VlapicResult<IoApicWritten> {
+        let addr = addr.as_usize() as u64;
+        // Either answer has two values: which it is goes by the address.
+        let is_eoi = addr.wrapping_sub(self.words[BASE]) == IOEOI;
+        let code = done(sillwander_ioapic_handle_write(&mut self.words, addr, width.size() as u64, val as u64))?;
+        Ok(if is_eoi {
+            IoApicEois::of(code).map_or(IoApicWritten::Done, IoApicWritten::Ended)
+        } else {
+            sent(code).map_or(IoApicWritten::Done, IoApicWritten::Sent)
+        })
     }
 }

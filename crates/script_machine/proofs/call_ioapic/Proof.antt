@@ -2,6 +2,7 @@ use Rattle.vioapic.specs.Calls.{outcome}
 use Rattle.script_machine.proofs.Outcomes.{replied}
 use mathlib.Core.Path.{ap, _∙_}
 use Rattle.types.specs.Reply.{outcomeOf}
+use Rattle.vioapic.specs.IoApic.{writingOutcome, handleWrite}
 use borrow.Author.Needs.{needs}
 use Rattle.script_machine.proofs.call_ioapic.Statement.{statement}
 use Rattle.script_machine.proofs.call_ioapic.Tie as tie
@@ -62,8 +63,8 @@ unfolding outcome
 returns c = rw (c .before .before .before .before .call .given .1) (ap (outcomeOf _) (c .reply .ensures ∙ c .before .handle-read .ensures))
 
 returns-2 : tie.Need-returns-2
-unfolding outcome
-returns-2 c = rw (c .before .before .before .before .call2 .given .1) (replied _ _ _ _ (c .reply2 .ensures) (c .before .handle-write .ensures .outcome))
+unfolding outcome handleWrite
+returns-2 c = rw (c .before .before .before .before .call2 .given .1) (replied _ _ _ _ (c .reply2 .ensures) (ap writingOutcome (c .before .handle-write .ensures .outcome)))
 
 returns-3 : tie.Need-returns-3
 unfolding outcome

@@ -10,6 +10,9 @@ selector-requires c κs = search needs
 is-entry-word-requires : tie.Need-is-entry-word-requires
 is-entry-word-requires c κs = search needs
 
+is-version-20-requires : tie.Need-is-version-20-requires
+is-version-20-requires c κs = search needs
+
 entry-of-requires : tie.Need-entry-of-requires
 entry-of-requires c κs = search cases
 
@@ -37,6 +40,7 @@ read-selected-register-spec =
     (tie.spec
     selector-requires
     is-entry-word-requires
+    is-version-20-requires
     entry-of-requires
     entry-in-requires
     read-word-requires

@@ -1,4 +1,4 @@
-use Rattle.vioapic.proofs.Ways.{at-select, at-window, at-eoi, at-other}
+use Rattle.vioapic.proofs.Ways.{at-select, at-window, at-below, at-eoi, at-above}
 use borrow.Author.Needs.{needs}
 use Rattle.vioapic.proofs.write_at.Statement.{statement}
 use Rattle.vioapic.proofs.write_at.Tie as tie
@@ -24,14 +24,17 @@ write-selected-register-requires c κs = search needs
 returns-2 : tie.Need-returns-2
 returns-2 c = search at-window
 
+returns-3 : tie.Need-returns-3
+returns-3 c = search at-below
+
 write-eoi-requires : tie.Need-write-eoi-requires
 write-eoi-requires c κs = search needs
 
-returns-3 : tie.Need-returns-3
-returns-3 c = search at-eoi
-
 returns-4 : tie.Need-returns-4
-returns-4 c = search at-other
+returns-4 c = search at-eoi
+
+returns-5 : tie.Need-returns-5
+returns-5 c = search at-above
 
 pub write-at-spec : {M : Type 1} → statement M
 write-at-spec =
@@ -44,6 +47,7 @@ write-at-spec =
     returns
     write-selected-register-requires
     returns-2
-    write-eoi-requires
     returns-3
-    returns-4)
+    write-eoi-requires
+    returns-4
+    returns-5)

@@ -1,5 +1,5 @@
 use Rattle.utils.specs.Cases.{cases}
-use Rattle.vioapic.proofs.Ways.{write-low-word, write-high-word, write-other}
+use Rattle.vioapic.proofs.Ways.{write-low-word20, write-low-word, write-high-word, write-other}
 use borrow.Author.Needs.{needs}
 use Rattle.vioapic.proofs.write_selected_register.Statement.{statement}
 use Rattle.vioapic.proofs.write_selected_register.Tie as tie
@@ -16,20 +16,32 @@ entry-of-requires c κs = search cases
 is-low-requires : tie.Need-is-low-requires
 is-low-requires c κs = search needs
 
+is-version-20-requires : tie.Need-is-version-20-requires
+is-version-20-requires c κs = search needs
+
+write-low20-requires : tie.Need-write-low20-requires
+write-low20-requires c κs = search needs
+
+written-send-requires : tie.Need-written-send-requires
+written-send-requires c κs = search needs
+
+returns : tie.Need-returns
+returns c = search write-low-word20
+
 write-low-requires : tie.Need-write-low-requires
 write-low-requires c κs = search needs
 
-returns : tie.Need-returns
-returns c = search write-low-word
+returns-2 : tie.Need-returns-2
+returns-2 c = search write-low-word
 
 write-high-requires : tie.Need-write-high-requires
 write-high-requires c κs = search needs
 
-returns-2 : tie.Need-returns-2
-returns-2 c = search write-high-word
-
 returns-3 : tie.Need-returns-3
-returns-3 c = search write-other
+returns-3 c = search write-high-word
+
+returns-4 : tie.Need-returns-4
+returns-4 c = search write-other
 
 pub write-selected-register-spec : {M : Type 1} → statement M
 write-selected-register-spec =
@@ -39,8 +51,12 @@ write-selected-register-spec =
     is-entry-word-requires
     entry-of-requires
     is-low-requires
-    write-low-requires
+    is-version-20-requires
+    write-low20-requires
+    written-send-requires
     returns
-    write-high-requires
+    write-low-requires
     returns-2
-    returns-3)
+    write-high-requires
+    returns-3
+    returns-4)

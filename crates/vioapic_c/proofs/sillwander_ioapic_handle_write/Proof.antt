@@ -1,4 +1,4 @@
-use Rattle.vioapic_c.proofs.Ways.{coded}
+use Rattle.vioapic_c.proofs.Ways.{write-coded}
 use borrow.Author.Needs.{needs}
 use Rattle.vioapic_c.proofs.sillwander_ioapic_handle_write.Statement.{statement}
 use Rattle.vioapic_c.proofs.sillwander_ioapic_handle_write.Tie as tie
@@ -13,7 +13,7 @@ code-requires : tie.Need-code-requires
 code-requires c κs = search needs
 
 returns : tie.Need-returns
-returns c = search coded
+returns c = search write-coded
 
 pub sillwander-ioapic-handle-write-spec : {M : Type 1} → statement M
 sillwander-ioapic-handle-write-spec =
