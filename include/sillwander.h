@@ -94,7 +94,7 @@ uint64_t sillwander_ioapic_address_range(const uint64_t words[32], uint64_t rang
 uint64_t sillwander_ioapic_handle_read(const uint64_t words[32], uint64_t addr, uint64_t width);
 
 /* A memory write, of the value's low 32 bits. Refused as a read is. Version 0x11 answers none. In version 0x20 a write at base + 0x40 is an EOI of the value's low 8
-   bits, and answers as one; and a low word, of which bits 12 and 14 aren't written, that leaves its entry fit to be sent, level-triggered and not in flight with its
+   bits, and answers as one; and a low word, of which bits 12 and 14 aren't written (an edge word clears bit 14), that leaves its entry fit to be sent, level-triggered and not in flight with its
    line up sends at once: two values, vector and level, as sillwander_ioapic_assert_gsi has them. Which of the two a write's values are goes by its address. */
 uint64_t sillwander_ioapic_handle_write(uint64_t words[32], uint64_t addr, uint64_t width, uint64_t value);
 
@@ -158,7 +158,7 @@ uint64_t sillwander_pic_handle_write(uint64_t words[4], uint64_t port, uint64_t 
  *    5   DFR        last written                14   LVT counters         42..47  spare: sillwander_lapic_new makes
  *                                               15   LVT LINT0                    them 0, no other call touches them
  *
- * Of words 1 to 41 bits 31..0 count; what a call stores has the bits above them 0.
+ * Of words 1 to 41 bits 31..0 count; what a call stores has the bits above them 0. Word 0 is 0 or 1 where a call stored it.
  */
 #define SILLWANDER_LAPIC_WORDS 48
 

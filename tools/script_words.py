@@ -174,8 +174,8 @@ def command_words(command, first):
     if command >> 3 & 1:
         return "OCW3"
     line = first + command % 8
-    return ("rotation in automatic EOI off", "EOI", "no operation", f"EOI of line {line}", "rotation in automatic EOI on",
-            "EOI with rotation", f"line {line} made the lowest", f"EOI of line {line} with rotation")[command >> 5]
+    return ("rotate in automatic EOI, clear", "EOI", "no operation", f"EOI of line {line}", "rotate in automatic EOI, set",
+            "EOI and rotate", f"set priority, line {line}", f"EOI of line {line} and rotate")[command >> 5]
 
 
 # Registers of the local APIC (SDM volume 3, the APIC chapter).

@@ -62,7 +62,7 @@ WORDS = (
     (["pic-write 2 0xa1 0"], "11 1 -", f"slave, data port := 0x0 -> {NO_PORT}"),
     (["pic-write 1 0x20 0x120"], "11 0 -", "master, command port := 0x120 (EOI) -> done"),
     (["pic-write 1 0xa0 0x66"], "11 0 -", "slave, command port := 0x66 (EOI of line 14) -> done"),
-    (["pic-write 1 0x20 0xc3"], "11 0 -", "master, command port := 0xc3 (line 3 made the lowest) -> done"),
+    (["pic-write 1 0x20 0xc3"], "11 0 -", "master, command port := 0xc3 (set priority, line 3) -> done"),
     (["pic-write 1 0x20 0x11"], "11 0 -", "master, command port := 0x11 (ICW1) -> done"),
     (["pic-write 1 0x20 0x0b"], "11 0 -", "master, command port := 0xb (OCW3) -> done"),
     (["claim 14"], "12 0 118,14,3", "line 14 asks -> vector 0x76, line 14, in service on both"),

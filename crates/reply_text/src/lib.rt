@@ -1,109 +1,149 @@
 // Replies in the words of document 01, "Scripts": the refusal's number, a space, and the values joined by commas, or `-` where there are none. Text is gathered in
-// a buffer: a function that puts some takes the place where it starts and answers where it ends.
+// a lent buffer: a function that puts some takes the place where it starts and answers where it ends.
 
-ghost use Prim.Native.Nat.{_+_, _≤_, _<_};
+ghost use Prim.Native.Nat.{_+_, _%_, _≤_, _<_};
 ghost use mathlib.Core.Path.{_≡_};
+ghost use mathlib.Core.List.{[], _∷_};
+ghost use lib.ListN.{length};
+ghost use Rattle.io.specs.Digits.{glyph};
+ghost use Rattle.types.specs.Reply.{replyValues};
+ghost use Rattle.reply_text.specs.Text.{Puts, decimal, values, replyText, line, badLine, tooLongLine};
 use libc::STDOUT_FILENO;
+use types::Refusal;
 use types::Reply;
+
+// No line is longer.
+pub const LINE: usize = 80;
+
+// ---- printing
 
 pub fn print_text(text: &[u8]) {
     io::write_all(STDOUT_FILENO, text);
 }
 
-// What was gathered up to a place.
-pub fn print_first(text: &[u8; 4096], end: usize) {
-    print_up_to(text, end);
-}
-
-fn print_up_to(text: &[u8], end: usize) {
-    if end < text.len() {
-        print_text(&text[..end]);
-    } else {
-        print_text(text);
-    }
-}
-
 pub fn print_reply(reply: Reply) {
-    let mut text = io::buffer();
-    let end = put_reply(&mut text, 0, reply);
-    print_first(&text, end);
+    let mut space = [0u8; 80];
+    print_in(&mut space, reply);
 }
 
-// A line of the program's: the tag in two hexadecimal digits, a space, and the reply.
-pub fn put_line(out: &mut [u8; 4096], at: usize, tag: u8, reply: Reply) -> usize
-    requires { ⌜ at + 80 ≤ 4096 ⌝ }
+fn print_in(space: &mut [u8], reply: Reply)
+    requires { ⌜ 80 ≤ length (now space) ⌝ }
+{
+    let end = put_reply(space, 0, reply);
+    print_text(&space[..end]);
+}
+
+// ---- lines
+
+// A field's line: the tag in two hexadecimal digits, a space, and the reply.
+pub fn put_line(out: &mut [u8], at: usize, tag: u8, reply: Reply) -> usize
+    requires { ⌜ at + 80 ≤ length (now out) ⌝ }
+    ensures { λ r. ⌜ Puts (now (out .entry)) at (line tag reply) (now (out .exit)) r ⌝ }
     ensures { λ r. ⌜ r ≤ at + 80 ⌝ }
 {
-    let mut end = put(&mut *out, at, digit(tag / 16));
-    end = put(&mut *out, end, digit(tag % 16));
-    end = put(&mut *out, end, b' ');
-    put_reply(&mut *out, end, reply)
+    let mut end = put(out, at, digit(tag / 16));
+    end = put(out, end, digit(tag));
+    end = put(out, end, b' ');
+    put_reply(out, end, reply)
 }
+
+// The line of a bad field, by its tag's place.
+pub fn put_bad(out: &mut [u8], at: usize, place: usize) -> usize
+    requires { ⌜ at + 80 ≤ length (now out) ⌝ }
+    ensures { λ r. ⌜ Puts (now (out .entry)) at (badLine place) (now (out .exit)) r ⌝ }
+    ensures { λ r. ⌜ r ≤ at + 80 ⌝ }
+{
+    let mut end = put(out, at, b'b');
+    end = put(out, end, b'a');
+    end = put(out, end, b'd');
+    end = put(out, end, b' ');
+    end = put_decimal(out, end, place as u64);
+    put(out, end, b'\n')
+}
+
+// The line of a script that is too long.
+pub fn put_too_long(out: &mut [u8], at: usize) -> usize
+    requires { ⌜ at + 80 ≤ length (now out) ⌝ }
+    ensures { λ r. ⌜ Puts (now (out .entry)) at tooLongLine (now (out .exit)) r ⌝ }
+    ensures { λ r. ⌜ r ≤ at + 80 ⌝ }
+{
+    let end = put_decimal(out, at, Refusal::ScriptTooLong.number() as u64);
+    put(out, end, b'\n')
+}
+
+// ---- parts of a line
 
 // The number, the values, and the end of the line.
-pub fn put_reply(out: &mut [u8; 4096], at: usize, reply: Reply) -> usize
-    requires { ⌜ at + 70 ≤ 4096 ⌝ }
+pub fn put_reply(out: &mut [u8], at: usize, reply: Reply) -> usize
+    requires { ⌜ at + 70 ≤ length (now out) ⌝ }
+    ensures { λ r. ⌜ Puts (now (out .entry)) at (replyText reply) (now (out .exit)) r ⌝ }
     ensures { λ r. ⌜ r ≤ at + 70 ⌝ }
 {
-    let mut end = put(&mut *out, at, digit(reply.number()));
-    end = put(&mut *out, end, b' ');
-    end = put_values(&mut *out, end, reply);
-    put(&mut *out, end, b'\n')
+    let mut end = put(out, at, digit(reply.number()));
+    end = put(out, end, b' ');
+    end = put_values(out, end, reply);
+    put(out, end, b'\n')
 }
 
-fn put_values(out: &mut [u8; 4096], at: usize, reply: Reply) -> usize
-    requires { ⌜ at + 62 ≤ 4096 ⌝ }
+fn put_values(out: &mut [u8], at: usize, reply: Reply) -> usize
+    requires { ⌜ at + 62 ≤ length (now out) ⌝ }
+    ensures { λ r. ⌜ Puts (now (out .entry)) at (values (replyValues reply)) (now (out .exit)) r ⌝ }
     ensures { λ r. ⌜ r ≤ at + 62 ⌝ }
 {
     match reply {
-        Reply::Refused(_) => put(&mut *out, at, b'-'),
-        Reply::Nothing => put(&mut *out, at, b'-'),
-        Reply::One(a) => put_decimal(&mut *out, at, a),
-        Reply::Two(a, b) => put_pair(&mut *out, at, a, b),
+        Reply::Refused(_) => put(out, at, b'-'),
+        Reply::Nothing => put(out, at, b'-'),
+        Reply::One(a) => put_decimal(out, at, a),
+        Reply::Two(a, b) => put_pair(out, at, a, b),
         Reply::Three(a, b, c) => {
-            let mut end = put_pair(&mut *out, at, a, b);
-            end = put(&mut *out, end, b',');
-            put_decimal(&mut *out, end, c)
+            let mut end = put_decimal(out, at, a);
+            end = put(out, end, b',');
+            put_pair(out, end, b, c)
         }
     }
 }
 
-fn put_pair(out: &mut [u8; 4096], at: usize, a: u64, b: u64) -> usize
-    requires { ⌜ at + 41 ≤ 4096 ⌝ }
+fn put_pair(out: &mut [u8], at: usize, a: u64, b: u64) -> usize
+    requires { ⌜ at + 41 ≤ length (now out) ⌝ }
+    ensures { λ r. ⌜ Puts (now (out .entry)) at (values (a ∷ b ∷ [])) (now (out .exit)) r ⌝ }
     ensures { λ r. ⌜ r ≤ at + 41 ⌝ }
 {
-    let mut end = put_decimal(&mut *out, at, a);
-    end = put(&mut *out, end, b',');
-    put_decimal(&mut *out, end, b)
+    let mut end = put_decimal(out, at, a);
+    end = put(out, end, b',');
+    put_decimal(out, end, b)
 }
 
 // A number in decimal digits: at most 20 of them.
-pub fn put_decimal(out: &mut [u8; 4096], at: usize, n: u64) -> usize
-    requires { ⌜ at + 20 ≤ 4096 ⌝ }
+fn put_decimal(out: &mut [u8], at: usize, n: u64) -> usize
+    requires { ⌜ at + 20 ≤ length (now out) ⌝ }
+    ensures { λ r. ⌜ Puts (now (out .entry)) at (decimal n) (now (out .exit)) r ⌝ }
     ensures { λ r. ⌜ r ≤ at + 20 ⌝ }
 {
     if n < 10 {
-        return put(&mut *out, at, digit(n as u8));
+        return put(out, at, digit(n as u8));
     }
-    let mut text = [0u8; 20];
-    let count = io::decimal(n, &mut text);
+    let mut digits = [0u8; 20];
+    let count = io::decimal(n, &mut digits);
     let mut k = 0;
     while k < count {
-        out[at + k] = text[k];
+        out[at + k] = digits[k];
         k += 1;
     }
     at + count
 }
 
-fn put(out: &mut [u8; 4096], at: usize, byte: u8) -> usize
-    requires { ⌜ at < 4096 ⌝ }
+fn put(out: &mut [u8], at: usize, byte: u8) -> usize
+    requires { ⌜ at < length (now out) ⌝ }
+    ensures { λ r. ⌜ Puts (now (out .entry)) at (byte ∷ []) (now (out .exit)) r ⌝ }
     ensures { λ r. ⌜ r ≡ at + 1 ⌝ }
 {
     out[at] = byte;
     at + 1
 }
 
-fn digit(d: u8) -> u8 {
+fn digit(d: u8) -> u8
+    ensures { λ r. ⌜ r ≡ glyph (d % 16) ⌝ }
+{
     let low = d % 16;
     if low < 10 {
         return b'0' + low;

@@ -2,4 +2,6 @@ pub mod Chips
 pub mod Late
 pub mod Local
 pub mod Outcomes
+pub mod Places
 pub mod Runs
+pub mod Steps

@@ -6,14 +6,43 @@ use Rattle.script_format.specs.declared.Call.{Call}
 use Rattle.script_format.specs.declared.Field.{Field}
 use Rattle.script_format.specs.declared.Field.the-variants.{Good, Bad, End}
 use Rattle.script_format.specs.declared.Cursor.{Cursor}
+use Rattle.types.specs.Reply.{Outcome, outcomeOf}
+use Rattle.types.specs.declared.Refusal.the-variants as refusal
 use Rattle.types.specs.declared.Reply.{Reply}
+use Rattle.types.specs.declared.Reply.the-variants.{Refused, Nothing}
 use Rattle.script_machine.specs.declared.Used.{Used}
 use Rattle.script_machine.specs.declared.Stop.{Stop}
 use Rattle.script_machine.specs.declared.Stop.the-variants as stop
+use Rattle.script_machine.specs.declared.Said.{Said}
+use Rattle.script_machine.specs.declared.Said.the-variants.{Did, Stopped}
+use Rattle.script_machine.specs.declared.Stepped.{Stepped}
 use Rattle.script_machine.specs.Late.{usedAfter, fieldFor}
 use Rattle.script_machine.specs.declared.Ended.{Ended}
 use Rattle.script_machine.specs.declared.MachineRun.{MachineRun}
 use Rattle.script_machine.specs.Machine.{Machine, machineIn, machineOf, performed}
+
+-- ---- one field
+
+-- a step: the machine after it, where the next field starts, and what it says
+pub record Step : Type 0 where
+  pub machine : Machine
+  pub next : Cursor
+  pub said : Said
+
+-- a good field is performed; at a bad one and at the end nothing is, and the place stays
+abbrev pub stepBy : Machine → ℕ → Field → Step
+stepBy m at (Good tag call next) = record { machine = performed m call .state; next = next; said = Did tag (performed m call .reply) }
+stepBy m at Bad = record { machine = m; next = record { at = at }; said = Stopped stop.BadField }
+stepBy m at End = record { machine = m; next = record { at = at }; said = Stopped stop.End }
+
+unfoldable pub stepOf : List ℕ → Machine → ℕ → Step
+stepOf s m at = stepBy m at (fieldFor s (m .used) at)
+
+-- the step that words after it and its end stand for
+abbrev pub stepIn : List ℕ → List ℕ → List ℕ → Stepped → Step
+stepIn io pair apic r = record { machine = machineIn io pair apic (r .vm); next = r .next; said = r .said }
+
+-- ---- a run
 
 -- what a good field gives, by its call and the place after it; what a bad field gives; what the end gives
 abbrev pub byField : {A : Type 0} → Field → (Call → ℕ → A) → A → A → A
@@ -64,6 +93,19 @@ runOf s m at n = record {
   next = record { at = placeAfter s (m .used) at n };
   stop = stopAfter s (m .used) at n;
 }
+
+-- why a run ended, in document 01's numbers: 6 for a bad field
+abbrev pub stopReply : Stop → Reply
+stopReply stop.Allowance = Nothing
+stopReply stop.BadField = Refused refusal.BadField
+stopReply stop.End = Nothing
+
+-- a run as an outcome
+abbrev pub ended : Run → Outcome Run
+ended r = outcomeOf r (stopReply (r .stop))
+
+abbrev pub runOutcome : List ℕ → Machine → ℕ → ℕ → Outcome Run
+runOutcome s m at n = ended (runOf s m at n)
 
 -- the run that words after it and its end stand for
 abbrev pub runIn : List ℕ → List ℕ → List ℕ → Ended → Run

@@ -8,7 +8,7 @@ ghost use Rattle.vpic.specs.Words as pic-words;
 ghost use Rattle.script_format.specs.declared.ApicCall.the-variants as local;
 ghost use Rattle.script_machine.specs.Machine.{machineIn, machineOf, newMachine, ioCall, picOutcome, localIn, localOutcome, remembering, performed};
 ghost use Rattle.script_machine.specs.Late.{wasUsed, nowUsed, isLate, taken, fieldFor};
-ghost use Rattle.script_machine.specs.Run.{runOf, runIn, machineRun};
+ghost use Rattle.script_machine.specs.Run.{stepOf, stepIn, stopReply, runOutcome, ended, runIn, machineRun};
 use script_format::ApicCall;
 use script_format::Call;
 use script_format::Chip;
@@ -16,6 +16,7 @@ use script_format::Cursor;
 use script_format::Field;
 use script_format::IoCall;
 use script_format::PicCall;
+use types::Refusal;
 use types::Reply;
 use types::VcpuId;
 use vioapic::IOAPIC_BASE;
@@ -73,6 +74,32 @@ pub enum Stop {
     Allowance,
     BadField,
     End,
+}
+
+impl Stop {
+    // In document 01's numbers: 6 for a bad field.
+    pub fn reply(self) -> Reply
+        ensures { λ r. ⌜ r ≡ stopReply self ⌝ }
+    {
+        match self {
+            Stop::Allowance => Reply::Nothing,
+            Stop::BadField => Reply::Refused(Refusal::BadField),
+            Stop::End => Reply::Nothing,
+        }
+    }
+}
+
+// What a step says: a field was performed, with its tag and what its call said back, or none was, and why.
+pub enum Said {
+    Did { tag: u8, reply: Reply },
+    Stopped(Stop),
+}
+
+// What a step leaves beside the chips' words: where the next field starts, and what it says.
+pub struct Stepped {
+    pub vm: Vm,
+    pub next: Cursor,
+    pub said: Said,
 }
 
 // What a run leaves beside the chips' words: how many fields were performed, where the next one starts, and why the run ended.
@@ -299,6 +326,42 @@ pub fn next_field(script: &[u8], used: Used, at: Cursor) -> Field
 
 // ---- a run
 
+// Reads the field at a place and performs it.
+pub fn step(
+    ioapic: &mut [u64; 32],
+    pic: &mut [u64; 4],
+    apic: &mut [u64; 48],
+    vm: Vm,
+    script: &[u8],
+    from: Cursor,
+) -> Stepped
+    ensures { λ r. ⌜ stepIn (now (ioapic .exit)) (now (pic .exit)) (now (apic .exit)) r ≡ stepOf (now (script .entry)) (machineIn (now (ioapic .entry)) (now (pic .entry)) (now (apic .entry)) vm) (from .at) ⌝ }
+{
+    let field = next_field(script, vm.used, from);
+    match field {
+        Field::Good { tag, call, next } => {
+            let performed = perform(&mut *ioapic, &mut *pic, &mut *apic, vm, call);
+            let changed = performed.vm;
+            let reply = performed.reply;
+            Stepped {
+                vm: changed,
+                next,
+                said: Said::Did { tag, reply },
+            }
+        }
+        Field::Bad => Stepped {
+            vm,
+            next: from,
+            said: Said::Stopped(Stop::BadField),
+        },
+        Field::End => Stepped {
+            vm,
+            next: from,
+            said: Said::Stopped(Stop::End),
+        },
+    }
+}
+
 // Performs the fields of a script from a place on, as many as are allowed, up to the first bad one or the end.
 pub fn run(
     ioapic: &mut [u64; 32],
@@ -309,36 +372,21 @@ pub fn run(
     from: Cursor,
     allowance: usize,
 ) -> Ended
-    ensures { λ r. ⌜ runIn (now (ioapic .exit)) (now (pic .exit)) (now (apic .exit)) r ≡ runOf (now (script .entry)) (machineIn (now (ioapic .entry)) (now (pic .entry)) (now (apic .entry)) vm) (from .at) allowance ⌝ }
+    ensures { λ r. ⌜ ended (runIn (now (ioapic .exit)) (now (pic .exit)) (now (apic .exit)) r) ≡ runOutcome (now (script .entry)) (machineIn (now (ioapic .entry)) (now (pic .entry)) (now (apic .entry)) vm) (from .at) allowance ⌝ }
 {
     let mut after = vm;
     let mut next = from;
     let mut done: usize = 0;
     while done < allowance {
-        let field = next_field(script, after.used, next);
-        match field {
-            Field::Good {
-                tag: _,
-                call,
-                next: behind,
-            } => {
-                let performed = perform(&mut *ioapic, &mut *pic, &mut *apic, after, call);
-                let changed = performed.vm;
-                after = changed;
-                next = behind;
-                done += 1;
-            }
-            Field::Bad => {
-                let stop = Stop::BadField;
-                return Ended {
-                    vm: after,
-                    done,
-                    next,
-                    stop,
-                };
-            }
-            Field::End => {
-                let stop = Stop::End;
+        let stepped = step(&mut *ioapic, &mut *pic, &mut *apic, after, script, next);
+        let changed = stepped.vm;
+        let behind = stepped.next;
+        let said = stepped.said;
+        after = changed;
+        next = behind;
+        match said {
+            Said::Did { tag: _, reply: _ } => done += 1,
+            Said::Stopped(stop) => {
                 return Ended {
                     vm: after,
                     done,
@@ -416,7 +464,7 @@ impl Machine {
     }
 
     pub fn run(self, script: &[u8], from: Cursor, allowance: usize) -> MachineRun
-        ensures { λ r. ⌜ machineRun r ≡ runOf (now (script .entry)) (machineOf self) (from .at) allowance ⌝ }
+        ensures { λ r. ⌜ ended (machineRun r) ≡ runOutcome (now (script .entry)) (machineOf self) (from .at) allowance ⌝ }
     {
         let mut ioapic = self.ioapic;
         let mut pic = self.pic;

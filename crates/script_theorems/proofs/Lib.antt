@@ -1,5 +1,6 @@
 pub mod Calls
 pub mod Heard
 pub mod Pairs
+pub mod Printed
 pub mod Refusals
 pub mod Runs

@@ -30,6 +30,7 @@ use Rattle.script_machine.specs.declared.Stop.the-variants as stop
 use Rattle.script_machine.specs.Late.{wasUsed, nowUsed, isLate, usedAfter, taken, fieldFor}
 use Rattle.script_machine.specs.Machine.{Machine, unused, newMachine, performed}
 use Rattle.script_machine.specs.Run.{Run, byField, fieldCount, placeAfter, stopAfter, callsFrom, afterCalls, replies, runOf}
+use Rattle.script_machine.proofs.Places.{good-at, good-whole, good-lies}
 use Rattle.script_machine.proofs.Runs.{remembers}
 use Rattle.script_theorems.specs.Runs.{Counted, Together, InTwo, answersOf, AnsweredInTwo, bars, barred, Remembered, LateIsBad, inTime, InTime, Within, Beyond, Ended, Ends, NothingAtBad, NothingBehindBad}
 
@@ -51,15 +52,6 @@ counted s m at n = (refl, calls-counted s (m .used) at n)
 
 -- ---- a field that isn't late stands there by itself
 
-taken-good : (used : Used) (f : Field) (tag : ℕ) (c : Call) (next : Cursor) → taken used f ≡ Good tag c next → f ≡ Good tag c next
-taken-good used (Good t d n) tag c next e = go (isLate used d) e
-  where
-    go : (b : Bool) → cond b Bad (Good t d n) ≡ Good tag c next → Good t d n ≡ Good tag c next
-    go true p = let z : _≡_ {A = ℕ} 0 1 = cc in absurd (omega arith)
-    go false p = p
-taken-good used Bad tag c next e = let z : _≡_ {A = ℕ} 0 1 = cc in absurd (omega arith)
-taken-good used End tag c next e = let z : _≡_ {A = ℕ} 0 1 = cc in absurd (omega arith)
-
 taken-end : (used : Used) (f : Field) → taken used f ≡ End → f ≡ End
 taken-end used (Good t d n) e = go (isLate used d) e
   where
@@ -68,10 +60,6 @@ taken-end used (Good t d n) e = go (isLate used d) e
     go false p = p
 taken-end used Bad e = let z : _≡_ {A = ℕ} 0 1 = cc in absurd (omega arith)
 taken-end used End e = refl
-
-good-at : (s : List ℕ) (used : Used) (at tag : ℕ) (c : Call) (next : Cursor) → fieldFor s used at ≡ Good tag c next → fieldAt s at ≡ Good tag c next
-unfolding fieldFor
-good-at s used at tag c next e = taken-good used (fieldAt s at) tag c next e
 
 good-in-time : (s : List ℕ) (used : Used) (at tag : ℕ) (c : Call) (next : Cursor) → fieldFor s used at ≡ Good tag c next → isLate used c ≡ false
 unfolding fieldFor
@@ -142,28 +130,6 @@ late-is-bad s a tag d next e =
 
 -- ---- places
 
--- where the field at a place ends: within the script
-body-within : (tag next : ℕ) (b : Body) (tag′ : ℕ) (c : Call) (after : Cursor) → fieldOf tag b next ≡ Good tag′ c after → after .at ≡ next
-body-within tag next (Says call) tag′ c after e = ap (λ (f : Field). byField f (λ call at. at) 0 0) (sym e)
-body-within tag next Malformed tag′ c after e = let z : _≡_ {A = ℕ} 0 1 = cc in absurd (omega arith)
-
--- the field at the place is all there, if it is good
-good-whole : (s : List ℕ) (at tag : ℕ) (c : Call) (next : Cursor) → fieldAt s at ≡ Good tag c next → (next .at ≡ endAt s at) × (endAt s at ≤ length s)
-unfolding fieldAt
-good-whole s at tag c next e = go (leb (length s) at) (ltb (length s) (at + 3)) (ltb (length s) (endAt s at)) refl e
-  where
-    go : (b₁ b₂ b₃ : Bool) → ltb (length s) (endAt s at) ≡ b₃
-        → cond b₁ End (cond b₂ Bad (cond b₃ Bad (fieldOf (getD s at 0) (decoded (getD s at 0) (bodyAt s at)) (endAt s at)))) ≡ Good tag c next
-        → (next .at ≡ endAt s at) × (endAt s at ≤ length s)
-    go true b₂ b₃ t p = let z : _≡_ {A = ℕ} 0 1 = cc in absurd (omega arith)
-    go false true b₃ t p = let z : _≡_ {A = ℕ} 0 1 = cc in absurd (omega arith)
-    go false false true t p = let z : _≡_ {A = ℕ} 0 1 = cc in absurd (omega arith)
-    go false false false t p =
-        (body-within (getD s at 0) (endAt s at) (decoded (getD s at 0) (bodyAt s at)) tag c next p, ltb-false (length s) (endAt s at) t)
-
-good-within : (s : List ℕ) (at tag : ℕ) (c : Call) (next : Cursor) → fieldAt s at ≡ Good tag c next → next .at ≤ length s
-good-within s at tag c next e = let w = good-whole s at tag c next e in omega (arith, w .0, w .1)
-
 pub within : Within
 unfolding placeAfter
 within s used at zero h = h
@@ -171,7 +137,7 @@ within s used at (suc n) h = go (fieldFor s used at) refl (λ u next k. within s
   where
     go : (f : Field) → fieldFor s used at ≡ f → ((u : Used) (next : ℕ) → next ≤ length s → placeAfter s u next n ≤ length s)
         → byField f (λ call next. placeAfter s (usedAfter used call) next n) at at ≤ length s
-    go (Good tag c next) e ih = ih (usedAfter used c) (next .at) (good-within s at tag c next (good-at s used at tag c next e))
+    go (Good tag c next) e ih = ih (usedAfter used c) (next .at) (good-lies s used at tag c next e .1)
     go Bad e ih = h
     go End e ih = h
 

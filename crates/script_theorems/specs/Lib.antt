@@ -2,5 +2,6 @@ pub mod Examples
 pub mod Heard
 pub mod Pairs
 pub mod Parts
+pub mod Printed
 pub mod Refusals
 pub mod Runs

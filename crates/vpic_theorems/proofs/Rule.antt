@@ -25,7 +25,7 @@ use Rattle.vpic.specs.Words.{PicState}
 use Rattle.vpic_chip.specs.Chip.{opened, commanded, fed, pulsed, asks, driven, counts, pendingLine, pendingIrq, acknowledged, unacknowledged}
 use Rattle.vpic.specs.Pair.{chips, Keeps, newState, cascadeIrq, settled, latchedAt, latched, masterClaim, slaveClaim, pendingPlace, claimAt, claimPending, claimIrq, nothingClaimed, restoredAt, restored, isPort, writtenAt, portWritten, portRead, valueReply, refused}
 use Rattle.vpic_theorems.specs.Statements.{Call, claim-irq, claim-pending-interrupt, pulse-irq, next-interrupt, restore-interrupt, handle-read, handle-write, outcome, Highest}
-use Rattle.vpic_theorems.specs.Rule.{AsksIfCounts, CountsIfAsks, run, NewHasRule, NewKeeps, CallsKeep, CallsKeepNumber, RunsKeep, CallsSettle, ReadsUnchanged, LineTwoLatchesNothing, Clear, SlaveHeard, SecondCallerHeard, LineTwoUnanswered, UnkeptNotRestored}
+use Rattle.vpic_theorems.specs.Rule.{AsksIfCounts, CountsIfAsks, run, NewHasRule, NewKeeps, CallsKeep, CallsKeepNumber, RunsKeep, CallsSettle, ReadsUnchanged, LineTwoLatchesNothing, Clear, SlaveHeard, UnkeptNotRestored}
 use Rattle.vpic_theorems.proofs.Settled.{settled-cascade, driven-with}
 use Rattle.vpic.proofs.Settled.{settled-keeps, settled-kept}
 use Rattle.vpic_theorems.proofs.Kept.{calls-kept}
@@ -182,15 +182,7 @@ slave-heard p j cascade keeps e clear =
       served = rw (line-two-next (p .master) clear (keeps cascade ∙ up), lt-ltb (pendingLine (p .slave)) 8 (h .low));
     }
 
--- ---- computed examples
-
-pub second-caller-heard : SecondCallerHeard
-unfolding opened commanded fed pulsed asks driven counts pendingLine pendingIrq acknowledged newState settled latched masterClaim slaveClaim claimPending claimIrq portWritten writtenAt with without outside lowest
-second-caller-heard = refl
-
-pub line-two-unanswered : LineTwoUnanswered
-unfolding opened commanded fed pulsed asks driven counts pendingLine pendingIrq acknowledged newState settled latched masterClaim slaveClaim claimPending claimIrq portWritten writtenAt with without outside lowest
-line-two-unanswered = refl
+-- ---- a computed example
 
 pub unkept-not-restored : UnkeptNotRestored
 unfolding pulsed asks driven counts pendingLine pendingIrq acknowledged unacknowledged settled masterClaim slaveClaim claimPending restored with without outside lowest

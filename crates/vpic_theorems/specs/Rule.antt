@@ -6,7 +6,6 @@ use mathlib.Core.Bool.{Bool, true, false}
 use mathlib.Core.List.{List, [], _∷_}
 use lib.Dec.{ltb}
 use Rattle.utils.specs.Set.{bit}
-use Rattle.types.specs.declared.Reply.the-variants as reply
 use Rattle.types.specs.declared.PicLine.{PicLine}
 use Rattle.types.specs.Reply.{replyNumber}
 use Rattle.vpic_chip.specs.Registers.{Chip}
@@ -16,8 +15,8 @@ use Rattle.vpic.specs.declared.PicRule.the-variants.{Cascade}
 use Rattle.vpic.specs.declared.PicInterruptClaim.{PicInterruptClaim}
 use Rattle.vpic.specs.declared.PicClaim.the-variants.{Claimed}
 use Rattle.vpic_chip.specs.Chip.{asks, counts, pendingLine}
-use Rattle.vpic.specs.Pair.{ruleIn, newState, isCascade, Keeps, slaveClaim, claimPending, claimIrq, latched, restored, portWritten, claimReply, restoreInterrupt, handleRead}
-use Rattle.vpic.specs.Departures.{at, line, open', seventh}
+use Rattle.vpic.specs.Pair.{ruleIn, newState, isCascade, Keeps, slaveClaim, claimPending, latched, restored, portWritten, restoreInterrupt, handleRead}
+use Rattle.vpic.specs.Departures.{at, line}
 use Rattle.vpic_theorems.specs.Statements.{Call, claim-irq, claim-pending-interrupt, pulse-irq, next-interrupt, restore-interrupt, handle-read, handle-write, outcome, Highest}
 
 -- ---- what the rule says
@@ -102,15 +101,7 @@ pub record Heard (p : PicState) (k : ℕ) : Type 0 where
 abbrev pub SlaveHeard : Type 0
 SlaveHeard = (p : PicState) (j : ℕ) → isCascade p ≡ true → Keeps p → counts (p .slave) j ≡ true → Clear (p .master) → Heard p (pendingLine (p .slave))
 
--- ---- computed examples
-
--- example 7 by rule 1: at its end line 14 is claimed
-abbrev pub SecondCallerHeard : Type 0
-SecondCallerHeard = claimReply (claimPending (seventh Cascade) .claim) ≡ reply.Three 0x76 14 3
-
--- example 8 by rule 1: line 2 raised by hand claims nothing
-abbrev pub LineTwoUnanswered : Type 0
-LineTwoUnanswered = claimReply (claimIrq (open' Cascade) (line 2) .claim) ≡ reply.Nothing
+-- ---- a computed example
 
 -- why a claim restored at once asks for a pair that keeps the rule: of the two chips of base 0 with nothing masked and nothing in service, the master's request 2 stands and
 -- no request of the slave's. The claim of line 2 is restored, and the request is gone: the rule holds then

@@ -1,7 +1,6 @@
-use Rattle.types.specs.Reply.{Outcome}
-use Rattle.script_machine.specs.Machine.{Machine, machineIn}
-use Rattle.script_machine.specs.Run.{runOf}
-use Rattle.script_machine.proofs.Runs.{further, further-none, run-out, run-good, run-bad, run-end}
+use Rattle.script_machine.specs.Machine.{machineIn}
+use Rattle.script_machine.specs.Run.{stepIn, runOf, ended}
+use Rattle.script_machine.proofs.Runs.{further, further-none, run-out, run-did, run-stopped}
 use borrow.Author.Needs.{needs}
 use native.Mathlib.Omega.{arith}
 use mathlib.Core.Path.{_≡_, sym, ap, _∙_}
@@ -23,14 +22,11 @@ loop-holds c =
     let z : a .allowance ≡ a .allowance - 0 = omega arith in
     (omega arith, further-none _ ∙ ap (λ (n : ℕ). further 0 (runOf (a .script .now) (machineIn (a .ioapic .now) (a .pic .now) (a .apic .now) (a .vm)) (a .from .at) n)) z)
 
-next-field-requires : tie.Need-next-field-requires Inv-loop μ-loop
-next-field-requires c κs = search needs
+step-requires : tie.Need-step-requires Inv-loop μ-loop
+step-requires c κs = search needs
 
-enum-known-field : tie.Need-enum-known-field Inv-loop μ-loop
-enum-known-field c = search needs
-
-perform-requires : tie.Need-perform-requires Inv-loop μ-loop
-perform-requires c κs = search needs
+enum-told : tie.Need-enum-told Inv-loop μ-loop
+enum-told c = search needs
 
 add-done : tie.Need-add-done Inv-loop μ-loop
 add-done c = search needs
@@ -39,41 +35,27 @@ loop-less : tie.Need-loop-less Inv-loop μ-loop
 loop-less c = search needs
 
 loop-again : tie.Need-loop-again Inv-loop μ-loop
-unfolding machineIn
 loop-again c =
-    let l = c .before .before .before .before .before .before .before .before .before .before .loop in
-    let a = c .before .before .before .before .before .before .before .before .before .before .before .before .args in
-    let m : Machine = (machineIn (l .ioapic) (l .pic) (l .apic) (l .after)) in (
-      omega arith,
-      l .inv .1
-          ∙ run-good (a .script .now) m (l .next .at) (l .done) (a .allowance - l .done) (a .allowance - (l .done + 1)) (omega arith) _ _ _ _ (sym (c .before .before .before .before .before .before .before .before .next-field .ensures) ∙ c .before .before .before .before .before .before .field .given .1) (ap (λ (o : Outcome Machine). o .state) (c .before .perform .ensures)),
-    )
+    let l = c .before .before .before .before .before .before .before .before .before .loop in
+    let a = c .before .before .before .before .before .before .before .before .before .before .before .args in
+    let x = c .before .before .before .before .step in
+    (omega arith, l .inv .1 ∙ run-did (a .script .now) (machineIn (l .ioapic) (l .pic) (l .apic) (l .after)) (l .next .at) (l .done) (a .allowance - l .done) (a .allowance - (l .done + 1)) (omega arith) (stepIn (x .last .0) (x .last .1 .0) (x .last .1 .1 .0) (x .result)) _ _ (x .ensures) (c .enum-told .given .1))
 
-enum-told : tie.Need-enum-told Inv-loop μ-loop
-enum-told c = search needs
+enum-known-said : tie.Need-enum-known-said Inv-loop μ-loop
+enum-known-said c = search needs
 
 returns : tie.Need-returns Inv-loop μ-loop
-unfolding machineIn
 returns c =
-    let l = c .before .before .before .before .loop in
-    let a = c .before .before .before .before .before .before .args in
-    sym (l .inv .1 ∙ run-bad (a .script .now) (machineIn (l .ioapic) (l .pic) (l .apic) (l .after)) (l .next .at) (l .done) (a .allowance - l .done) (a .allowance - (l .done + 1)) (omega arith) (sym (c .before .before .next-field .ensures) ∙ c .enum-told .given .1))
-
-enum-told-2 : tie.Need-enum-told-2 Inv-loop μ-loop
-enum-told-2 c = search needs
+    let l = c .before .before .before .before .before .before .before .before .before .before .loop in
+    let a = c .before .before .before .before .before .before .before .before .before .before .before .before .args in
+    let x = c .before .before .before .before .before .step in
+    ap ended (sym (l .inv .1 ∙ run-stopped (a .script .now) (machineIn (l .ioapic) (l .pic) (l .apic) (l .after)) (l .next .at) (l .done) (a .allowance - l .done) (a .allowance - (l .done + 1)) (omega arith) (stepIn (x .last .0) (x .last .1 .0) (x .last .1 .1 .0) (x .result)) _ (x .ensures) (c .before .said .given .1)))
 
 returns-2 : tie.Need-returns-2 Inv-loop μ-loop
-unfolding machineIn
 returns-2 c =
-    let l = c .before .before .before .before .loop in
-    let a = c .before .before .before .before .before .before .args in
-    sym (l .inv .1 ∙ run-end (a .script .now) (machineIn (l .ioapic) (l .pic) (l .apic) (l .after)) (l .next .at) (l .done) (a .allowance - l .done) (a .allowance - (l .done + 1)) (omega arith) (sym (c .before .before .next-field .ensures) ∙ c .enum-told2 .given .1))
-
-returns-3 : tie.Need-returns-3 Inv-loop μ-loop
-returns-3 c =
     let l = c .before .loop in
     let a = c .before .before .before .args in
-    sym (l .inv .1 ∙ run-out (a .script .now) (machineIn (l .ioapic) (l .pic) (l .apic) (l .after)) (l .next .at) (l .done) (a .allowance - l .done) (omega arith))
+    ap ended (sym (l .inv .1 ∙ run-out (a .script .now) (machineIn (l .ioapic) (l .pic) (l .apic) (l .after)) (l .next .at) (l .done) (a .allowance - l .done) (omega arith)))
 
 pub run-spec : {M : Type 1} → statement M
 run-spec =
@@ -82,14 +64,11 @@ run-spec =
     Inv-loop
     μ-loop
     loop-holds
-    next-field-requires
-    enum-known-field
-    perform-requires
+    step-requires
+    enum-told
     add-done
     loop-less
     loop-again
-    enum-told
+    enum-known-said
     returns
-    enum-told-2
-    returns-2
-    returns-3)
+    returns-2)

@@ -1,0 +1,19 @@
+use Rattle.reply_text.proofs.Puts.{one-put}
+use borrow.Author.Needs.{needs}
+use Rattle.reply_text.proofs.put.Statement.{statement}
+use Rattle.reply_text.proofs.put.Tie as tie
+
+slice-write-out : tie.Need-slice-write-out
+slice-write-out c = search needs
+
+add-result : tie.Need-add-result
+add-result c = search needs
+
+same-length : tie.Need-same-length
+same-length c = search needs
+
+returns : tie.Need-returns
+returns c = (one-put, search needs)
+
+pub put-spec : {M : Type 1} → statement M
+put-spec = tie.close (tie.spec slice-write-out add-result same-length returns)

@@ -1,0 +1,17 @@
+use native.Mathlib.Omega.{arith}
+use lib.ListN.{length-take}
+use borrow.Author.Needs.{needs}
+use Rattle.script.proofs.write_first.Statement.{statement}
+use Rattle.script.proofs.write_first.Tie as tie
+
+slice-aggregate-write-all : tie.Need-slice-aggregate-write-all
+slice-aggregate-write-all c = simp length-take (omega arith)
+
+write-all-requires : tie.Need-write-all-requires
+write-all-requires c κs = search needs
+
+returns : tie.Need-returns
+returns c = search needs
+
+pub write-first-spec : {M : Type 1} → statement M
+write-first-spec = tie.close (tie.spec slice-aggregate-write-all write-all-requires returns)
