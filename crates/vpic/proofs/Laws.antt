@@ -24,8 +24,8 @@ use Rattle.vpic_chip.specs.declared.PendingIrq.the-variants.{Irq, Nothing}
 use Rattle.vpic_chip.specs.declared.PicVector.{PicVector}
 use Rattle.vpic_chip.specs.declared.PicVector.the-variants.{Given, Nothing as NoVector}
 use Rattle.vpic_chip.specs.Registers.{Chip, chipIn}
-use Rattle.vpic_chip.specs.Chip.{pulsed, asks, driven, pendingLine, pendingIrq, acknowledged, acknowledge, unacknowledged, commanded, fed, commandRead, opened, vectorReply}
-use Rattle.vpic_chip.proofs.Laws.{asks-none, vector-reply-same}
+use Rattle.vpic_chip.specs.Chip.{pulsed, asks, cascadeIrq, driven, pendingLine, pendingIrq, acknowledged, acknowledge, unacknowledged, commanded, fed, commandRead, opened, vectorReply}
+use Rattle.vpic_chip.proofs.Laws.{asks-none, counted-idle, vector-reply-same}
 use Rattle.vpic.specs.declared.PicRule.{PicRule}
 use Rattle.vpic.specs.declared.PicRule.the-variants.{Latch, Cascade}
 use Rattle.vpic.specs.declared.PicInterruptClaim.{PicInterruptClaim}
@@ -34,7 +34,7 @@ use Rattle.vpic.specs.declared.PicClaim.the-variants.{Nothing as NoClaim
 use Rattle.vpic.specs.declared.PicValue.the-variants.{Value}
 use Rattle.vpic.specs.declared.PicDone.the-variants.{Done, Refused}
 use Rattle.vpic.specs.Words.{PicState, view}
-use Rattle.vpic.specs.Pair.{ruleNumber, ruleIn, drives, chips, isCascade, cascadeIrq, settled, Keeps, isPlace, latchedAt, Latched, latched, StateClaim, stateClaim, grew, claimOf, masterClaim, slaveClaim, pendingPlace, claimAt, claimPending, claimIrq, restoredAt, restored, restoreInterrupt, Port, master-command, master-data, slave-command, slave-data, no-port, portAt, isThere, writtenTo, Written, writtenAt, isPort, portWritten, handleWrite, portRead, newState, claimVector, withClaim, withVector, claimOutcome, vectorOutcome, doneOutcome}
+use Rattle.vpic.specs.Pair.{ruleNumber, ruleIn, drives, chips, isCascade, settled, Keeps, isPlace, latchedAt, Latched, latched, StateClaim, stateClaim, grew, claimOf, masterClaim, slaveClaim, pendingPlace, claimAt, claimPending, claimIrq, restoredAt, restored, restoreInterrupt, Port, master-command, master-data, slave-command, slave-data, no-port, portAt, isThere, writtenTo, Written, writtenAt, isPort, portWritten, handleWrite, portRead, newState, claimVector, withClaim, withVector, claimOutcome, vectorOutcome, doneOutcome}
 use Rattle.vpic.specs.Claim.{masterTaken, slaveTaken, takenAt, isQuiet}
 use Rattle.vpic.proofs.Ready.{ready-master, ready-slave, low-slave}
 use Rattle.vpic.proofs.Settled.{settled-kept, settled-twice, master-leaves, slave-leaves}
@@ -165,7 +165,7 @@ module _ (p q : PicState) (m a : Chip) (k : PicLine) (v : PicVector) (g : Bool) 
       let low : k .0 < 8 = ready-master p k ep .low in
       let b : a ≡ acknowledged m (k .0) = ack-chip m a k v low ea in
       let w : v ≡ Given (lineVector (m .«vector_base») k) = ack-vector m a k v low ea in
-      let i : not g ≡ grew (p .master) (acknowledged (p .master) (k .0)) = ap not (eg ∙ ap (λ (d : Chip). d .«auto_eoi») em) ∙ sym (grew-taken (p .master) (k .0) low (ready-master p k ep .idle)) in
+      let i : not g ≡ grew (p .master) (acknowledged (p .master) (k .0)) = ap not (eg ∙ ap (λ (d : Chip). d .«auto_eoi») em) ∙ sym (grew-taken (p .master) (k .0) low (counted-idle (p .master) (k .0) (ready-master p k ep .counted))) in
       let n : c ≡ claimOf (Given (lineVector (m .«vector_base») k)) k (not g) false = ec ∙ ap (λ (x : PicVector). claimOf x k (not g) false) w in
       rw (none-new (p .slave .«in_service»)) (cc)
 
@@ -177,8 +177,8 @@ module _ (p q : PicState) (m a : Chip) (k : PicLine) (v : PicVector) (g : Bool) 
       let x : a ≡ acknowledged m 2 = ack-chip m a cascadeIrq u (omega arith) ea in
       let y : b ≡ acknowledged s (k .0) = ack-chip s b k v (low-slave p k ep) eb in
       let w : v ≡ Given (lineVector (s .«vector_base») k) = ack-vector s b k v (low-slave p k ep) eb in
-      let i : not g ≡ grew (p .master) (acknowledged (p .master) 2) = ap not (eg ∙ ap (λ (d : Chip). d .«auto_eoi») em) ∙ sym (grew-taken (p .master) 2 (omega arith) (ready-slave p k ep .0 .idle)) in
-      let j : not h ≡ grew (p .slave) (acknowledged (p .slave) (k .0)) = ap not (eh ∙ ap (λ (d : Chip). d .«auto_eoi») es) ∙ sym (grew-taken (p .slave) (k .0) (low-slave p k ep) (ready-slave p k ep .1 .idle)) in
+      let i : not g ≡ grew (p .master) (acknowledged (p .master) 2) = ap not (eg ∙ ap (λ (d : Chip). d .«auto_eoi») em) ∙ sym (grew-taken (p .master) 2 (omega arith) (counted-idle (p .master) 2 (ready-slave p k ep .0 .counted))) in
+      let j : not h ≡ grew (p .slave) (acknowledged (p .slave) (k .0)) = ap not (eh ∙ ap (λ (d : Chip). d .«auto_eoi») es) ∙ sym (grew-taken (p .slave) (k .0) (low-slave p k ep) (counted-idle (p .slave) (k .0) (ready-slave p k ep .1 .counted))) in
       let n : c ≡ claimOf (Given (lineVector (s .«vector_base») k)) (record { 0 = k .0 + 8 }) (not g) (not h) = ec ∙ ap (λ (z : PicVector). claimOf z (record { 0 = k .0 + 8 }) (not g) (not h)) w in
       let z : r ≡ chips p (acknowledged (p .master) 2) (acknowledged (p .slave) (k .0)) =
       er ∙ ap (λ (o : PicState). chips o (o .master) b) eq

@@ -6,11 +6,11 @@ use Rattle.utils.specs.Set.{bit}
 use Rattle.types.specs.declared.PicLine.{PicLine}
 use Rattle.types.specs.declared.PicPlace.{PicPlace}
 use Rattle.types.specs.declared.PicPlace.the-variants.{Master, Slave, Nowhere}
-use Rattle.vpic_chip.specs.Chip.{acknowledged}
+use Rattle.vpic_chip.specs.Chip.{cascadeIrq, acknowledged}
 use Rattle.vpic.specs.declared.PicClaim.{PicClaim}
 use Rattle.vpic.specs.declared.PicClaim.the-variants.{Claimed, Nothing}
 use Rattle.vpic.specs.Words.{PicState}
-use Rattle.vpic.specs.Pair.{cascadeIrq, StateClaim, stateClaim, chips, nothingClaimed, masterClaim, slaveClaim}
+use Rattle.vpic.specs.Pair.{StateClaim, stateClaim, chips, nothingClaimed, masterClaim, slaveClaim}
 
 -- the vector in bits 0 to 7, the line in 16 to 23, and the two flags in 32 and 33
 abbrev pub claimIn : ℕ → PicClaim

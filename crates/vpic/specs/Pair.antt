@@ -21,7 +21,7 @@ use Rattle.vpic_chip.specs.declared.PendingIrq.the-variants.{Irq, Nothing}
 use Rattle.vpic_chip.specs.declared.PicVector.{PicVector}
 use Rattle.vpic_chip.specs.declared.PicVector.the-variants.{Given, Nothing as NoVector}
 use Rattle.vpic_chip.specs.Registers.{Chip}
-use Rattle.vpic_chip.specs.Chip.{opened, commanded, fed, commandRead, pulsed, asks, driven, pendingIrq, acknowledged, unacknowledged, vectorReply}
+use Rattle.vpic_chip.specs.Chip.{opened, commanded, fed, commandRead, pulsed, asks, cascadeIrq, driven, pendingIrq, acknowledged, unacknowledged, vectorReply}
 use Rattle.vpic.specs.declared.PicRule.{PicRule}
 use Rattle.vpic.specs.declared.PicRule.the-variants.{Latch, Cascade}
 use Rattle.vpic.specs.declared.PicInterruptClaim.{PicInterruptClaim}
@@ -63,10 +63,6 @@ isCascade p = drives (ruleIn (p .rule))
 -- a new pair of a rule, with the bases that the PC's BIOS gives them (the slave's is 0x70)
 unfoldable pub newState : PicRule → PicState
 newState rule = record { rule = ruleNumber rule; master = opened 0x08; slave = opened 0x70; spare = 0 }
-
--- the master's line that the slave hangs on
-abbrev pub cascadeIrq : PicLine
-cascadeIrq = record { 0 = 2 }
 
 -- what ends every call that isn't refused, but a read and a claim of a line that isn't there. Rule 1: the slave's output drives the master's line 2.
 -- D-18: request 2 stands again straight after the master's ICW1, which resets the edge sense in the data sheet. D-13, rule 0: the output drives no line: request 2 is a

@@ -23,7 +23,7 @@ use Rattle.vpic_chip.specs.declared.PendingIrq.the-variants.{Irq, Nothin
 use Rattle.vpic_chip.specs.declared.PicVector.{PicVector}
 use Rattle.vpic_chip.specs.declared.PicVector.the-variants.{Given, Nothing as NoVector}
 use Rattle.vpic_chip.specs.Registers.{Chip, withBase, withRequest, withInService, withStep, withAutoEoi}
-use Rattle.vpic_chip.specs.Chip.{nonSpecificEoi, specificEoi, afterIcw3, icw2, icw3, icw4, ocw1, fed, commanded, pulsed, counts, pendingLine, pendingIrq, pendingReply, asks, driven, acknowledged, acknowledge, unacknowledged, vectorReply}
+use Rattle.vpic_chip.specs.Chip.{nonSpecificEoi, specificEoi, afterIcw3, icw2, icw3, icw4, ocw1, fed, commanded, pulsed, counts, pendingLine, Highest, pendingIrq, pendingReply, asks, driven, acknowledged, acknowledge, unacknowledged, vectorReply}
 
 -- ---- the requests that count
 
@@ -91,32 +91,33 @@ pending-is-line c k e = go (ltb (pendingLine c) 8) refl e
         (d, omega (arith, ltb-true (pendingLine c) 8 h))
     go false h q = let z : _≡_ {A = ℕ} 0 1 = cc in absurd (omega arith)
 
--- what a pending line is: requested, not in service, and the first that counts
-pub record Pending (c : Chip) (k : ℕ) : Type 0 where
-  pub low : k < 8
-  pub counted : counts c k ≡ true
-  pub highest : (j : ℕ) → j < k → counts c j ≡ false
-  pub asked : bit (c .request) k ≡ true
-  pub idle : bit (c .«in_service») k ≡ false
-
-pub pended : (c : Chip) (k : PicLine) → pendingIrq c ≡ Irq k → Pending c (k .0)
-unfolding pendingLine counts
+-- it is the highest that counts
+pub pended : (c : Chip) (k : PicLine) → pendingIrq c ≡ Irq k → Highest c (k .0)
+unfolding pendingLine
 pended c k e =
     let is : (pendingLine c ≡ k .0) × (k .0 < 8) = pending-is-line c k e in
     let here : first 8 (counts c) ≡ k .0 = is .0 in
-    let yes : counts c (k .0) ≡ true = subst (λ (n : ℕ). counts c n ≡ true) here (first-holds 8 (counts c) (omega arith)) in
-    let unmasked = bit (c .request) (k .0) && not (bit (c .mask) (k .0)) in
-    let above = ltb (k .0) (lowest 8 (c .«in_service»)) in
     record {
       low = is .1;
-      counted = yes;
-      highest = λ j l. first-before 8 (counts c) j (omega arith);
-      asked = and-true (bit (c .request) (k .0)) (not (bit (c .mask) (k .0))) (and-true unmasked above yes .0) .0;
-      idle = lowest-before 8 (c .«in_service») (k .0) (ltb-true (k .0) (lowest 8 (c .«in_service»)) (and-true unmasked above yes .1));
+      counted = subst (λ (n : ℕ). counts c n ≡ true) here (first-holds 8 (counts c) (omega arith));
+      above = λ j l. first-before 8 (counts c) j (omega arith);
     }
 
+-- a line that counts is requested, and not in service
+module _ (c : Chip) (k : ℕ) (e : counts c k ≡ true) where
+  pub counted-asked : bit (c .request) k ≡ true
+  unfolding counts
+  counted-asked =
+      and-true (bit (c .request) k) (not (bit (c .mask) k)) (and-true (bit (c .request) k && not (bit (c .mask) k)) (ltb k (lowest 8 (c .«in_service»))) e .0) .0
+
+  pub counted-idle : bit (c .«in_service») k ≡ false
+  unfolding counts
+  counted-idle =
+      lowest-before 8 (c .«in_service») k
+      (ltb-true k (lowest 8 (c .«in_service»)) (and-true (bit (c .request) k && not (bit (c .mask) k)) (ltb k (lowest 8 (c .«in_service»))) e .1))
+
 -- a pending line that went into service leaves nothing that counts
-module _ (c : Chip) (k : ℕ) (h : Pending c k) (a : c .«auto_eoi» ≡ false) where
+module _ (c : Chip) (k : ℕ) (h : Highest c k) (a : c .«auto_eoi» ≡ false) where
   served-line : lowest 8 (acknowledged c k .«in_service») ≤ k
   unfolding acknowledged
   served-line = go (ltb k (lowest 8 (acknowledged c k .«in_service»))) refl
@@ -141,7 +142,7 @@ module _ (c : Chip) (k : ℕ) (h : Pending c k) (a : c .«auto_eoi» ≡ false) 
           let o : bit (without (c .request) k) j ≡ bit (c .request) j = bit-without-other (c .request) k j (λ q. omega arith) in
           let t : ltb j (lowest 8 (c .«in_service»)) ≡ true = lt-ltb j (lowest 8 (c .«in_service»)) (omega (arith, ltb-true k (lowest 8 (c .«in_service»)) above)) in
           let n : (bit (c .request) j && not (bit (c .mask) j)) ≡ false =
-          sym (and-one _) ∙ ap (λ (b : Bool). (bit (c .request) j && not (bit (c .mask) j)) && b) (sym t) ∙ h .highest j i in
+          sym (and-one _) ∙ ap (λ (b : Bool). (bit (c .request) j && not (bit (c .mask) j)) && b) (sym t) ∙ h .above j i in
           and-left-no _ _ (ap (λ (b : Bool). b && not (bit (c .mask) j)) o ∙ n)
       go false e = and-right-no (bit (without (c .request) k) j && not (bit (c .mask) j)) (ltb j (lowest 8 (acknowledged c k .«in_service»))) (le-ltb j (lowest 8 (acknowledged c k .«in_service»)) (omega (arith, served-line, ltb-false j k e)))
 

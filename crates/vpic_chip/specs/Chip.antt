@@ -1,8 +1,9 @@
 -- One 8259A chip: initialization command words ICW1 to ICW4, operation command words OCW1 to OCW3, fully nested mode, end of interrupt,
 -- automatic end of interrupt mode, reading the 8259A status. A set of the chip's eight lines is a number (`Rattle.utils.specs.Set`).
 -- Departures from the data sheet are marked D-nn and stand in docs/DIFFERENCES.md.
-use Prim.Native.Nat.{ℕ, _*_, _/_, _%_}
-use mathlib.Core.Bool.{Bool, false, not, cond, _&&_}
+use Prim.Native.Nat.{ℕ, _*_, _/_, _%_, _<_}
+use mathlib.Core.Bool.{Bool, true, false, not, cond, _&&_}
+use mathlib.Core.Path.{_≡_}
 use lib.Dec.{ltb, eqb}
 use Rattle.utils.specs.Set.{bit, with, without, first, lowest}
 use Rattle.types.specs.declared.PicLine.{PicLine}
@@ -96,9 +97,19 @@ counts c k = bit (c .request) k && not (bit (c .mask) k) && ltb k (lowest 8 (c .
 unfoldable pub pendingLine : Chip → ℕ
 pendingLine c = first 8 (counts c)
 
+-- which line that is: line k's request counts, and none of the chip's that counts is above it
+pub record Highest (c : Chip) (k : ℕ) : Type 0 where
+  pub low : k < 8
+  pub counted : counts c k ≡ true
+  pub above : (j : ℕ) → j < k → counts c j ≡ false
+
 -- the chip's output, INT: up exactly while a request counts
 unfoldable pub asks : Chip → Bool
 asks c = ltb (pendingLine c) 8
+
+-- the master's line that the slave hangs on
+abbrev pub cascadeIrq : PicLine
+cascadeIrq = record { 0 = 2 }
 
 -- line k driven by a level: its request stands exactly while that is up
 unfoldable pub driven : Chip → ℕ → Bool → Chip

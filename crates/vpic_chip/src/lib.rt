@@ -9,7 +9,7 @@ ghost use Prim.Native.Nat.{_<_, _≤_};
 ghost use Rattle.utils.specs.Set.{with, without, setOf, lowest};
 ghost use Rattle.types.specs.Reply.{flag};
 ghost use Rattle.vpic_chip.specs.Registers.{withBase, withMask, withRequest, withInService, withStep, withAutoEoi, withReadIsr, chipIn};
-ghost use Rattle.vpic_chip.specs.Chip.{opened, icw1, ocw3, specificEoi, nonSpecificEoi, ocw2, commanded, afterIcw3, icw2, icw3, icw4, fed, commandRead, pulsed, counts, asks, driven, pendingIrq, acknowledged, acknowledge, acknowledgeOutcome, vectorReply, unacknowledged};
+ghost use Rattle.vpic_chip.specs.Chip.{opened, icw1, ocw3, specificEoi, nonSpecificEoi, ocw2, commanded, afterIcw3, icw2, icw3, icw4, ocw1, fed, commandRead, pulsed, cascadeIrq, counts, asks, driven, pendingIrq, acknowledged, acknowledge, acknowledgeOutcome, vectorReply, unacknowledged};
 use types::PicLine;
 use types::Reply;
 use types::Vector;
@@ -272,7 +272,7 @@ impl PicChip {
         let step = self.init_step();
         // As guests mostly do, and found at once.
         if step == 0 {
-            return self.with_mask(value);
+            return self.ocw1(value);
         }
         if step == 1 {
             return self.icw2(value);
@@ -283,6 +283,12 @@ impl PicChip {
         if step == 3 {
             return self.icw4(value);
         }
+        self.ocw1(value)
+    }
+
+    fn ocw1(self, value: u8) -> Self
+        ensures { λ r. ⌜ chipIn (r .0) ≡ ocw1 (chipIn (self .0)) value ⌝ }
+    {
         self.with_mask(value)
     }
 
@@ -374,7 +380,7 @@ impl PicChip {
 
     // The cascade line is driven by a level: its request stands exactly while that is up.
     pub fn drive_cascade(self, up: bool) -> Self
-        ensures { λ r. ⌜ chipIn (r .0) ≡ driven (chipIn (self .0)) 2 up ⌝ }
+        ensures { λ r. ⌜ chipIn (r .0) ≡ driven (chipIn (self .0)) (cascadeIrq .0) up ⌝ }
     {
         if up {
             return self.requested(PicLine(CASCADE_IRQ));

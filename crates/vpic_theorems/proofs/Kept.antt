@@ -11,9 +11,9 @@ use Rattle.types.specs.declared.PicPlace.the-variants.{Master, Slave, Nowhere}
 use Rattle.types.specs.Counters.{placeOf}
 use Rattle.types.specs.Reply.{Outcome}
 use Rattle.vpic_chip.specs.Registers.{Chip, chipIn}
-use Rattle.vpic_chip.specs.Chip.{commanded, fed, pulsed, driven, acknowledged, unacknowledged}
+use Rattle.vpic_chip.specs.Chip.{cascadeIrq, commanded, fed, pulsed, driven, acknowledged, unacknowledged}
 use Rattle.vpic.specs.Words.{PicState, view}
-use Rattle.vpic.specs.Pair.{StateClaim, isCascade, cascadeIrq, settled, latchedAt, latched, masterClaim, slaveClaim, pendingPlace, claimAt, claimPending, claimIrq, restoredAt, restored, Port, master-command, master-data, slave-command, slave-data, no-port, portAt, isPort, writtenTo, writtenAt, portWritten}
+use Rattle.vpic.specs.Pair.{StateClaim, isCascade, settled, latchedAt, latched, masterClaim, slaveClaim, pendingPlace, claimAt, claimPending, claimIrq, restoredAt, restored, Port, master-command, master-data, slave-command, slave-data, no-port, portAt, isPort, writtenTo, writtenAt, portWritten}
 use Rattle.vpic_theorems.specs.Statements.{Call, claim-irq, claim-pending-interrupt, pulse-irq, next-interrupt, restore-interrupt, handle-read, handle-write, outcome, CallsKeepRest}
 
 -- ---- one chip

@@ -20,9 +20,9 @@ use Rattle.vpic_chip.specs.declared.PendingIrq.the-variants.{Irq, Nothing}
 use Rattle.vpic.specs.Words.{PicState}
 use Rattle.vpic.specs.declared.PicInterruptClaim.{PicInterruptClaim}
 use Rattle.vpic.specs.declared.PicClaim.the-variants.{Claimed, Nothing as NoClaim}
-use Rattle.vpic_chip.specs.Chip.{opened, commanded, fed, pulsed, driven, counts, pendingLine, pendingIrq, acknowledged, unacknowledged}
-use Rattle.vpic.specs.Pair.{StateClaim, isCascade, Keeps, chips, grew, newState, settled, latchedAt, latched, cascadeIrq, masterClaim, slaveClaim, cascadePlace, placeFrom, claimAt, claimPending, claimIrq, portWritten, writtenAt, restoredAt, restored, restoreInterrupt}
-use Rattle.vpic_chip.proofs.Laws.{Pending, pended}
+use Rattle.vpic_chip.specs.Chip.{cascadeIrq, opened, commanded, fed, pulsed, driven, counts, pendingLine, Highest, pendingIrq, acknowledged, unacknowledged}
+use Rattle.vpic.specs.Pair.{StateClaim, isCascade, Keeps, chips, grew, newState, settled, latchedAt, latched, masterClaim, slaveClaim, cascadePlace, placeFrom, claimAt, claimPending, claimIrq, portWritten, writtenAt, restoredAt, restored, restoreInterrupt}
+use Rattle.vpic_chip.proofs.Laws.{pended, counted-asked, counted-idle}
 use Rattle.vpic_theorems.specs.Rule.{LatchedKeeps, WrittenKeeps, RestoredKeeps}
 use Rattle.vpic_theorems.proofs.Settled.{settled-between}
 use Rattle.vpic.proofs.Settled.{settled-kept, settled-keeps}
@@ -31,13 +31,16 @@ use Rattle.vpic_theorems.specs.Statements.{RestoredAtOnce, RestoredAfter
 
 -- ---- one chip: acknowledged, and taken back
 
-chip-back : (c : Chip) (k : PicLine) → Pending c (k .0) → unacknowledged (acknowledged c (k .0)) k (grew c (acknowledged c (k .0))) ≡ c
+chip-back : (c : Chip) (k : PicLine) → Highest c (k .0) → unacknowledged (acknowledged c (k .0)) k (grew c (acknowledged c (k .0))) ≡ c
 unfolding unacknowledged acknowledged pulsed
-chip-back c k h = ap (unacknowledged (acknowledged c (k .0)) k) (grew-taken c (k .0) (h .low) (h .idle)) ∙ go (c .«auto_eoi»)
+chip-back c k h = ap (unacknowledged (acknowledged c (k .0)) k) (grew-taken c (k .0) (h .low) (counted-idle c (k .0) (h .counted))) ∙ go (c .«auto_eoi»)
   where
+    asked : bit (c .request) (k .0) ≡ true
+    asked = counted-asked c (k .0) (h .counted)
+
     go : (b : Bool) → unacknowledged (withInService (withRequest c (without (c .request) (k .0))) (cond b (c .«in_service») (with (c .«in_service») (k .0)))) k (not b) ≡ c
-    go true = rw (lt-ltb (k .0) 8 (h .low), with-without (c .request) (k .0) (h .asked))
-    go false = rw (lt-ltb (k .0) 8 (h .low), with-without (c .request) (k .0) (h .asked), without-with (c .«in_service») (k .0) (h .idle))
+    go true = rw (lt-ltb (k .0) 8 (h .low), with-without (c .request) (k .0) asked)
+    go false = rw (lt-ltb (k .0) 8 (h .low), with-without (c .request) (k .0) asked, without-with (c .«in_service») (k .0) (counted-idle c (k .0) (h .counted)))
 
 -- ---- the pair: a claim of the master's line, and of the slave's
 
@@ -54,7 +57,7 @@ place-high k h = rw (le-ltb (k .0 + 8) 8 (omega arith), lt-ltb (k .0 + 8) 16 (om
 the-claim : (p q : PicState) (v : Vector) (l : PicLine) → PicInterruptClaim
 the-claim p q v l = record { vector = v; irq = l; «master_in_service» = grew (p .master) (q .master); «slave_in_service» = grew (p .slave) (q .slave) }
 
-master-back : (p : PicState) (k : PicLine) (c : PicInterruptClaim) → Keeps p → Pending (p .master) (k .0) → masterClaim p k .claim ≡ Claimed c
+master-back : (p : PicState) (k : PicLine) (c : PicInterruptClaim) → Keeps p → Highest (p .master) (k .0) → masterClaim p k .claim ≡ Claimed c
     → restored (masterClaim p k .state) c ≡ p
 unfolding masterClaim restored the-claim
 master-back p k c keeps h e =
@@ -65,7 +68,7 @@ master-back p k c keeps h e =
     ∙ ap (λ (m : Chip). settled (chips p m (p .slave))) (chip-back (p .master) k h)
     ∙ settled-kept p keeps)
 
-slave-back : (p : PicState) (k : PicLine) (c : PicInterruptClaim) → Keeps p → Pending (p .master) 2 → Pending (p .slave) (k .0) → slaveClaim p k .claim ≡ Claimed c
+slave-back : (p : PicState) (k : PicLine) (c : PicInterruptClaim) → Keeps p → Highest (p .master) 2 → Highest (p .slave) (k .0) → slaveClaim p k .claim ≡ Claimed c
     → restored (slaveClaim p k .state) c ≡ p
 unfolding slaveClaim restored the-claim
 slave-back p k c keeps m h e =
@@ -80,19 +83,19 @@ slave-back p k c keeps m h e =
 
 -- what is shown of the master's and of the slave's claims holds of every claim
 by-claim : (P : StateClaim → PicInterruptClaim → Type 0) (p : PicState)
-    → ((k : PicLine) (c : PicInterruptClaim) → Pending (p .master) (k .0) → masterClaim p k .claim ≡ Claimed c → P (masterClaim p k) c)
-    → ((k : PicLine) (c : PicInterruptClaim) → Pending (p .master) 2 → Pending (p .slave) (k .0) → slaveClaim p k .claim ≡ Claimed c → P (slaveClaim p k) c)
+    → ((k : PicLine) (c : PicInterruptClaim) → Highest (p .master) (k .0) → masterClaim p k .claim ≡ Claimed c → P (masterClaim p k) c)
+    → ((k : PicLine) (c : PicInterruptClaim) → Highest (p .master) 2 → Highest (p .slave) (k .0) → slaveClaim p k .claim ≡ Claimed c → P (slaveClaim p k) c)
     → (c : PicInterruptClaim) → claimPending p .claim ≡ Claimed c → P (claimPending p) c
 unfolding claimPending
 by-claim P p m s c e = by-master (pendingIrq (p .master)) refl e
   where
-    by-slave : (b : PendingIrq) → pendingIrq (p .slave) ≡ b → Pending (p .master) 2 → claimAt p (cascadePlace b) .claim ≡ Claimed c → P (claimAt p (cascadePlace b)) c
+    by-slave : (b : PendingIrq) → pendingIrq (p .slave) ≡ b → Highest (p .master) 2 → claimAt p (cascadePlace b) .claim ≡ Claimed c → P (claimAt p (cascadePlace b)) c
     by-slave (Irq k) q h f = s k c h (pended (p .slave) k q) f
     by-slave Nothing q h f = m cascadeIrq c h f
 
-    by-line : (k : PicLine) (b : Bool) → eqb (k .0) 2 ≡ b → Pending (p .master) (k .0) → claimAt p (cond b (cascadePlace (pendingIrq (p .slave))) (Master k)) .claim ≡ Claimed c
+    by-line : (k : PicLine) (b : Bool) → eqb (k .0) 2 ≡ b → Highest (p .master) (k .0) → claimAt p (cond b (cascadePlace (pendingIrq (p .slave))) (Master k)) .claim ≡ Claimed c
         → P (claimAt p (cond b (cascadePlace (pendingIrq (p .slave))) (Master k))) c
-    by-line k true q h f = by-slave (pendingIrq (p .slave)) refl (subst (Pending (p .master)) (eqb-true (k .0) 2 q) h) f
+    by-line k true q h f = by-slave (pendingIrq (p .slave)) refl (subst (Highest (p .master)) (eqb-true (k .0) 2 q) h) f
     by-line k false q h f = m k c h f
 
     by-master : (a : PendingIrq) → pendingIrq (p .master) ≡ a → claimAt p (placeFrom p a) .claim ≡ Claimed c → P (claimAt p (placeFrom p a)) c
@@ -142,10 +145,10 @@ restored-after-raise p l c e = go (ltb (l .0) 16) e
 
 -- ---- the highest request is served
 
-serves : (c : Chip) (k : ℕ) → Pending c k → Served c (acknowledged c k) k
-serves c k h = record { highest = record { low = h .low; counted = h .counted; above = h .highest }; done = refl }
+serves : (c : Chip) (k : ℕ) → Highest c k → Served c (acknowledged c k) k
+serves c k h = record { highest = h; done = refl }
 
-master-serves : (p : PicState) (k : PicLine) → Pending (p .master) (k .0) → ServedBy p (masterClaim p k .state) (k .0)
+master-serves : (p : PicState) (k : PicLine) → Highest (p .master) (k .0) → ServedBy p (masterClaim p k .state) (k .0)
 unfolding masterClaim
 master-serves p k h = record {
   m = acknowledged (p .master) (k .0);
@@ -157,7 +160,7 @@ master-serves p k h = record {
   slave = λ l. absurd (omega (arith, h .low));
 }
 
-slave-serves : (p : PicState) (k : PicLine) → Pending (p .master) 2 → Pending (p .slave) (k .0) → ServedBy p (slaveClaim p k .state) (k .0 + 8)
+slave-serves : (p : PicState) (k : PicLine) → Highest (p .master) 2 → Highest (p .slave) (k .0) → ServedBy p (slaveClaim p k .state) (k .0 + 8)
 unfolding slaveClaim
 slave-serves p k m h = record {
   m = acknowledged (p .master) 2;
@@ -180,24 +183,24 @@ second-caller-unheard = (refl, refl, refl)
 
 -- ---- what a claim's flags say
 
-master-flagged : (p : PicState) (k : PicLine) (c : PicInterruptClaim) → Pending (p .master) (k .0) → masterClaim p k .claim ≡ Claimed c → Flagged p c
+master-flagged : (p : PicState) (k : PicLine) (c : PicInterruptClaim) → Highest (p .master) (k .0) → masterClaim p k .claim ≡ Claimed c → Flagged p c
 unfolding masterClaim the-claim
 master-flagged p k c h e =
     let f : c ≡ the-claim p (chips p (acknowledged (p .master) (k .0)) (p .slave)) (lineVector (p .master .«vector_base») k) k = cc in
     let l = h .low in
     rw f (record {
-      master = grew-taken (p .master) (k .0) l (h .idle);
+      master = grew-taken (p .master) (k .0) l (counted-idle (p .master) (k .0) (h .counted));
       slave = λ m. absurd (omega arith);
       alone = λ m. ap not (none-new (p .slave .«in_service»));
     })
 
-slave-flagged : (p : PicState) (k : PicLine) (c : PicInterruptClaim) → Pending (p .master) 2 → Pending (p .slave) (k .0) → slaveClaim p k .claim ≡ Claimed c → Flagged p c
+slave-flagged : (p : PicState) (k : PicLine) (c : PicInterruptClaim) → Highest (p .master) 2 → Highest (p .slave) (k .0) → slaveClaim p k .claim ≡ Claimed c → Flagged p c
 unfolding slaveClaim the-claim
 slave-flagged p k c m h e =
     let f : c ≡ the-claim p (chips p (acknowledged (p .master) 2) (acknowledged (p .slave) (k .0))) (lineVector (p .slave .«vector_base») k) (record { 0 = k .0 + 8 }) = cc in
     rw f (record {
-      master = grew-taken (p .master) 2 (m .low) (m .idle);
-      slave = λ l. grew-taken (p .slave) (k .0) (h .low) (h .idle);
+      master = grew-taken (p .master) 2 (m .low) (counted-idle (p .master) 2 (m .counted));
+      slave = λ l. grew-taken (p .slave) (k .0) (h .low) (counted-idle (p .slave) (k .0) (h .counted));
       alone = λ l. absurd (omega arith);
     })
 

@@ -22,9 +22,9 @@ use Rattle.types.specs.Reply.{Outcome, replyNumber}
 use Rattle.vpic_chip.specs.Registers.{Chip}
 use Rattle.vpic.specs.declared.PicRule.the-variants.{Latch, Cascade}
 use Rattle.vpic.specs.Words.{PicState}
-use Rattle.vpic_chip.specs.Chip.{opened, commanded, fed, pulsed, asks, driven, counts, pendingLine, pendingIrq, acknowledged, unacknowledged}
-use Rattle.vpic.specs.Pair.{chips, Keeps, newState, cascadeIrq, settled, latchedAt, latched, masterClaim, slaveClaim, pendingPlace, claimAt, claimPending, claimIrq, nothingClaimed, restoredAt, restored, isPort, writtenAt, portWritten, portRead, valueReply, refused}
-use Rattle.vpic_theorems.specs.Statements.{Call, claim-irq, claim-pending-interrupt, pulse-irq, next-interrupt, restore-interrupt, handle-read, handle-write, outcome, Highest}
+use Rattle.vpic_chip.specs.Chip.{opened, commanded, fed, pulsed, asks, cascadeIrq, driven, counts, pendingLine, Highest, pendingIrq, acknowledged, unacknowledged}
+use Rattle.vpic.specs.Pair.{chips, Keeps, newState, settled, latchedAt, latched, masterClaim, slaveClaim, pendingPlace, claimAt, claimPending, claimIrq, nothingClaimed, restoredAt, restored, isPort, writtenAt, portWritten, portRead, valueReply, refused}
+use Rattle.vpic_theorems.specs.Statements.{Call, claim-irq, claim-pending-interrupt, pulse-irq, next-interrupt, restore-interrupt, handle-read, handle-write, outcome}
 use Rattle.vpic_theorems.specs.Rule.{AsksIfCounts, CountsIfAsks, run, NewHasRule, NewKeeps, CallsKeep, CallsKeepNumber, RunsKeep, CallsSettle, ReadsUnchanged, LineTwoLatchesNothing, Clear, SlaveHeard, UnkeptNotRestored}
 use Rattle.vpic_theorems.proofs.Settled.{settled-cascade, driven-with}
 use Rattle.vpic.proofs.Settled.{settled-keeps, settled-kept}

@@ -14,10 +14,10 @@ use Rattle.vpic.specs.declared.PicRule.{PicRule}
 use Rattle.vpic.specs.declared.PicRule.the-variants.{Cascade}
 use Rattle.vpic.specs.declared.PicInterruptClaim.{PicInterruptClaim}
 use Rattle.vpic.specs.declared.PicClaim.the-variants.{Claimed}
-use Rattle.vpic_chip.specs.Chip.{asks, counts, pendingLine}
+use Rattle.vpic_chip.specs.Chip.{asks, counts, pendingLine, Highest, cascadeIrq}
 use Rattle.vpic.specs.Pair.{ruleIn, newState, isCascade, Keeps, slaveClaim, claimPending, latched, restored, portWritten, restoreInterrupt, handleRead}
 use Rattle.vpic.specs.Departures.{at, line}
-use Rattle.vpic_theorems.specs.Statements.{Call, claim-irq, claim-pending-interrupt, pulse-irq, next-interrupt, restore-interrupt, handle-read, handle-write, outcome, Highest}
+use Rattle.vpic_theorems.specs.Statements.{Call, claim-irq, claim-pending-interrupt, pulse-irq, next-interrupt, restore-interrupt, handle-read, handle-write, outcome}
 
 -- ---- what the rule says
 
@@ -89,9 +89,9 @@ LineTwoLatchesNothing = (p : PicState) → isCascade p ≡ true → Keeps p → 
 
 -- nothing on the master stands before its line 2: it is unmasked, nothing at or above it is in service, and no unmasked request 0 or 1 waits
 pub record Clear (m : Chip) : Type 0 where
-  pub unmasked : bit (m .mask) 2 ≡ false
-  pub idle : (k : ℕ) → k ≤ 2 → bit (m .«in_service») k ≡ false
-  pub quiet : (k : ℕ) → k < 2 → bit (m .request) k ≡ true → bit (m .mask) k ≡ true
+  pub unmasked : bit (m .mask) (cascadeIrq .0) ≡ false
+  pub idle : (k : ℕ) → k ≤ cascadeIrq .0 → bit (m .«in_service») k ≡ false
+  pub quiet : (k : ℕ) → k < cascadeIrq .0 → bit (m .request) k ≡ true → bit (m .mask) k ≡ true
 
 -- the slave answers for its line k, the highest of its requests that count: its vector, line k + 8
 pub record Heard (p : PicState) (k : ℕ) : Type 0 where

@@ -12,7 +12,7 @@ use Rattle.vpic.specs.Words.{PicState, view}
 use Rattle.vpic.specs.declared.PicRule.the-variants.{Latch}
 use Rattle.vpic.specs.declared.PicInterruptClaim.{PicInterruptClaim}
 use Rattle.vpic.specs.declared.PicClaim.the-variants.{Claimed, Nothing as NoClaim}
-use Rattle.vpic_chip.specs.Chip.{counts, acknowledged}
+use Rattle.vpic_chip.specs.Chip.{counts, Highest, cascadeIrq, acknowledged}
 use Rattle.vpic.specs.Pair.{chips, settled, Keeps, claimPending, claimIrq, latched, restoreInterrupt, withClaim, withVector, handleRead, handleWrite}
 use Rattle.vpic.specs.Departures.{seventh}
 
@@ -67,13 +67,7 @@ RestoredAfterRaise =
     (p : PicState) (l : PicLine) (c : PicInterruptClaim) → claimIrq p l .claim ≡ Claimed c
     → restoreInterrupt (claimIrq p l .state) c ≡ record { state = latched p l; reply = reply.Nothing }
 
--- line k's request counts, and none of the chip's that counts is above it
-pub record Highest (c : Chip) (k : ℕ) : Type 0 where
-  pub low : k < 8
-  pub counted : counts c k ≡ true
-  pub above : (j : ℕ) → j < k → counts c j ≡ false
-
--- the highest was acknowledged, line k
+-- the highest of the chip's requests that count was acknowledged, line k
 pub record Served (before after : Chip) (k : ℕ) : Type 0 where
   pub highest : Highest before k
   pub done : after ≡ acknowledged before k
@@ -85,7 +79,7 @@ pub record ServedBy (p q : PicState) (k : ℕ) : Type 0 where
   pub settles : q ≡ settled (chips p m s)
   pub master : k < 8 → Served (p .master) m k
   pub alone : k < 8 → s ≡ p .slave
-  pub cascade : 8 ≤ k → Served (p .master) m 2
+  pub cascade : 8 ≤ k → Served (p .master) m (cascadeIrq .0)
   pub slave : 8 ≤ k → Served (p .slave) s (k - 8)
 
 abbrev pub HighestServed : Type 0

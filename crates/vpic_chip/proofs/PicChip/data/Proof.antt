@@ -6,8 +6,8 @@ use Rattle.vpic_chip.proofs.PicChip.data.Tie as tie
 init-step-requires : tie.Need-init-step-requires
 init-step-requires c κs = search needs
 
-with-mask-requires : tie.Need-with-mask-requires
-with-mask-requires c κs = search needs
+ocw1-requires : tie.Need-ocw1-requires
+ocw1-requires c κs = search needs
 
 returns : tie.Need-returns
 returns c = search fed-ready
@@ -30,8 +30,8 @@ icw4-requires c κs = search needs
 returns-4 : tie.Need-returns-4
 returns-4 c = search fed-icw4
 
-with-mask-requires-2 : tie.Need-with-mask-requires-2
-with-mask-requires-2 c κs = search needs
+ocw1-requires-2 : tie.Need-ocw1-requires-2
+ocw1-requires-2 c κs = search needs
 
 returns-5 : tie.Need-returns-5
 returns-5 c = search fed-ocw1
@@ -41,7 +41,7 @@ data-spec =
     tie.close
     (tie.spec
     init-step-requires
-    with-mask-requires
+    ocw1-requires
     returns
     icw2-requires
     returns-2
@@ -49,5 +49,5 @@ data-spec =
     returns-3
     icw4-requires
     returns-4
-    with-mask-requires-2
+    ocw1-requires-2
     returns-5)
