@@ -227,8 +227,16 @@ row!(eoi_unused_all_v20, io20, |io| held(io, &LEVEL_ALL, 0..24), eoi, [0x99]);
 row!(eoi_shared_v20, io20, |io| held(io, &LEVEL_2_AND_5, [2, 5]), eoi, [0x30]);
 row!(write_low_changed, io, |io| io.program(&LEVEL_2), write_window::<0x10000>, [SELECT, WINDOW, 0x14, 0x8030]);
 row!(write_low_same, io, |io| io.program(&LEVEL_2), write_window::<0>, [SELECT, WINDOW, 0x14, 0x8030]);
+row!(write_low_changed_held, io, |io| held(io, &LEVEL_2, [2]), write_window::<0x10000>, [SELECT, WINDOW, 0x14, 0x8030]);
+row!(write_low_same_held, io, |io| held(io, &LEVEL_2, [2]), write_window::<0>, [SELECT, WINDOW, 0x14, 0x8030]);
 row!(write_high, io, |io| io.program(&LEVEL_2), write_window::<0x0300_0000>, [SELECT, WINDOW, 0x15, 0x0100_0000]);
 row!(read_low, io, |io| io.program(&LEVEL_2), read_window, [WINDOW]);
+row!(write_low_changed_v20, io20, |io| io.program(&LEVEL_2), write_window::<0x10000>, [SELECT, WINDOW, 0x14, 0x8030]);
+row!(write_low_same_v20, io20, |io| io.program(&LEVEL_2), write_window::<0>, [SELECT, WINDOW, 0x14, 0x8030]);
+row!(write_low_changed_held_v20, io20, |io| held(io, &LEVEL_2, [2]), write_window::<0x10000>, [SELECT, WINDOW, 0x14, 0x8030]);
+row!(write_low_same_held_v20, io20, |io| held(io, &LEVEL_2, [2]), write_window::<0>, [SELECT, WINDOW, 0x14, 0x8030]);
+row!(write_high_v20, io20, |io| io.program(&LEVEL_2), write_window::<0x0300_0000>, [SELECT, WINDOW, 0x15, 0x0100_0000]);
+row!(read_low_v20, io20, |io| io.program(&LEVEL_2), read_window, [WINDOW]);
 row!(vector_for_gsi, io, |io| io.program(&LEVEL_2), vector_for, [2]);
 row!(address_range, io, |_| (), range, []);
 row!(io_new, io, |_| (), renew_io, []);
@@ -388,8 +396,16 @@ pub const ROWS: &[&Row] = &[
     &Row { is_like_original: false, ..eoi_shared_v20::ROW },
     &write_low_changed::ROW,
     &write_low_same::ROW,
+    &write_low_changed_held::ROW,
+    &write_low_same_held::ROW,
     &write_high::ROW,
     &read_low::ROW,
+    &write_low_changed_v20::ROW,
+    &write_low_same_v20::ROW,
+    &write_low_changed_held_v20::ROW,
+    &write_low_same_held_v20::ROW,
+    &write_high_v20::ROW,
+    &read_low_v20::ROW,
     &vector_for_gsi::ROW,
     &pic_claim_eoi_4::ROW,
     &pic_claim_eoi_12::ROW,

@@ -554,6 +554,10 @@ static void masked_in_flight(void)
     EXPECT(line(3, 1), NONE);
     EXPECT(window(0x18043), NONE);
     CHECK(io[24] == 0);
+    EXPECT(line(3, 1), NONE);
+    CHECK(io[24] == 8 && io[3] == 0x1c043);
+    EXPECT(window(0x18043), NONE);
+    CHECK(io[24] == 0 && io[3] == 0x1c043); /* the same word, but masked */
 
     start_20("a high word", 8, 0x8041);
     EXPECT(window(0x18041), NONE);

@@ -10,17 +10,17 @@ use lib.ListN.{length, getD, set, length-set}
 use lib.Seq.{getD-set-same, set-getD, set-set}
 use Rattle.utils.specs.Set.{bit, marked}
 use Rattle.utils.proofs.Laws.{bit-above}
-use Rattle.utils.proofs.Bools.{never, both, and-true}
+use Rattle.utils.proofs.Bools.{never, both, and-true, and-one}
 use Rattle.utils.specs.Cases.{and-yes, and-left-no, and-right-no, or-left-yes, or-right-yes, or-no}
 use Rattle.vioapic_entry.specs.Redirection.{EntryStep, vectorOf, isFit, isLevel, isMasked, remoteIrr, sameLow, withRemoteIrr, withoutRemoteIrr, replaceLow, replaceHigh, withWord, withDeferred, withInput, quietly, sending, sendEntry, raiseEntry, lowerEntry, moveLine, endEntry, endEntry20, writeLow, writeHigh, withoutStatus, replaceLow20, keepsDeferred, storeLow20, isOwed, writeLow20}
-use Rattle.vioapic_entry.proofs.EntryLaws.{send-unfit, send-edge, send-later, send-level, raise-again, raise-new, lower-is, end-up, end-deferred, end-quiet, end20-asks, end20-quiet, resend-fit, resend-unfit, low-masked, low-same, low-changed, low20-owed, low20-quiet, low20-resting, owed-level, high-is}
+use Rattle.vioapic_entry.proofs.EntryLaws.{send-unfit, send-edge, send-later, send-level, raise-again, raise-new, lower-is, end-up, end-deferred, end-quiet, end20-asks, end20-quiet, resend-fit, resend-unfit, low-masked, low-same, low-changed, low20-owed, low20-quiet, low20-resting, low20-flying, owed-level, high-is}
 use Rattle.vioapic_entry.proofs.Fields.{alike-with, alike-low20, same-level, irr-with, irr-without, irr-low, irr-low20, irr-high}
 use Rattle.vioapic_entry.specs.declared.Entry.{Entry}
 use Rattle.vioapic_entry.specs.declared.Routed.{Routed}
 use Rattle.vioapic_entry.specs.declared.Routed.the-variants.{NotRouted, Interrupt}
 use Rattle.vioapic.specs.State.{IoApicState, view}
 use Rattle.vioapic.specs.Table.{noEntry, routing, withFlight, noted, put, routeAt, entryAt}
-use Rattle.vioapic.specs.Inside.{Keeps, putFlag, parts, NoneDeferred, Resting, forgetting, StoredLow}
+use Rattle.vioapic.specs.Inside.{Keeps, putFlag, parts, NoneDeferred, Quiet, forgetting, StoredLow}
 use Rattle.vioapic.proofs.Words.{view-long, word-at, deferred-at, word-is, deferred-is, input-is, flight-is, still, then, so-that}
 
 -- ---- an entry that is put
@@ -301,6 +301,11 @@ module _ (l : List ℕ) (g word x : ℕ) (at : word ≡ entryAt (view l) g .word
 -- ---- the guest's writes, version 0x20
 
 module _ (l : List ℕ) (g word x : ℕ) (at : word ≡ entryAt (view l) g .word) where
+  pub forgot-none : (b : Bool) → g < 24 → (b ≡ true → NoneDeferred (view l)) → b ≡ true → Keeps l l (view l ≡ put (view l) g (forgetting (entryAt (view l) g) x))
+  forgot-none b i none h =
+      let e : Entry = entryAt (view l) g in
+      still l (sym (put-back (view l) g (forgetting e x) (both (λ (z : Entry). z ≡ e) (keepsDeferred (e .word) x) e (withDeferred e false) refl (ap (withDeferred e) (sym (none h g i))))))
+
   module _ (a : Bool) (is : a ≡ keepsDeferred word x) where
     forgets : (b : Bool) → a ≡ b → forgetting (entryAt (view l) g) x ≡ cond b (entryAt (view l) g) (withDeferred (entryAt (view l) g) false)
     forgets b h = ap (λ (c : Bool). cond c (entryAt (view l) g) (withDeferred (entryAt (view l) g) false)) (ap (λ (n : ℕ). keepsDeferred n x) (sym at) ∙ sym is ∙ h)
@@ -352,45 +357,50 @@ none-deferred l h g i =
     let z : getD l 24 0 ≡ 0 = eqb-true (getD l 24 0) 0 h in
     sym (deferred-at l g false i (sym (ap (λ (n : ℕ). bit n g) z ∙ bit-above 0 0 g (omega arith) (omega arith))))
 
--- at rest with the line down
-pub not-resting : (e : Entry) → false ≡ true → Resting e
-not-resting e h = never h refl
+-- the line down, and nothing deferred
+pub not-quiet : (e : Entry) → false ≡ true → Quiet e
+not-quiet e h = never h refl
 
-pub resting : (l : List ℕ) (g word : ℕ) (a b c : Bool) → g < 24 → word ≡ entryAt (view l) g .word → a ≡ remoteIrr word → a ≡ false → (b ≡ true → NoneDeferred (view l)) → not b ≡ false
-    → c ≡ entryAt (view l) g .«input_level» → not c ≡ true → Resting (entryAt (view l) g)
-resting l g word a b c i at flies h none n line d =
-    record { still = ap remoteIrr (sym at) ∙ sym flies ∙ h; undeferred = none (not-false b n) g i; down = sym line ∙ not-true c d }
+pub quiet : (l : List ℕ) (g : ℕ) (b c : Bool) → g < 24 → (b ≡ true → NoneDeferred (view l)) → not b ≡ false → c ≡ entryAt (view l) g .«input_level» → not c ≡ true → Quiet (entryAt (view l) g)
+quiet l g b c i none n line d = record { undeferred = none (not-false b n) g i; down = sym line ∙ not-true c d }
 
-pub low20-rested : (l w : List ℕ) (g word x y : ℕ) (b : Bool) → word ≡ entryAt (view l) g .word → (b ≡ true → Resting (entryAt (view l) g)) → b ≡ true → y ≡ replaceLow word (withoutStatus x)
+pub low20-rested : (l w : List ℕ) (g word x y : ℕ) (a b : Bool) → word ≡ entryAt (view l) g .word → a ≡ remoteIrr word → a ≡ false → (b ≡ true → Quiet (entryAt (view l) g)) → b ≡ true → y ≡ replaceLow word (withoutStatus x)
     → Keeps l w (view w ≡ put (view l) g (withWord (entryAt (view l) g) y)) → Keeps l w (routing (view w) NotRouted ≡ routeAt (view l) g (writeLow20 (entryAt (view l) g) x))
-low20-rested l w g word x y b at is h q k =
+low20-rested l w g word x y a b at flies f is h q k =
     let e : Entry = entryAt (view l) g in
-    let r : Resting e = is h in
+    let r : Quiet e = is h in
     steps l w g (withWord e y) NotRouted (writeLow20 e x) k
-    (low20-resting e x (r .still) (r .undeferred) (r .down) ∙ ap (λ (n : ℕ). quietly (withWord e n)) (sym (q ∙ ap (λ (n : ℕ). replaceLow n (withoutStatus x)) at)))
+    (low20-resting e x (ap remoteIrr (sym at) ∙ sym flies ∙ f) (r .undeferred) (r .down) ∙ ap (λ (n : ℕ). quietly (withWord e n)) (sym (q ∙ ap (λ (n : ℕ). replaceLow n (withoutStatus x)) at)))
 
 -- what is owed
-module _ (l : List ℕ) (g word : ℕ) (at : word ≡ entryAt (view l) g .word) (a : Bool) (level : a ≡ isLevel word) where
-  pub unowed-edge : not a ≡ true → false ≡ isOwed (entryAt (view l) g)
-  unowed-edge h = let p : isLevel (entryAt (view l) g .word) ≡ false = ap isLevel (sym at) ∙ sym level ∙ not-true a h in rw p
+module _ (l : List ℕ) (g word : ℕ) (at : word ≡ entryAt (view l) g .word) (c : Bool) (line : c ≡ entryAt (view l) g .«input_level») where
+  pub unowed-down : not c ≡ true → false ≡ isOwed (entryAt (view l) g)
+  unowed-down h =
+      let e : Entry = entryAt (view l) g in
+      sym (and-right-no (isLevel (e .word) && not (remoteIrr (e .word))) (e .«input_level») (sym line ∙ not-true c h))
 
-  module _ (b : Bool) (there : not a ≡ false) (flies : b ≡ remoteIrr word) where
-    owes : (c : Bool) → b ≡ c → isOwed (entryAt (view l) g) ≡ (not c && entryAt (view l) g .«input_level»)
-    owes c h =
-        let p : isLevel (entryAt (view l) g .word) ≡ true = ap isLevel (sym at) ∙ sym level ∙ not-false a there in
-        let q : remoteIrr (entryAt (view l) g .word) ≡ c = ap remoteIrr (sym at) ∙ sym flies ∙ h in
-        rw (p, q)
+  module _ (a : Bool) (up : not c ≡ false) (level : a ≡ isLevel word) where
+    pub unowed-edge : not a ≡ true → false ≡ isOwed (entryAt (view l) g)
+    unowed-edge h = let p : isLevel (entryAt (view l) g .word) ≡ false = ap isLevel (sym at) ∙ sym level ∙ not-true a h in rw p
 
-    pub unowed-flying : b ≡ true → false ≡ isOwed (entryAt (view l) g)
-    unowed-flying h = sym (owes true h)
-
-    pub owed-up : (c : Bool) → b ≡ false → c ≡ entryAt (view l) g .«input_level» → c ≡ isOwed (entryAt (view l) g)
-    owed-up c h q = q ∙ sym (owes false h)
+    pub owed-still : (b : Bool) → not a ≡ false → b ≡ remoteIrr word → not b ≡ isOwed (entryAt (view l) g)
+    owed-still b h q =
+        let p : isLevel (entryAt (view l) g .word) ≡ true = ap isLevel (sym at) ∙ sym level ∙ not-false a h in
+        let i : entryAt (view l) g .«input_level» ≡ true = sym line ∙ not-false c up in
+        let r : remoteIrr (entryAt (view l) g .word) ≡ b = ap remoteIrr (sym at) ∙ sym q in
+        rw (p, i, r) (sym (and-one (not b)))
 
 -- the entry as it is stored, and what it is owed
 module _ (l u : List ℕ) (g x word : ℕ) (here : g < 24) (stored : Keeps l u (StoredLow (view l) (view u) g x word)) where
   stored-at : entryAt (view u) g ≡ storeLow20 (entryAt (view l) g) x
   stored-at = ap (λ (s : IoApicState). entryAt s g) (stored .is .state) ∙ at-put (view l) g (storeLow20 (entryAt (view l) g) x) (view-long l) here
+
+  pub low20-flown : (before : ℕ) (b : Bool) → before ≡ entryAt (view l) g .word → b ≡ remoteIrr before → b ≡ true
+      → Keeps l u (routing (view u) NotRouted ≡ routeAt (view l) g (writeLow20 (entryAt (view l) g) x))
+  low20-flown before b at is h =
+      let e : Entry = entryAt (view l) g in
+      steps l u g (storeLow20 e x) NotRouted (writeLow20 e x) (so-that stored (λ p. p .state))
+      (low20-quiet e x (low20-flying e x (ap remoteIrr (sym at) ∙ sym is ∙ h)))
 
   module _ (b : Bool) (is : b ≡ isOwed (entryAt (view u) g)) where
     owing : (c : Bool) → b ≡ c → isOwed (storeLow20 (entryAt (view l) g) x) ≡ c

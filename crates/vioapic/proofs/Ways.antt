@@ -8,7 +8,7 @@ use borrow.Author.Tests.{lt-ltb, le-ltb, le-leb, lt-leb, leb-true, leb-false, eq
 use lib.Dec.{eqb, leb}
 use lib.ListN.{length, getD, set}
 use Rattle.utils.proofs.Bools.{and-true, never}
-use Rattle.types.specs.Reply.{Outcome}
+use Rattle.types.specs.Reply.{Outcome, Kept}
 use Rattle.types.specs.declared.Reply.{Reply}
 use Rattle.types.specs.declared.Reply.the-variants.{One, Two, Nothing, Refused}
 use Rattle.types.specs.declared.Refusal.{Refusal}
@@ -24,7 +24,7 @@ use Rattle.vioapic.specs.Answers.{eoiReply, gsiVectorReply, writtenReply
 use Rattle.vioapic.specs.State.{IoApicState, view, entriesFrom, spare, newWords}
 use Rattle.vioapic.specs.Table.{Routing, Ending, routing, ending, entryAt, put, routeAt, unrouted, interruptForEntry, setLevel, isVersion20, firstAwaiting, endOfEntry, everyAnswer, endOfEvery, endOf, vectorOfEntry, vectorFor}
 use Rattle.vioapic.specs.Registers.{Writing, isEntryWord, entryOf, isLow, readWord, readFixed, readLow, readSelected, writeWord, writing, writtenSend, entryWritten, writeSelected, writeAt, done, writtenBy, writeEoi, readAt}
-use Rattle.vioapic.specs.IoApic.{routingOutcome, endingOutcome, writingOutcome, goodWidth, fits, versionNumber, versionOf, isVersion, chipOf, chipAt, newDefault, refuse, Untouched, Leaves, Wrote, newOr, Makes, createdVersion, vectorForGsi, addressRange, assertGsi, setGsiLevel, endOfInterrupt, handleRead, handleWriting, handleWrite}
+use Rattle.vioapic.specs.IoApic.{routingOutcome, endingOutcome, writingOutcome, goodWidth, fits, versionNumber, versionOf, isVersion, chipOf, chipAt, newDefault, refuse, Leaves, Wrote, newOr, Makes, createdVersion, vectorForGsi, addressRange, assertGsi, setGsiLevel, endOfInterrupt, handleRead, handleWriting, handleWrite}
 use Rattle.vioapic.specs.Inside.{Keeps, withLow, everyEnd, everyEnding, clearedIn, sentIn}
 use Rattle.vioapic.specs.declared.Ends.{Ends}
 use Rattle.vioapic.specs.declared.IoApicVersion.{IoApicVersion}
@@ -38,7 +38,7 @@ use Rattle.vioapic.proofs.Words.{view-at, view-select, still, so-that}
 
 -- ---- lines
 
-routed-served : (l w : List ℕ) (a : Routed) → Untouched (routedReply a) l w
+routed-served : (l w : List ℕ) (a : Routed) → Kept (routedReply a) l w
 routed-served l w NotRouted = tt
 routed-served l w (Interrupt i) = tt
 
@@ -99,11 +99,11 @@ module _ (l : List ℕ) (v : Vector) (g : ℕ) (at : g ≡ firstAwaiting (view l
   unfolding endOfEntry
   eoi-none h = still l (rw (← at, le-ltb _ _ h))
 
-eoi-served : (l w : List ℕ) (r : Eoi) → Untouched (eoiReply r) l w
+eoi-served : (l w : List ℕ) (r : Eoi) → Kept (eoiReply r) l w
 eoi-served l w NotEnded = tt
 eoi-served l w (Ended e) = go (e .pending)
   where
-    go : (s : Routed) → Untouched (eoiReply (Ended (record { gsi = e .gsi; pending = s }))) l w
+    go : (s : Routed) → Kept (eoiReply (Ended (record { gsi = e .gsi; pending = s }))) l w
     go NotRouted = tt
     go (Interrupt i) = tt
 eoi-served l w (EndedAll e) = tt
@@ -143,9 +143,9 @@ module _ (l : List ℕ) (sel : ℕ) (b : Bool) (is : sel ≡ view l .selector) (
   found : (c : Bool) → b ≡ c → isEntryWord (view l .selector) ≡ c
   found c h = sym (there ∙ ap isEntryWord is) ∙ h
 
-  pub read-entry : (g r : ℕ) (e : Entry) (n : Bool) → b ≡ true → g ≡ entryOf sel → e ≡ entryAt (view l) g → n ≡ isVersion20 (view l) → r ≡ readWord n sel e → r ≡ readSelected (view l)
+  pub read-entry : (g r : ℕ) (e : Entry) (n k : Bool) → b ≡ true → g ≡ entryOf sel → e ≡ entryAt (view l) g → n ≡ isVersion20 (view l) → n ≡ k → r ≡ readWord k sel e → r ≡ readSelected (view l)
   unfolding readSelected
-  read-entry g r e n h a c v d = rw (found true h, ← is, ← a, ← c, ← v) d
+  read-entry g r e n k h a c v y d = rw (found true h, ← is, ← a, ← c, ← v, y) d
 
   pub read-other : (r : ℕ) → b ≡ false → r ≡ readFixed (getD l 29 0) sel → r ≡ readSelected (view l)
   unfolding readSelected
@@ -283,7 +283,7 @@ write-done p offset x = go (eqb offset 0) (eqb offset 0x10) (eqb offset 0x40) (i
     go false false true d false e f g h i = rw (e, f, g, i) tt
     go false false false d n e f g h i = rw (e, f, g) tt
 
-served : (l w : List ℕ) (r : Written) → Served r → Untouched (writtenReply r) l w
+served : (l w : List ℕ) (r : Written) → Served r → Kept (writtenReply r) l w
 served l w written.Done s = tt
 served l w (written.Sent i) s = tt
 served l w (written.EndedAll e) s = tt

@@ -7,7 +7,7 @@ use lib.ListN.{getD, set}
 use Rattle.utils.specs.Set.{with, marked}
 use Rattle.types.specs.declared.Vector.{Vector}
 use Rattle.vioapic_entry.specs.Answers.{isRouted}
-use Rattle.vioapic_entry.specs.Redirection.{remoteIrr, withDeferred, awaits, endEntry20, keepsDeferred, storeLow20}
+use Rattle.vioapic_entry.specs.Redirection.{withDeferred, awaits, endEntry20, keepsDeferred, storeLow20}
 use Rattle.vioapic_entry.specs.declared.Entry.{Entry}
 use Rattle.vioapic.specs.State.{IoApicState, spare}
 use Rattle.vioapic.specs.Table.{Ending, ending, entryAt, withEntries, put, everyAnswer}
@@ -34,9 +34,8 @@ parts s g e = withEntries s (set (s .entries) g e)
 abbrev pub NoneDeferred : IoApicState → Type 0
 NoneDeferred s = (g : ℕ) → g < 24 → entryAt s g .«pending_level» ≡ false
 
--- an entry at rest with its line down
-pub record Resting (e : Entry) : Type 0 where
-  pub still : remoteIrr (e .word) ≡ false
+-- an entry with its line down and nothing deferred
+pub record Quiet (e : Entry) : Type 0 where
   pub undeferred : e .«pending_level» ≡ false
   pub down : e .«input_level» ≡ false
 

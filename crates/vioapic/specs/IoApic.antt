@@ -6,7 +6,7 @@ use mathlib.Core.List.{List}
 use mathlib.Core.Path.{_≡_}
 use lib.Dec.{eqb, leb}
 use lib.ListN.{replicate}
-use Rattle.types.specs.Reply.{Outcome}
+use Rattle.types.specs.Reply.{Outcome, Kept}
 use Rattle.types.specs.declared.Gsi.{Gsi}
 use Rattle.types.specs.declared.Vector.{Vector}
 use Rattle.types.specs.declared.Refusal.{Refusal}
@@ -38,25 +38,17 @@ writingOutcome r = record { state = r .state; reply = writtenReply (r .answer) }
 abbrev pub refuse : IoApicState → Refusal → Outcome IoApicState
 refuse m why = record { state = m; reply = Refused why }
 
--- and every one of its words
-abbrev pub Untouched : Reply → List ℕ → List ℕ → Type 0
-Untouched (Refused why) before after = after ≡ before
-Untouched Nothing before after = Unit
-Untouched (One a) before after = Unit
-Untouched (Two a b) before after = Unit
-Untouched (Three a b c) before after = Unit
-
 -- a call over lent words, with its reply: its outcome; refused, the words untouched; and what isn't looked at stays as it is. Outcome and
 -- `kept` say what every bit is (`Whole` of State.antt); `untouched` says the same of a refused call in one word
 pub record Leaves (before after : List ℕ) (r : Reply) (o : Outcome IoApicState) : Type 0 where
   pub outcome : record { state = view after; reply = r } ≡ o
-  pub untouched : Untouched r before after
+  pub untouched : Kept r before after
   pub kept : spare after ≡ spare before
 
 -- the same of a write, with its answer: a reply of two values doesn't tell a send from an EOI
 pub record Wrote (before after : List ℕ) (r : Written) (w : Writing) : Type 0 where
   pub outcome : writing (view after) r ≡ w
-  pub untouched : Untouched (writtenReply r) before after
+  pub untouched : Kept (writtenReply r) before after
   pub kept : spare after ≡ spare before
 
 -- the words after a call that makes a new state: those, or if it is refused the words untouched

@@ -29,7 +29,7 @@ ghost use Rattle.vioapic.specs.State.{view, newWords};
 ghost use Rattle.vioapic.specs.Table.{isVersion20, entryAt, put, routing, routeAt, ending, firstAwaiting, endOfEntry, everyAnswer, endOfEvery, vectorOfEntry};
 ghost use Rattle.vioapic.specs.Registers.{isEntryWord, isLow, entryOf, versionWord, readFixed, readLow, readWord, readSelected, writing, writtenSend, writeSelected, readAt, writtenBy, writeEoi, writeAt};
 ghost use Rattle.vioapic.specs.IoApic.{goodWidth, fits, versionNumber, versionOf, isVersion, chipAt, newDefault, Leaves, Wrote, Makes, createdVersion, vectorForGsi, addressRange, assertGsi, setGsiLevel, endOfInterrupt, handleRead, handleWriting};
-ghost use Rattle.vioapic.specs.Inside.{Keeps, putFlag, withLow, NoneDeferred, Resting, forgetting, StoredLow, everyEnd, endNext, everyEnding, clearedIn, sentIn};
+ghost use Rattle.vioapic.specs.Inside.{Keeps, putFlag, withLow, NoneDeferred, Quiet, forgetting, StoredLow, everyEnd, endNext, everyEnding, clearedIn, sentIn};
 
 pub const IOAPIC_BASE: u64 = 0xfec0_0000;
 
@@ -655,11 +655,12 @@ fn read_selected_register(words: &[u64; 32]) -> u64
 {
     let selected = selector(words);
     if is_entry_word(selected) {
-        return read_word(
-            is_version_20(words),
-            selected,
-            entry_in(words, entry_of(selected)),
-        );
+        let entry = entry_in(words, entry_of(selected));
+        // A road for each version is shorter than one for both.
+        if is_version_20(words) {
+            return read_word(true, selected, entry);
+        }
+        return read_word(false, selected, entry);
     }
     read_fixed(words[VERSION], selected)
 }
@@ -727,6 +728,10 @@ fn forget(words: &mut [u64; 32], g: usize, word: u64, value: u32)
     requires { ⌜ (g < 24) × (word ≡ entryAt (view (now words)) g .word) ⌝ }
     ensures { λ _. ⌜ Keeps (now (words .entry)) (now (words .exit)) (view (now (words .exit)) ≡ put (view (now (words .entry))) g (forgetting (entryAt (view (now (words .entry))) g) value)) ⌝ }
 {
+    // As mostly, and found at once.
+    if none_deferred(&*words) {
+        return;
+    }
     if vioapic_entry::keeps_deferred(word, value) {
         return;
     }
@@ -763,36 +768,38 @@ fn is_owed(words: &[u64; 32], g: usize, word: u64) -> bool
     requires { ⌜ (g < 24) × (word ≡ entryAt (view (now words)) g .word) ⌝ }
     ensures { λ r. ⌜ r ≡ isOwed (entryAt (view (now (words .entry))) g) ⌝ }
 {
+    if !is_up(words, g) {
+        return false;
+    }
     if !vioapic_entry::is_level(word) {
         return false;
     }
-    if vioapic_entry::remote_irr(word) {
-        return false;
-    }
-    is_up(words, g)
+    !vioapic_entry::remote_irr(word)
 }
 
-// An entry at rest with its line down: it isn't in flight, and nothing is deferred.
-fn is_resting(words: &[u64; 32], g: usize, word: u64) -> bool
-    requires { ⌜ (g < 24) × (word ≡ entryAt (view (now words)) g .word) ⌝ }
-    ensures { λ r. ⌜ (r ≡ true → Resting (entryAt (view (now (words .entry))) g)) ⌝ }
+// The line is down, and nothing is deferred.
+fn is_quiet(words: &[u64; 32], g: usize) -> bool
+    requires { ⌜ g < 24 ⌝ }
+    ensures { λ r. ⌜ (r ≡ true → Quiet (entryAt (view (now (words .entry))) g)) ⌝ }
 {
-    if vioapic_entry::remote_irr(word) {
-        return false;
-    }
     if !none_deferred(words) {
         return false;
     }
     !is_up(words, g)
 }
 
-// And the entry is sent if it is owed that. The usual case first: at rest.
+// And the entry is sent if it is owed that. One in flight isn't: with a level word it stays in flight, and an edge one isn't owed anything. Else the usual case first:
+// the line is down.
 fn write_low20(words: &mut [u64; 32], g: usize, value: u32) -> Routed
     requires { ⌜ g < 24 ⌝ }
     ensures { λ r. ⌜ Keeps (now (words .entry)) (now (words .exit)) (routing (view (now (words .exit))) r ≡ routeAt (view (now (words .entry))) g (writeLow20 (entryAt (view (now (words .entry))) g) value)) ⌝ }
 {
     let word = word_at(&*words, g);
-    if is_resting(&*words, g, word) {
+    if vioapic_entry::remote_irr(word) {
+        store_low20(&mut *words, g, value);
+        return Routed::NotRouted;
+    }
+    if is_quiet(&*words, g) {
         ground(
             &mut *words,
             g,

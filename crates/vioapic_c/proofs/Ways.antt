@@ -6,7 +6,7 @@ use mathlib.Core.Path.{_≡_, refl, sym, ap, _∙_, subst}
 use borrow.Author.Tests.{lt-ltb, le-ltb, eqb-true, not-true, not-false}
 use lib.Dec.{eqb}
 use Rattle.utils.proofs.Bools.{never}
-use Rattle.types.specs.Reply.{Outcome}
+use Rattle.types.specs.Reply.{Outcome, Kept}
 use Rattle.types.specs.declared.Gsi.{Gsi}
 use Rattle.types.specs.declared.Refusal.{Refusal}
 use Rattle.types.specs.declared.Refusal.the-variants.{Unsupported, OutOfRange}
@@ -16,7 +16,7 @@ use Rattle.reply_code.specs.Lent.{Lent, replyCode, lent}
 use Rattle.vioapic.specs.Answers.{writtenReply, rangeReply}
 use Rattle.vioapic.specs.State.{IoApicState, view, newWords}
 use Rattle.vioapic.proofs.Ways.{wrote-leaves}
-use Rattle.vioapic.specs.IoApic.{Untouched, newOr, versionNumber, versionOf, isVersion, Leaves, Wrote, Makes, createdVersion, setGsiLevel, endOfInterrupt, addressRange, handleWriting, handleWrite}
+use Rattle.vioapic.specs.IoApic.{newOr, versionNumber, versionOf, isVersion, Leaves, Wrote, Makes, createdVersion, setGsiLevel, endOfInterrupt, addressRange, handleWriting, handleWrite}
 use Rattle.vioapic.specs.declared.IoApicVersion.{IoApicVersion}
 use Rattle.vioapic.specs.declared.IoApicVersion.the-variants.{V11, V20}
 use Rattle.vioapic.specs.declared.Written.{Written}
@@ -30,7 +30,7 @@ module _ (l w : List ℕ) (r x : Reply) (n : ℕ) (same : x ≡ r) (en : n ≡ r
       let q : r ≡ o .reply = ap (λ (z : Outcome IoApicState). z .reply) (k .outcome) in
       record {
         shows = (ap (λ (z : Outcome IoApicState). z .state) (k .outcome), en ∙ ap replyCode (same ∙ q));
-        untouched = subst (λ (z : Reply). Untouched z l w) q (k .untouched);
+        untouched = subst (λ (z : Reply). Kept z l w) q (k .untouched);
         kept = k .kept;
       }
 

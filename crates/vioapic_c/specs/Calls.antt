@@ -5,18 +5,18 @@ use mathlib.Core.Bool.{cond}
 use mathlib.Core.List.{List, [], _∷_}
 use mathlib.Core.Path.{_≡_}
 use lib.Dec.{ltb}
-use Rattle.types.specs.Reply.{Outcome}
+use Rattle.types.specs.Reply.{Outcome, Kept}
 use Rattle.types.specs.declared.Refusal.the-variants.{Unsupported, OutOfRange}
 use Rattle.types.specs.declared.Reply.{Reply}
 use Rattle.types.specs.declared.Reply.the-variants.{Refused, Nothing, One, Two, Three}
 use Rattle.reply_code.specs.Lent.{Lent, Shows, refusing, answering, lent}
 use Rattle.vioapic.specs.State.{IoApicState, view, spare}
-use Rattle.vioapic.specs.IoApic.{Untouched, newOr, refuse, versionOf, isVersion, createdVersion, endOfInterrupt, addressRange}
+use Rattle.vioapic.specs.IoApic.{newOr, refuse, versionOf, isVersion, createdVersion, endOfInterrupt, addressRange}
 
 -- the state after a call and its code are those of the outcome; refused, the words are untouched; and what isn't looked at stays as it is
 pub record Coded (before after : List ℕ) (code : ℕ) (o : Outcome IoApicState) : Type 0 where
   pub shows : Shows view (lent after code) o
-  pub untouched : Untouched (o .reply) before after
+  pub untouched : Kept (o .reply) before after
   pub kept : spare after ≡ spare before
 
 -- of a call that makes a new state: the new words, or if it is refused the words untouched

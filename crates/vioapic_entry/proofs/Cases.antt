@@ -57,8 +57,9 @@ mask-case = refl
 pub deferred-case :
     (writeLow20 (entry 0xC030 true true) 0x8031 ≡ record { entry = entry 0xC031 false true; answer = NotRouted })
     × (writeLow20 (entry 0xC030 true true) 0x8030 ≡ record { entry = entry 0xC030 true true; answer = NotRouted })
+    × (writeLow20 (entry 0x1C030 true true) 0x18030 ≡ record { entry = entry 0x1C030 false true; answer = NotRouted })
 unfolding writeLow20 storeLow20 sendEntry
-deferred-case = (refl, refl)
+deferred-case = (refl, refl, refl)
 
 pub edge-case : writeLow20 (entry 0xC030 false true) 0x30 ≡ record { entry = entry 0x30 false true; answer = NotRouted }
 unfolding writeLow20 storeLow20 sendEntry

@@ -10,7 +10,7 @@ use Rattle.utils.specs.Cases.{and-right-no}
 use Rattle.utils.proofs.Bools.{both, and-true, not-is}
 use Rattle.vioapic_entry.specs.Redirection.{EntryStep, isFixed, isFit, isLevel, isMasked, remoteIrr, sameLow, withRemoteIrr, withoutRemoteIrr, replaceLow, replaceHigh, withWord, withDeferred, withInput, quietly, sending, settled, sendEntry, raiseEntry, lowerEntry, moveLine, endEntry, endEntry20, writeLow, writeHigh, withoutStatus, sameLow20, keepsFlight, replaceLow20, keepsDeferred, storeLow20, isOwed, writeLow20}
 use Rattle.vioapic_entry.specs.declared.Entry.{Entry}
-use Rattle.vioapic_entry.proofs.Fields.{same-fit, same-level, alike-without, irr-without}
+use Rattle.vioapic_entry.proofs.Fields.{same-fit, same-level, alike-without, alike-low20, irr-without, irr-low20}
 
 -- an entry whose line stands so already
 input-same : (e : Entry) (b : Bool) → e .«input_level» ≡ b → withInput e b ≡ e
@@ -126,6 +126,18 @@ module _ (e : Entry) where
         let s : storeLow20 e x ≡ withWord e (replaceLow (e .word) (withoutStatus x)) = rw (k, n) in
         let o : isOwed (storeLow20 e x) ≡ false = ap isOwed s ∙ and-right-no (isLevel (replaceLow (e .word) (withoutStatus x)) && not (remoteIrr (replaceLow (e .word) (withoutStatus x)))) (e .«input_level») u in
         low20-quiet o ∙ ap quietly s
+
+    -- in flight, an entry isn't owed anything: with a level word it stays so, and with another one it is edge
+    pub low20-flying : remoteIrr (e .word) ≡ true → isOwed (storeLow20 e x) ≡ false
+    unfolding storeLow20
+    low20-flying f =
+        let l : isLevel (replaceLow20 (e .word) x) ≡ isLevel x = same-level (alike-low20 (e .word) x) in
+        let r : remoteIrr (replaceLow20 (e .word) x) ≡ (isLevel x && true) = irr-low20 (e .word) x ∙ ap (λ (b : Bool). isLevel x && b) f in
+        rw (l, r) (go (isLevel x))
+      where
+        go : (b : Bool) → (b && not (b && true) && cond (keepsDeferred (e .word) x) e (withDeferred e false) .«input_level») ≡ false
+        go true = refl
+        go false = refl
 
     pub high-is : writeHigh e x ≡ withWord e (replaceHigh (e .word) x)
     unfolding writeHigh

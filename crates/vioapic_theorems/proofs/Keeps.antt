@@ -197,36 +197,36 @@ new-rules b (suc n) (suc j) = new-rules b n j
 pub new-keeps-rules : NewKeepsRules
 new-keeps-rules version base size = record { agrees = new-agrees version base size; each = λ j l. new-rules (eqb version 0x20) 24 j }
 
--- ---- the version and the address
+-- ---- the version and the addresses
 
 abbrev Stays : IoApicState → IoApicState → Type 0
-Stays s t = (t .version ≡ s .version) × (t .base ≡ s .base)
+Stays s t = (t .version ≡ s .version) × (t .base ≡ s .base) × (t .size ≡ s .size)
 
 routes-stays : (s : IoApicState) (gsi : Gsi) (step : Entry → EntryStep) (x : Routing) → Routes s gsi step x → Stays s (x .state)
-routes-stays s gsi step x (Routes.hit l) = (refl, refl)
-routes-stays s gsi step x (Routes.miss l) = (refl, refl)
+routes-stays s gsi step x (Routes.hit l) = (refl, refl, refl)
+routes-stays s gsi step x (Routes.miss l) = (refl, refl, refl)
 
 ends-stays : (s : IoApicState) (v : Vector) (x : Ending) → EndsBy s v x → Stays s (x .state)
 unfolding endOfEvery
-ends-stays s v x (EndsBy.one n (Ends.found l)) = (refl, refl)
-ends-stays s v x (EndsBy.one n (Ends.unfound l)) = (refl, refl)
-ends-stays s v x (EndsBy.every n) = (refl, refl)
+ends-stays s v x (EndsBy.one n (Ends.found l)) = (refl, refl, refl)
+ends-stays s v x (EndsBy.one n (Ends.unfound l)) = (refl, refl, refl)
+ends-stays s v x (EndsBy.every n) = (refl, refl, refl)
 
 write-stays : (m : IoApicState) (addr width x : ℕ) (o : Outcome IoApicState) → Write m addr width x o → Stays m (o .state)
 unfolding endOfEvery
-write-stays m addr width x o (Write.refused why) = (refl, refl)
-write-stays m addr width x o (Write.served p l (Writes.selected y)) = (refl, refl)
-write-stays m addr width x o (Write.served p l (Writes.word h r i j k v)) = (refl, refl)
-write-stays m addr width x o (Write.served p l (Writes.eoi n e)) = (refl, refl)
+write-stays m addr width x o (Write.refused why) = (refl, refl, refl)
+write-stays m addr width x o (Write.served p l (Writes.selected y)) = (refl, refl, refl)
+write-stays m addr width x o (Write.served p l (Writes.word h r i j k v)) = (refl, refl, refl)
+write-stays m addr width x o (Write.served p l (Writes.eoi n e)) = (refl, refl, refl)
 
 pub calls-keep-version : CallsKeepVersion
 unfolding outcome setGsiLevel assertGsi endOfInterrupt handleWrite
 calls-keep-version m (SetGsiLevel gsi b) = routes-stays m gsi (λ e. moveLine e b) (setLevel m gsi b) (level-view m gsi b)
 calls-keep-version m (AssertGsi gsi) = routes-stays m gsi sendEntry (interruptForEntry m gsi) (assert-view m gsi)
 calls-keep-version m (EndOfInterrupt v) = ends-stays m v (endOf m v) (ends-by m v)
-calls-keep-version m (VectorForGsi gsi) = (refl, refl)
-calls-keep-version m AddressRange = (refl, refl)
-calls-keep-version m (HandleRead addr width) = (refl, refl)
+calls-keep-version m (VectorForGsi gsi) = (refl, refl, refl)
+calls-keep-version m AddressRange = (refl, refl, refl)
+calls-keep-version m (HandleRead addr width) = (refl, refl, refl)
 calls-keep-version m (HandleWrite addr width x) = write-stays m addr width x (handleWrite m addr width x) (write-view m addr width x)
 
 -- a chip of one version stays one

@@ -73,9 +73,9 @@ CallsKeepClear = (m : IoApicState) (c : Call) → isVersion20 m ≡ true → Sta
 
 -- ---- every call
 
--- no call changes the version or moves the chip to another address
+-- no call changes the version, or the chip's addresses
 abbrev pub CallsKeepVersion : Type 0
-CallsKeepVersion = (m : IoApicState) (c : Call) → (next m c .version ≡ m .version) × (next m c .base ≡ m .base)
+CallsKeepVersion = (m : IoApicState) (c : Call) → (next m c .version ≡ m .version) × (next m c .base ≡ m .base) × (next m c .size ≡ m .size)
 
 -- a refused call hands the chip back as it came
 abbrev pub RefusedKeeps : Type 0

@@ -10,14 +10,14 @@ selector-requires c κs = search needs
 is-entry-word-requires : tie.Need-is-entry-word-requires
 is-entry-word-requires c κs = search needs
 
-is-version-20-requires : tie.Need-is-version-20-requires
-is-version-20-requires c κs = search needs
-
 entry-of-requires : tie.Need-entry-of-requires
 entry-of-requires c κs = search cases
 
 entry-in-requires : tie.Need-entry-in-requires
 entry-in-requires c κs = search needs
+
+is-version-20-requires : tie.Need-is-version-20-requires
+is-version-20-requires c κs = search needs
 
 read-word-requires : tie.Need-read-word-requires
 read-word-requires c κs = search needs
@@ -25,14 +25,20 @@ read-word-requires c κs = search needs
 returns : tie.Need-returns
 returns c = search read-entry
 
+read-word-requires-2 : tie.Need-read-word-requires-2
+read-word-requires-2 c κs = search needs
+
+returns-2 : tie.Need-returns-2
+returns-2 c = search read-entry
+
 element-copy-out-read-fixed : tie.Need-element-copy-out-read-fixed
 element-copy-out-read-fixed c = search needs
 
 read-fixed-requires : tie.Need-read-fixed-requires
 read-fixed-requires c κs = search needs
 
-returns-2 : tie.Need-returns-2
-returns-2 c = search read-other
+returns-3 : tie.Need-returns-3
+returns-3 c = search read-other
 
 pub read-selected-register-spec : {M : Type 1} → statement M
 read-selected-register-spec =
@@ -40,11 +46,13 @@ read-selected-register-spec =
     (tie.spec
     selector-requires
     is-entry-word-requires
-    is-version-20-requires
     entry-of-requires
     entry-in-requires
+    is-version-20-requires
     read-word-requires
     returns
+    read-word-requires-2
+    returns-2
     element-copy-out-read-fixed
     read-fixed-requires
-    returns-2)
+    returns-3)
