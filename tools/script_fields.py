@@ -6,7 +6,7 @@ docs/CONTRIBUTING.md says what else a field touches.
 """
 from collections import namedtuple
 
-from script_words import BROADCAST, CLAIMED, DONE, ENDED, READ, REGISTERS, SENT, WRITTEN, words_of
+from script_words import BROADCAST, CLAIMED, DONE, ENDED, READ, REGISTERS, SENT, WRITTEN, asking, given_back, gsi, words_of
 
 LONGEST = 65536  # bytes of a script
 HEADER = 3  # bytes: the tag and the two of the length
@@ -63,23 +63,23 @@ NOT_WRITTEN = {
 NO_SETUP = {5: "a vCPU count is at most 64, an id at most 63"}
 
 # A field: its tag and name, the parts of its body, a line of help, what it does in a run ({register} is the one that its address, port
-# or offset names), its answer, its refusals; and whether it chooses what its chip is, and so is bad behind another field of the chip.
+# or offset names; or a function of its numbers, where the words depend on them), its answer, its refusals; and whether it chooses what
+# its chip is, and so is bad behind another field of the chip.
 Field = namedtuple("Field", "tag name parts about says answer refusals chooses", defaults=({}, False))
 
 FIELDS = (
     Field(0x01, "io-read", (WIDTH, ADDRESS), "the I/O APIC's registers are read", "{register}", READ, NOT_IO),
     Field(0x02, "io-write", (WIDTH, ADDRESS, VALUE), "and written", "{register} := {value}", WRITTEN, NOT_IO),
-    Field(0x03, "line", (GSI, UP), "an interrupt line goes up or down", "GSI {gsi} goes {up}", SENT),
-    Field(0x04, "assert", (GSI,), "an interrupt is sent, its line left alone", "GSI {gsi}, its line left alone", SENT),
+    Field(0x03, "line", (GSI, UP), "an interrupt line goes up or down", gsi(" goes {up}"), SENT),
+    Field(0x04, "assert", (GSI,), "an interrupt is sent, its line left alone", gsi(", its line left alone"), SENT),
     Field(0x05, "eoi", (VECTOR,), "the I/O APIC hears of an end of interrupt", "EOI of vector {vector}", ENDED),
     Field(0x06, "io-version", (VERSION,), "the I/O APIC's version, before all its other fields", "a new I/O APIC: {version}", DONE,
           chooses=True),
     Field(0x10, "pic-read", (WIDTH, PORT), "a port of the 8259 pair is read", "{register}", READ, NOT_PIC),
     Field(0x11, "pic-write", (WIDTH, PORT, VALUE), "and written", "{register} := {value}", DONE, NOT_PIC),
-    Field(0x12, "claim", (LINE,), "a PIC line is requested, the highest request claimed", "line {line} asks", CLAIMED),
+    Field(0x12, "claim", (LINE,), "a PIC line is requested, the highest request claimed", asking, CLAIMED),
     Field(0x13, "claim-pending", (), "the highest request is claimed", "the highest request", CLAIMED),
-    Field(0x14, "restore", (VECTOR, LINE, FLAGS), "a claim is given back", "vector {vector}, line {line}, in service on {flags}", DONE,
-          NO_LINE),
+    Field(0x14, "restore", (VECTOR, LINE, FLAGS), "a claim is given back", given_back, DONE, NO_LINE),
     Field(0x16, "pic-rule", (RULE,), "the pair's rule, before all its other fields", "a new pair: {rule}", DONE, chooses=True),
     Field(0x20, "accept", (VECTOR, LEVEL), "the local APIC takes an interrupt into service", "vector {vector}, {level}, in service", DONE),
     Field(0x21, "local-write", (WIDTH, OFFSET, VALUE), "a local register is written", "{register} := {value}", DONE, NOT_WRITTEN),
@@ -210,7 +210,8 @@ def meaning(field, numbers, seen):
         shown["register"] = register.name
         if "value" in numbers:
             shown["value"] = with_words(numbers["value"], register.written)
-    return field.says.format(**shown)
+    says = field.says(numbers) if callable(field.says) else field.says
+    return says.format(**shown)
 
 
 def part_words(part, number):

@@ -54,6 +54,27 @@ def service(flags):
     return ("neither", "the master", "the slave", "both")[flags % 4]
 
 
+# What a field does, where that depends on its numbers: a line that isn't there does nothing, and the flags of a claim that is given back
+# count for the chips that the line goes through, as the pair takes them.
+
+GSIS, LINES = 24, 16
+
+
+def gsi(does):
+    return lambda numbers: "GSI {gsi}" + (does if numbers["gsi"] < GSIS else f" isn't there: the I/O APIC has 0 to {GSIS - 1}")
+
+
+def asking(numbers):
+    return "line {line} " + ("asks" if numbers["line"] < LINES else f"isn't there: the pair has 0 to {LINES - 1}")
+
+
+def given_back(numbers):
+    line, flags = numbers["line"], numbers["flags"] & (3 if numbers["line"] >= 8 else 1)
+    if line >= LINES:
+        return "a claim of line {line}"
+    return "line {line} given back, " + (f"out of service on {service(flags)}" if flags else "in service as before")
+
+
 def kind(number):
     return MODES[number] if number < len(MODES) else f"kind {number}"
 

@@ -46,7 +46,9 @@ WORDS = (
     (["line 3 up"], "03 0 65,1", "GSI 3 goes up -> sent: vector 0x41, level"),
     (["line 3 2"], "03 0 65,0", "GSI 3 goes up -> sent: vector 0x41, edge"),
     (["line 3 down"], "03 0 -", "GSI 3 goes down -> nothing sent"),
-    (["assert 24"], "04 0 -", "GSI 24, its line left alone -> nothing sent"),
+    (["assert 23"], "04 0 -", "GSI 23, its line left alone -> nothing sent"),
+    (["assert 24"], "04 0 -", "GSI 24 isn't there: the I/O APIC has 0 to 23 -> nothing sent"),
+    (["line 255 up"], "03 0 -", "GSI 255 isn't there: the I/O APIC has 0 to 23 -> nothing sent"),
     (["eoi 0x41"], "05 0 3", "EOI of vector 0x41 -> ended GSI 3"),
     (["eoi 0x41"], "05 0 3,65,1", "EOI of vector 0x41 -> ended GSI 3; sent again: vector 0x41, level"),
     ([NEWER, "eoi 0x41"], "05 0 40,40", "EOI of vector 0x41 -> ended GSI 3, 5; sent again GSI 3, 5"),
@@ -69,8 +71,16 @@ WORDS = (
     (["claim 3"], "12 0 11,3,1", "line 3 asks -> vector 0x0b, line 3, in service on the master"),
     (["claim 3"], "12 0 11,3,0", "line 3 asks -> vector 0x0b, line 3, in service on neither"),
     (["claim-pending"], "13 0 -", "the highest request -> nothing claimed"),
-    (["restore 0x76 14 2"], "14 0 -", "vector 0x76, line 14, in service on the slave -> done"),
-    (["restore 0x80 16 3"], "14 5 -", "vector 0x80, line 16, in service on both -> refused (5): the pair has lines 0 to 15"),
+    (["claim 15"], "12 0 -", "line 15 asks -> nothing claimed"),
+    (["claim 16"], "12 0 -", "line 16 isn't there: the pair has 0 to 15 -> nothing claimed"),
+    (["claim 200"], "12 0 -", "line 200 isn't there: the pair has 0 to 15 -> nothing claimed"),
+    (["restore 0x76 14 0"], "14 0 -", "line 14 given back, in service as before -> done"),
+    (["restore 0x76 14 1"], "14 0 -", "line 14 given back, out of service on the master -> done"),
+    (["restore 0x76 14 2"], "14 0 -", "line 14 given back, out of service on the slave -> done"),
+    (["restore 0x70 8 255"], "14 0 -", "line 8 given back, out of service on both -> done"),
+    (["restore 8 1 255"], "14 0 -", "line 1 given back, out of service on the master -> done"),
+    (["restore 8 7 254"], "14 0 -", "line 7 given back, in service as before -> done"),
+    (["restore 0x80 16 3"], "14 5 -", "a claim of line 16 -> refused (5): the pair has lines 0 to 15"),
     (["pic-rule 1"], "16 0 -", "a new pair: rule 1, line 2 follows the slave -> done"),
     # The local APIC.
     (["accept 0x31 level"], "20 0 -", "vector 0x31, level, in service -> done"),
@@ -190,6 +200,8 @@ def check_told_apart(checks, printer):
         (b"claim 3", "line 3 asks -> nothing claimed"),
         (b"\n \t\r\f\v\nclaim 3 # \xc3\xa4", "line 3 asks -> nothing claimed"),
         (b"\x12\x01\x00\x03", "line 3 asks -> nothing claimed"),
+        (b"\xef\xbb\xbfclaim 3", "line 3 asks -> nothing claimed"),  # a byte order mark
+        (b"\xef\xbb\xbf# none\nclaim 3", "line 3 asks -> nothing claimed"),
     ):
         ran = command("run", "--program", printer.says("12 0 -\n"), given=given)
         checks.same(f"a run of {given!r}", (ran.returncode, ran.stdout.decode(), ran.stderr), (0, f"claim 3  # {words}\n", b""))
@@ -200,6 +212,8 @@ def check_told_apart(checks, printer):
     checks.same("text that is said to be bytes", (ran.returncode, ran.stdout.decode()),
                 (1, "# A bad field at offset 0: no field has the tag 63. The run ends here.\n"))
     for given, words in (
+        (b"claim 3\n\xef\xbb\xbfclaim 4\n", "line 2: no field is called '\\ufeffclaim'; `script-text --help` lists them"),
+        (b"\xef\xbb\xbfclaim 3\nclaims 4\n", "line 2: no field is called 'claims'; `script-text --help` lists them"),
         (b"claim 3\nclaims 4\n", "line 2: no field is called 'claims'; `script-text --help` lists them"),
         (b"claim 3\nclaim 4 # \xe4\n", "line 2: this is no text (not UTF-8); a script's bytes are read by `decode`, or by `run --bytes`"),
     ):

@@ -1,5 +1,5 @@
 -- Texts in a lent buffer, one put behind the other. Assumes nothing.
-use mathlib.Core.Bool.{true, false}
+use mathlib.Core.Bool.{Bool, true, false, cond}
 use mathlib.Core.List.{List, [], _∷_, _++_}
 use mathlib.Core.Path.{_≡_, refl, sym, ap, _∙_}
 use Prim.Native.Nat.{ℕ, suc, _+_, _-_, _%_, _≤_, _<_}
@@ -11,10 +11,6 @@ use lib.Seq.{sets, take-suc, length-take-le}
 use lib.Dec.{ltb}
 use borrow.Author.Tests.{lt-ltb, le-ltb}
 use Rattle.io.specs.Digits.{glyph, digits, Fewest}
-use Rattle.types.specs.declared.Refusal.the-variants.{Unsupported, InvalidRegister, InvalidDelivery, InvalidAddress, OutOfRange, BadField, ScriptTooLong}
-use Rattle.types.specs.declared.Reply.{Reply}
-use Rattle.types.specs.declared.Reply.the-variants.{Refused, Nothing, One, Two, Three}
-use Rattle.types.specs.Reply.{replyNumber}
 use Rattle.reply_text.specs.Text.{Puts, decimalIn, decimal}
 use Rattle.reply_text.proofs.Digits.{digits-decimal}
 
@@ -47,24 +43,16 @@ put-as e p = rw e at p
 pub one-put : {l : List ℕ} {at b : ℕ} → Puts l at (b ∷ []) (set l at b) (at + 1)
 one-put = record { buffer = refl; end = refl }
 
+-- a line where there is room, and none where there isn't
+pub put-room : {l m : List ℕ} {at end : ℕ} {vs : List ℕ} {b : Bool} → b ≡ true → Puts l at vs m end → Puts l at (cond b vs []) m end
+put-room e p = rw e p
+
+pub put-no-room : {l : List ℕ} {at : ℕ} (vs : List ℕ) {b : Bool} → b ≡ false → Puts l at (cond b vs []) l at
+put-no-room vs e = rw e (record { buffer = refl; end = omega arith })
+
 -- a digit above nine
 pub digit-letter : (d : ℕ) → 10 ≤ d → 97 + (d - 10) ≡ glyph d
 digit-letter d h = let t : ltb d 10 ≡ false = le-ltb d 10 h in rw t (omega arith)
-
--- a refusal's number is one digit, until there is one above nine
-pub number-glyph : (r : Reply) → glyph (replyNumber r % 16) ∷ [] ≡ decimal (replyNumber r)
-unfolding decimalIn
-number-glyph (Refused Unsupported) = refl
-number-glyph (Refused InvalidRegister) = refl
-number-glyph (Refused InvalidDelivery) = refl
-number-glyph (Refused InvalidAddress) = refl
-number-glyph (Refused OutOfRange) = refl
-number-glyph (Refused BadField) = refl
-number-glyph (Refused ScriptTooLong) = refl
-number-glyph Nothing = refl
-number-glyph (One a) = refl
-number-glyph (Two a b) = refl
-number-glyph (Three a b c) = refl
 
 -- ---- decimals
 

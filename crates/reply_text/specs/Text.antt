@@ -5,7 +5,7 @@ use Prim.Native.Nat.{ℕ, zero, suc, _+_, _/_, _%_}
 use mathlib.Core.Bool.{cond}
 use mathlib.Core.List.{List, [], _∷_, _++_}
 use mathlib.Core.Path.{_≡_}
-use lib.Dec.{ltb}
+use lib.Dec.{leb, ltb}
 use lib.ListN.{length}
 use lib.Seq.{sets}
 use Rattle.io.specs.Digits.{glyph}
@@ -64,3 +64,7 @@ tooLongLine = decimal (refusalNumber ScriptTooLong) ++ (newline ∷ [])
 pub record Puts (before : List ℕ) (at : ℕ) (bytes : List ℕ) (after : List ℕ) (behind : ℕ) : Type 0 where
   pub buffer : after ≡ sets before at bytes
   pub end : behind ≡ at + length bytes
+
+-- what a buffer of that size takes of a line from a place on: all of it if 80 bytes are left, which no line passes, else nothing
+abbrev pub inRoom : ℕ → ℕ → List ℕ → List ℕ
+inRoom size at bytes = cond (leb (at + 80) size) bytes []

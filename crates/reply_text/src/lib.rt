@@ -1,5 +1,6 @@
 // Replies in the words of document 01, "Scripts": the refusal's number, a space, and the values joined by commas, or `-` where there are none. Text is gathered in
-// a lent buffer: a function that puts some takes the place where it starts and answers where it ends.
+// a lent buffer: a function that puts some takes the place where it starts and answers where it ends. A line is put where the buffer has room for the longest one; where
+// it hasn't, nothing is put, and the place is answered as it came.
 
 ghost use Prim.Native.Nat.{_+_, _%_, _≤_, _<_};
 ghost use mathlib.Core.Path.{_≡_};
@@ -7,7 +8,8 @@ ghost use mathlib.Core.List.{[], _∷_};
 ghost use lib.ListN.{length};
 ghost use Rattle.io.specs.Digits.{glyph};
 ghost use Rattle.types.specs.Reply.{replyValues};
-ghost use Rattle.reply_text.specs.Text.{Puts, decimal, values, replyText, line, badLine, tooLongLine};
+ghost use lib.Dec.{leb};
+ghost use Rattle.reply_text.specs.Text.{Puts, inRoom, decimal, values, replyText, line, badLine, tooLongLine};
 use libc::STDOUT_FILENO;
 use types::Refusal;
 use types::Reply;
@@ -37,6 +39,53 @@ fn print_in(space: &mut [u8], reply: Reply)
 
 // A field's line: the tag in two hexadecimal digits, a space, and the reply.
 pub fn put_line(out: &mut [u8], at: usize, tag: u8, reply: Reply) -> usize
+    ensures { λ r. ⌜ Puts (now (out .entry)) at (inRoom (length (now (out .entry))) at (line tag reply)) (now (out .exit)) r ⌝ }
+    ensures { λ r. ⌜ r ≤ at + 80 ⌝ }
+{
+    if !has_room(out.len(), at) {
+        return at;
+    }
+    line_into(out, at, tag, reply)
+}
+
+// The line of a bad field, by its tag's place.
+pub fn put_bad(out: &mut [u8], at: usize, place: usize) -> usize
+    ensures { λ r. ⌜ Puts (now (out .entry)) at (inRoom (length (now (out .entry))) at (badLine place)) (now (out .exit)) r ⌝ }
+    ensures { λ r. ⌜ r ≤ at + 80 ⌝ }
+{
+    if !has_room(out.len(), at) {
+        return at;
+    }
+    bad_into(out, at, place)
+}
+
+// The line of a script that is too long.
+pub fn put_too_long(out: &mut [u8], at: usize) -> usize
+    ensures { λ r. ⌜ Puts (now (out .entry)) at (inRoom (length (now (out .entry))) at tooLongLine) (now (out .exit)) r ⌝ }
+    ensures { λ r. ⌜ r ≤ at + 80 ⌝ }
+{
+    if !has_room(out.len(), at) {
+        return at;
+    }
+    too_long_into(out, at)
+}
+
+// Whether a buffer of that length has room for a line from a place on.
+fn has_room(length: usize, at: usize) -> bool
+    ensures { λ r. ⌜ r ≡ leb (at + 80) length ⌝ }
+{
+    if length < LINE {
+        return false;
+    }
+    if length - LINE < at {
+        return false;
+    }
+    true
+}
+
+// ---- lines, where there is room
+
+fn line_into(out: &mut [u8], at: usize, tag: u8, reply: Reply) -> usize
     requires { ⌜ at + 80 ≤ length (now out) ⌝ }
     ensures { λ r. ⌜ Puts (now (out .entry)) at (line tag reply) (now (out .exit)) r ⌝ }
     ensures { λ r. ⌜ r ≤ at + 80 ⌝ }
@@ -47,8 +96,7 @@ pub fn put_line(out: &mut [u8], at: usize, tag: u8, reply: Reply) -> usize
     put_reply(out, end, reply)
 }
 
-// The line of a bad field, by its tag's place.
-pub fn put_bad(out: &mut [u8], at: usize, place: usize) -> usize
+fn bad_into(out: &mut [u8], at: usize, place: usize) -> usize
     requires { ⌜ at + 80 ≤ length (now out) ⌝ }
     ensures { λ r. ⌜ Puts (now (out .entry)) at (badLine place) (now (out .exit)) r ⌝ }
     ensures { λ r. ⌜ r ≤ at + 80 ⌝ }
@@ -61,8 +109,7 @@ pub fn put_bad(out: &mut [u8], at: usize, place: usize) -> usize
     put(out, end, b'\n')
 }
 
-// The line of a script that is too long.
-pub fn put_too_long(out: &mut [u8], at: usize) -> usize
+fn too_long_into(out: &mut [u8], at: usize) -> usize
     requires { ⌜ at + 80 ≤ length (now out) ⌝ }
     ensures { λ r. ⌜ Puts (now (out .entry)) at tooLongLine (now (out .exit)) r ⌝ }
     ensures { λ r. ⌜ r ≤ at + 80 ⌝ }
@@ -74,12 +121,12 @@ pub fn put_too_long(out: &mut [u8], at: usize) -> usize
 // ---- parts of a line
 
 // The number, the values, and the end of the line.
-pub fn put_reply(out: &mut [u8], at: usize, reply: Reply) -> usize
+fn put_reply(out: &mut [u8], at: usize, reply: Reply) -> usize
     requires { ⌜ at + 70 ≤ length (now out) ⌝ }
     ensures { λ r. ⌜ Puts (now (out .entry)) at (replyText reply) (now (out .exit)) r ⌝ }
     ensures { λ r. ⌜ r ≤ at + 70 ⌝ }
 {
-    let mut end = put(out, at, digit(reply.number()));
+    let mut end = put_decimal(out, at, reply.number() as u64);
     end = put(out, end, b' ');
     end = put_values(out, end, reply);
     put(out, end, b'\n')

@@ -1,12 +1,9 @@
 // The program of document 01, "Scripts": it reads a script of at most 65,536 bytes from standard input and prints a line for each field. What is printed is worked out, and
-// proved, in the crate script_print; here it is only read and written. An input that can't be read and an output that can't be written are told on standard error.
+// proved, in the crate script_print, all of it; here it is only read and written. An input that can't be read and an output that can't be written are told on standard error.
 
-ghost use Prim.Native.Nat.{_≤_};
-ghost use lib.ListN.{length};
 ghost use Rattle.io.specs.Counts.{Counts};
 use libc::STDIN_FILENO;
 use libc::STDOUT_FILENO;
-use script_format::Cursor;
 
 fn main() {
     let mut script = [0u8; 65537];
@@ -16,7 +13,9 @@ fn main() {
         os::fail(b"script: standard input");
         return;
     }
-    if !print(&script[..length]) {
+    let mut text = [0u8; 1747760];
+    let end = script_print::print(&script[..length], &mut text);
+    if !io::write_all(STDOUT_FILENO, &text[..end]) {
         os::fail(b"script: standard output");
     }
 }
@@ -56,44 +55,4 @@ fn read_all(buf: &mut [u8]) -> Input
         length: done,
         failed: false,
     }
-}
-
-// ---- writing
-
-// Writes what is printed for a script, and says whether all of it was taken.
-fn print(script: &[u8]) -> bool {
-    let mut ioapic = [0u64; 32];
-    let mut pic = [0u64; 4];
-    let mut apic = [0u64; 48];
-    let mut vm = script_machine::new(&mut ioapic, &mut pic, &mut apic);
-    let mut next = Cursor { at: 0 };
-    let mut text = io::buffer();
-    loop {
-        let filled = script_print::fill(
-            &mut ioapic,
-            &mut pic,
-            &mut apic,
-            vm,
-            script,
-            next,
-            &mut text,
-        );
-        let after = filled.vm;
-        let behind = filled.next;
-        if !write_first(&text, filled.end) {
-            return false;
-        }
-        if !filled.more {
-            return true;
-        }
-        vm = after;
-        next = behind;
-    }
-}
-
-// The first bytes of a text.
-fn write_first(text: &[u8], end: usize) -> bool
-    requires { ⌜ end ≤ length (now text) ⌝ }
-{
-    io::write_all(STDOUT_FILENO, &text[..end])
 }

@@ -1,2 +1,2 @@
 pub mod Lines
-pub mod Filling
+pub mod Printing

@@ -1,11 +1,11 @@
 -- What is printed, and runs. Each law follows the fields one by one. Assumes nothing.
-use mathlib.Core.Path.{_≡_, refl, sym, _∙_}
+use mathlib.Core.Path.{_≡_, refl, sym}
 use mathlib.Core.Bool.{Bool, true, false, cond}
-use mathlib.Core.List.{List, _++_, append-assoc, append-nil}
+use mathlib.Core.List.{List, _++_, append-assoc}
 use Prim.Native.Nat.{ℕ, zero, suc, _+_, _-_, _<_}
 use native.Mathlib.Omega.{arith}
 use lib.Dec.{leb, ltb}
-use lib.ListN.{length, getD, take}
+use lib.ListN.{length, getD}
 use Rattle.reply_text.specs.Text.{line}
 use Rattle.script_format.specs.declared.Call.{Call}
 use Rattle.script_format.specs.declared.Body.{Body}
@@ -22,9 +22,9 @@ use Rattle.script_machine.specs.Machine.{Machine, performed}
 use Rattle.script_machine.specs.Run.{byField, stepOf, placeAfter, stopAfter, callsFrom, replies}
 use Rattle.script_machine.proofs.Places.{good-at, good-lies}
 use Rattle.script_machine.proofs.Runs.{remembers}
-use Rattle.script_print.specs.Printed.{stopText, stepsText, linesFrom, leftFrom}
+use Rattle.script_print.specs.Printed.{stopText, stepsText, linesFrom}
 use Rattle.script_theorems.specs.Runs.{answersOf}
-use Rattle.script_theorems.specs.Printed.{tagsFrom, linesOf, PrintedByRun, EndsItself, Written, last, onward, WrittenIsPrinted}
+use Rattle.script_theorems.specs.Printed.{tagsFrom, linesOf, PrintedByRun, EndsItself}
 
 -- a field's tag is the byte at its place
 body-tag : (t next : ℕ) (b : Body) (tag : ℕ) (c : Call) (after : Cursor) → fieldOf t b next ≡ Good tag c after → tag ≡ t
@@ -79,12 +79,3 @@ ends s (suc n) used at h e = go (fieldFor s used at) refl (λ u next. ends s n u
 
 pub ends-itself : EndsItself
 ends-itself s m at n h e = ends s n (m .used) at h e
-
--- ---- pieces
-
-written : (s : List ℕ) {m : Machine} {at : ℕ} {text : List ℕ} → Written s m at text → text ≡ leftFrom s m at
-written s (last {m} {m′} {at} {r} {out} f e) = sym (f .text ∙ rw e (append-nil (take (r .end) out)))
-written s (onward {m} {m′} {at} {r} {out} {text} f e w) = sym (f .text ∙ rw (e, ← written s w))
-
-pub written-is-printed : WrittenIsPrinted
-written-is-printed s text w = written s w

@@ -1,10 +1,9 @@
 -- The program's output (`printed` of the crate script_print), and runs: it prints a line for each field that a run performs, and where that ends, and a run that is allowed more
 -- fields than bytes are left ends at the end or at a bad field. And document 01's own script, and last spring's (examples/last_spring.txt), computed from bytes to lines.
 use Prim.Native.Nat.{ℕ, zero, suc, _-_, _<_}
-use mathlib.Core.Bool.{true, false}
 use mathlib.Core.List.{List, [], _∷_, _++_}
 use mathlib.Core.Path.{_≡_, refl}
-use lib.ListN.{length, getD, take}
+use lib.ListN.{length, getD}
 use Rattle.utils.specs.Set as set
 use Rattle.types.specs.declared.Reply.{Reply}
 use Rattle.vioapic_entry.specs.Redirection as redirection
@@ -23,8 +22,7 @@ use Rattle.script_machine.specs.Late.{usedAfter, fieldFor}
 use Rattle.script_machine.specs.Machine as machine
 use Rattle.script_machine.specs.Machine.{Machine, newMachine, performed}
 use Rattle.script_machine.specs.Run.{byField, stepOf, runOf}
-use Rattle.script_print.specs.declared.Filled.{Filled}
-use Rattle.script_print.specs.Printed.{stopText, stepsText, linesFrom, leftFrom, printed, Fills}
+use Rattle.script_print.specs.Printed.{stopText, stepsText, linesFrom, printed}
 use Rattle.script_theorems.specs.Runs.{answersOf}
 
 -- ---- the output of a run
@@ -53,18 +51,6 @@ PrintedByRun =
 abbrev pub EndsItself : Type 0
 EndsItself = (s : List ℕ) (m : Machine) (at n : ℕ) → length s - at < n → runOf s m at n .stop ≡ stop.Allowance → ⊥
 
--- ---- the output in pieces
-
--- what is written by one who fills a buffer (`Fills`, what the call `fill` promises), writes what it holds, and goes on from there for as long as there is more
-pub data Written (s : List ℕ) : Machine → ℕ → List ℕ → Type 0 where
-  last : {m m′ : Machine} {at : ℕ} {r : Filled} {out : List ℕ} → Fills s m at r m′ out → r .more ≡ false → Written s m at (take (r .end) out)
-  onward : {m m′ : Machine} {at : ℕ} {r : Filled} {out text : List ℕ} → Fills s m at r m′ out → r .more ≡ true → Written s m′ (r .next .at) text
-      → Written s m at (take (r .end) out ++ text)
-
--- from a new machine and the start that is what is printed, to the letter
-abbrev pub WrittenIsPrinted : Type 0
-WrittenIsPrinted = (s text : List ℕ) → Written s newMachine 0 text → text ≡ printed s
-
 -- ---- computed
 
 -- document 01, "Scripts"
@@ -85,7 +71,7 @@ exampleText =
     ∷ []
 
 pub example-prints : printed example ≡ exampleText
-unfolding set.with set.without set.outside set.lowest set.highest set.lastSet32 chip.opened chip.commanded chip.fed chip.commandRead chip.pulsed chip.counts chip.pendingLine chip.pendingIrq chip.asks chip.driven chip.acknowledged chip.acknowledge chip.unacknowledged pair.newState pair.settled pair.latched pair.masterClaim pair.slaveClaim pair.claimPending pair.claimIrq pair.restored pair.portRead pair.writtenAt pair.portWritten newMachine machine.picOutcome machine.localOutcome performed numberAt decoded fieldAt fieldFor stepOf stepsText linesFrom leftFrom line replyText decimalIn
+unfolding set.with set.without set.outside set.lowest set.highest set.lastSet32 chip.opened chip.commanded chip.fed chip.commandRead chip.pulsed chip.counts chip.pendingLine chip.pendingIrq chip.asks chip.driven chip.acknowledged chip.acknowledge chip.unacknowledged pair.newState pair.settled pair.latched pair.masterClaim pair.slaveClaim pair.claimPending pair.claimIrq pair.restored pair.portRead pair.writtenAt pair.portWritten newMachine machine.picOutcome machine.localOutcome performed numberAt decoded fieldAt fieldFor stepOf stepsText linesFrom printed line replyText decimalIn
 example-prints = refl
 
 -- lines 3 and 5 are held with one vector; only when line 3 is let go is line 5 heard
@@ -130,14 +116,14 @@ springText =
     ∷ []
 
 pub spring-prints : printed spring ≡ springText
-unfolding set.with set.without set.outside set.lowest set.highest set.lastSet32 redirection.sendEntry redirection.raiseEntry redirection.lowerEntry redirection.endEntry redirection.writeLow redirection.writeHigh table.interruptForEntry table.setLevel table.firstAwaiting table.endOfEntry table.endOf table.vectorFor window.readFixed window.readWord window.readSelected window.writeWord window.writeSelected window.readAt window.writeAt vioapic.assertGsi vioapic.setGsiLevel vioapic.endOfInterrupt vioapic.vectorForGsi vioapic.addressRange vioapic.handleRead vioapic.handleWrite ioapic.outcome ioapic.run newMachine machine.picOutcome machine.localOutcome performed numberAt decoded fieldAt fieldFor stepOf stepsText linesFrom leftFrom line replyText decimalIn
+unfolding set.with set.without set.outside set.lowest set.highest set.lastSet32 redirection.sendEntry redirection.raiseEntry redirection.lowerEntry redirection.endEntry redirection.writeLow redirection.writeHigh table.interruptForEntry table.setLevel table.firstAwaiting table.endOfEntry table.endOf table.vectorFor window.readFixed window.readWord window.readSelected window.writeWord window.writeSelected window.readAt window.writeAt vioapic.assertGsi vioapic.setGsiLevel vioapic.endOfInterrupt vioapic.vectorForGsi vioapic.addressRange vioapic.handleRead vioapic.handleWrite ioapic.outcome ioapic.run newMachine machine.picOutcome machine.localOutcome performed numberAt decoded fieldAt fieldFor stepOf stepsText linesFrom printed line replyText decimalIn
 spring-prints = refl
 
 -- an empty script prints nothing, and one byte is a bad field
 pub nothing-prints : printed [] ≡ []
-unfolding fieldAt fieldFor stepOf stepsText linesFrom leftFrom newMachine
+unfolding fieldAt fieldFor stepOf stepsText linesFrom printed newMachine
 nothing-prints = refl
 
 pub byte-prints : printed (0x13 ∷ []) ≡ 98 ∷ 97 ∷ 100 ∷ 32 ∷ 48 ∷ 10 ∷ []  -- bad 0
-unfolding fieldAt fieldFor stepOf stepsText linesFrom leftFrom newMachine badLine decimalIn
+unfolding fieldAt fieldFor stepOf stepsText linesFrom printed newMachine badLine decimalIn
 byte-prints = refl

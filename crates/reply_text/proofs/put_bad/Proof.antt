@@ -1,50 +1,28 @@
-use Rattle.reply_text.proofs.Puts.{then-put, then-byte}
-use Rattle.reply_text.specs.Text.{badLine}
+use Rattle.utils.specs.Cases.{so-is, so-false}
+use Rattle.reply_text.proofs.Puts.{put-room, put-no-room}
 use borrow.Author.Needs.{needs}
+use borrow.Author.Tests.{leb-true, not-false}
+use native.Mathlib.Omega.{arith}
 use Rattle.reply_text.proofs.put_bad.Statement.{statement}
 use Rattle.reply_text.proofs.put_bad.Tie as tie
 
-put-requires : tie.Need-put-requires
-put-requires c κs = search needs
+has-room-requires : tie.Need-has-room-requires
+has-room-requires c κs = search needs
 
-put-requires-2 : tie.Need-put-requires-2
-put-requires-2 c κs = search needs
+returns : tie.Need-returns
+returns c = (put-no-room _ (so-false (c .before .has-room .ensures) (c .if1 .taken)), search needs)
 
-put-requires-3 : tie.Need-put-requires-3
-put-requires-3 c κs = search needs
-
-put-requires-4 : tie.Need-put-requires-4
-put-requires-4 c κs = search needs
-
-put-decimal-requires : tie.Need-put-decimal-requires
-put-decimal-requires c κs = search needs
-
-put-requires-5 : tie.Need-put-requires-5
-put-requires-5 c κs = search needs
+bad-into-requires : tie.Need-bad-into-requires
+bad-into-requires c κs = leb-true _ _ (so-is (c .before .before .has-room .ensures) (not-false _ (c .before .if1 .left)))
 
 same-length : tie.Need-same-length
 same-length c = search needs
 
-returns : tie.Need-returns
-unfolding badLine
-returns c = (
-  then-byte (c .before .before .before .before .before .before .before .before .before .before .before .before .before .before .before .before .before .before .before .before .before .before .put .ensures .0)
-      (then-byte (c .before .before .before .before .before .before .before .before .before .before .before .before .before .before .before .before .before .before .put2 .ensures .0)
-      (then-byte (c .before .before .before .before .before .before .before .before .before .before .before .before .before .before .put3 .ensures .0)
-      (then-byte (c .before .before .before .before .before .before .before .before .before .before .put4 .ensures .0)
-      (then-put (c .before .before .before .before .before .before .put-decimal .ensures .0) (c .before .before .put5 .ensures .0))))),
-  search needs,
-)
+returns-2 : tie.Need-returns-2
+returns-2 c =
+    let asked = c .before .before .before .before in
+    (put-room (so-is (asked .before .has-room .ensures) (not-false _ (asked .if1 .left))) (c .before .before .bad-into .ensures .0), search needs)
 
 pub put-bad-spec : {M : Type 1} → statement M
 put-bad-spec =
-    tie.close
-    (tie.spec
-    put-requires
-    put-requires-2
-    put-requires-3
-    put-requires-4
-    put-decimal-requires
-    put-requires-5
-    same-length
-    returns)
+    tie.close (tie.spec has-room-requires returns bad-into-requires same-length returns-2)

@@ -1,47 +1,28 @@
-use Rattle.reply_text.proofs.Puts.{then-byte, put-is}
-use Rattle.reply_text.specs.Text.{line}
+use Rattle.utils.specs.Cases.{so-is, so-false}
+use Rattle.reply_text.proofs.Puts.{put-room, put-no-room}
 use borrow.Author.Needs.{needs}
+use borrow.Author.Tests.{leb-true, not-false}
+use native.Mathlib.Omega.{arith}
 use Rattle.reply_text.proofs.put_line.Statement.{statement}
 use Rattle.reply_text.proofs.put_line.Tie as tie
 
-digit-requires : tie.Need-digit-requires
-digit-requires c κs = search needs
+has-room-requires : tie.Need-has-room-requires
+has-room-requires c κs = search needs
 
-put-requires : tie.Need-put-requires
-put-requires c κs = search needs
+returns : tie.Need-returns
+returns c = (put-no-room _ (so-false (c .before .has-room .ensures) (c .if1 .taken)), search needs)
 
-digit-requires-2 : tie.Need-digit-requires-2
-digit-requires-2 c κs = search needs
-
-put-requires-2 : tie.Need-put-requires-2
-put-requires-2 c κs = search needs
-
-put-requires-3 : tie.Need-put-requires-3
-put-requires-3 c κs = search needs
-
-put-reply-requires : tie.Need-put-reply-requires
-put-reply-requires c κs = search needs
+line-into-requires : tie.Need-line-into-requires
+line-into-requires c κs = leb-true _ _ (so-is (c .before .before .has-room .ensures) (not-false _ (c .before .if1 .left)))
 
 same-length : tie.Need-same-length
 same-length c = search needs
 
-returns : tie.Need-returns
-unfolding line
-returns c = (
-  then-byte (put-is (c .before .before .before .before .before .before .before .before .before .before .before .before .before .before .before .before .digit .ensures) (c .before .before .before .before .before .before .before .before .before .before .before .before .before .before .before .put .ensures .0))
-      (then-byte (put-is (c .before .before .before .before .before .before .before .before .before .before .before .digit2 .ensures) (c .before .before .before .before .before .before .before .before .before .before .put2 .ensures .0)) (then-byte (c .before .before .before .before .before .before .put3 .ensures .0) (c .before .before .put-reply .ensures .0))),
-  search needs,
-)
+returns-2 : tie.Need-returns-2
+returns-2 c =
+    let asked = c .before .before .before .before in
+    (put-room (so-is (asked .before .has-room .ensures) (not-false _ (asked .if1 .left))) (c .before .before .line-into .ensures .0), search needs)
 
 pub put-line-spec : {M : Type 1} → statement M
 put-line-spec =
-    tie.close
-    (tie.spec
-    digit-requires
-    put-requires
-    digit-requires-2
-    put-requires-2
-    put-requires-3
-    put-reply-requires
-    same-length
-    returns)
+    tie.close (tie.spec has-room-requires returns line-into-requires same-length returns-2)

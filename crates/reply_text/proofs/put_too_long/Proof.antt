@@ -1,35 +1,28 @@
-use Rattle.reply_text.proofs.Puts.{then-put}
-use Rattle.reply_text.specs.Text.{tooLongLine}
+use Rattle.utils.specs.Cases.{so-is, so-false}
+use Rattle.reply_text.proofs.Puts.{put-room, put-no-room}
 use borrow.Author.Needs.{needs}
+use borrow.Author.Tests.{leb-true, not-false}
+use native.Mathlib.Omega.{arith}
 use Rattle.reply_text.proofs.put_too_long.Statement.{statement}
 use Rattle.reply_text.proofs.put_too_long.Tie as tie
 
-number-requires : tie.Need-number-requires
-number-requires c κs = search needs
+has-room-requires : tie.Need-has-room-requires
+has-room-requires c κs = search needs
 
-cast-put-decimal : tie.Need-cast-put-decimal
-cast-put-decimal c = search needs
+returns : tie.Need-returns
+returns c = (put-no-room _ (so-false (c .before .has-room .ensures) (c .if1 .taken)), search needs)
 
-put-decimal-requires : tie.Need-put-decimal-requires
-put-decimal-requires c κs = search needs
-
-put-requires : tie.Need-put-requires
-put-requires c κs = search needs
+too-long-into-requires : tie.Need-too-long-into-requires
+too-long-into-requires c κs = leb-true _ _ (so-is (c .before .before .has-room .ensures) (not-false _ (c .before .if1 .left)))
 
 same-length : tie.Need-same-length
 same-length c = search needs
 
-returns : tie.Need-returns
-unfolding tooLongLine
-returns c = (then-put (rw (c .before .before .before .before .before .before .before .number .ensures) at (c .before .before .before .before .before .before .put-decimal .ensures .0)) (c .before .before .put .ensures .0), search needs)
+returns-2 : tie.Need-returns-2
+returns-2 c =
+    let asked = c .before .before .before .before in
+    (put-room (so-is (asked .before .has-room .ensures) (not-false _ (asked .if1 .left))) (c .before .before .too-long-into .ensures .0), search needs)
 
 pub put-too-long-spec : {M : Type 1} → statement M
 put-too-long-spec =
-    tie.close
-    (tie.spec
-    number-requires
-    cast-put-decimal
-    put-decimal-requires
-    put-requires
-    same-length
-    returns)
+    tie.close (tie.spec has-room-requires returns too-long-into-requires same-length returns-2)

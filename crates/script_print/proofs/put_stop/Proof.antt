@@ -1,5 +1,4 @@
-use mathlib.Core.Path.{refl}
-use native.Mathlib.Omega.{arith}
+use Rattle.script_print.proofs.Printing.{put-nothing}
 use borrow.Author.Needs.{needs}
 use Rattle.script_print.proofs.put_stop.Statement.{statement}
 use Rattle.script_print.proofs.put_stop.Tie as tie
@@ -17,7 +16,7 @@ enum-told-3 : tie.Need-enum-told-3
 enum-told-3 c = search needs
 
 returns : tie.Need-returns
-returns c = (rw (c .enum-told .given .1) (record { buffer = refl; end = omega arith }), search needs)
+returns c = (rw (c .enum-told .given .1) (put-nothing _ _ _), search needs)
 
 same-length : tie.Need-same-length
 same-length c = search needs
@@ -26,7 +25,7 @@ returns-2 : tie.Need-returns-2
 returns-2 c = (rw (c .before .before .before .before .enum-told2 .given .1) (c .before .before .put-bad .ensures .0), search needs)
 
 returns-3 : tie.Need-returns-3
-returns-3 c = (rw (c .enum-told3 .given .1) (record { buffer = refl; end = omega arith }), search needs)
+returns-3 c = (rw (c .enum-told3 .given .1) (put-nothing _ _ _), search needs)
 
 pub put-stop-spec : {M : Type 1} → statement M
 put-stop-spec =
