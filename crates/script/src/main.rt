@@ -4,6 +4,7 @@
 ghost use Rattle.io.specs.Counts.{Counts};
 use libc::STDIN_FILENO;
 use libc::STDOUT_FILENO;
+use script_print::SPACE;
 
 fn main() {
     let mut script = [0u8; 65537];
@@ -13,7 +14,7 @@ fn main() {
         os::fail(b"script: standard input");
         return;
     }
-    let mut text = [0u8; 1747760];
+    let mut text = [0u8; SPACE];
     let end = script_print::print(&script[..length], &mut text);
     if !io::write_all(STDOUT_FILENO, &text[..end]) {
         os::fail(b"script: standard output");

@@ -17,7 +17,7 @@ pub const LIMIT: usize = 65536;
 pub const SPACE: usize = 1747760;
 
 // Runs a script on a new machine, puts all that is printed for it at the buffer's start, and answers how many bytes that are.
-pub fn print(script: &[u8], out: &mut [u8; 1747760]) -> usize
+pub fn print(script: &[u8], out: &mut [u8; SPACE]) -> usize
     ensures { λ r. ⌜ Puts (now (out .entry)) 0 (printed (now (script .entry))) (now (out .exit)) r ⌝ }
     ensures { λ r. ⌜ Counts r (now (out .exit)) ⌝ }
 {
