@@ -158,6 +158,14 @@ fn write_window<const FLIP: u64>(io: &mut impl Io, caller: &mut impl Caller, [se
     caller.done(io.write(*window, Dword, *word));
 }
 
+/// As a threaded handler does: masked, ended, unmasked. The chip has the entry selected.
+#[inline(always)]
+fn mask_eoi_unmask(io: &mut impl Io<Ended: Tell>, caller: &mut impl Caller, [window, masked, vector, word]: &mut [u64; 4]) {
+    caller.done(io.write(*window, Dword, *masked));
+    eoi(io, caller, &mut [*vector]);
+    caller.took(io.open(*word));
+}
+
 #[inline(always)]
 fn read_window(io: &mut impl Io, caller: &mut impl Caller, [window]: &mut [u64; 1]) {
     caller.done(io.read(*window, Dword));
@@ -235,6 +243,7 @@ row!(write_low_changed_v20, io20, |io| io.program(&LEVEL_2), write_window::<0x10
 row!(write_low_same_v20, io20, |io| io.program(&LEVEL_2), write_window::<0>, [SELECT, WINDOW, 0x14, 0x8030]);
 row!(write_low_changed_held_v20, io20, |io| held(io, &LEVEL_2, [2]), write_window::<0x10000>, [SELECT, WINDOW, 0x14, 0x8030]);
 row!(write_low_same_held_v20, io20, |io| held(io, &LEVEL_2, [2]), write_window::<0>, [SELECT, WINDOW, 0x14, 0x8030]);
+row!(mask_eoi_unmask_v20, io20, |io| held(io, &LEVEL_2, [2]), mask_eoi_unmask, [WINDOW, 0x18030, 0x30, 0x8030]);
 row!(write_high_v20, io20, |io| io.program(&LEVEL_2), write_window::<0x0300_0000>, [SELECT, WINDOW, 0x15, 0x0100_0000]);
 row!(read_low_v20, io20, |io| io.program(&LEVEL_2), read_window, [WINDOW]);
 row!(vector_for_gsi, io, |io| io.program(&LEVEL_2), vector_for, [2]);
@@ -404,6 +413,7 @@ pub const ROWS: &[&Row] = &[
     &write_low_same_v20::ROW,
     &write_low_changed_held_v20::ROW,
     &write_low_same_held_v20::ROW,
+    &Row { is_like_original: false, ..mask_eoi_unmask_v20::ROW },
     &write_high_v20::ROW,
     &read_low_v20::ROW,
     &vector_for_gsi::ROW,

@@ -187,6 +187,28 @@ impl From<sillwander::IoApicEois> for Lines {
     }
 }
 
+/// What a write answers, and what of it is sent.
+trait Sends {
+    fn sent(self) -> Option<[u64; 2]>;
+}
+
+impl Sends for () {
+    #[inline(always)]
+    fn sent(self) -> Option<[u64; 2]> {
+        None
+    }
+}
+
+impl Sends for sillwander::IoApicWritten {
+    #[inline(always)]
+    fn sent(self) -> Option<[u64; 2]> {
+        match self {
+            Self::Sent(sent) => Some([sent.vector.into(), sent.level_triggered.into()]),
+            Self::Done | Self::Ended(_) => None,
+        }
+    }
+}
+
 pub trait Io {
     type Ended: Ended;
 
@@ -198,6 +220,8 @@ pub trait Io {
     fn range(&mut self) -> [u64; 2];
     fn read(&mut self, addr: u64, width: Width) -> Result<[u64; 1], impl Refusal>;
     fn write(&mut self, addr: u64, width: Width, value: u64) -> Result<[u64; 0], impl Refusal>;
+    /// A write of the window, and what it sends, vector and level: in version 0x20 alone it may.
+    fn open(&mut self, value: u64) -> Option<[u64; 2]>;
     /// A new chip in the place of this one.
     fn renew(&mut self);
 
@@ -258,6 +282,11 @@ impl<E: Ended> Io for IoWords<E> {
         wrote(sillwander_ioapic_handle_write(&mut self.0, addr, width as u64, value))
     }
     #[inline(always)]
+    fn open(&mut self, value: u64) -> Option<[u64; 2]> {
+        let code = sillwander_ioapic_handle_write(&mut self.0, WINDOW, Width::Dword as u64, value);
+        (code != 0).then(|| of_two(code))
+    }
+    #[inline(always)]
     fn renew(&mut self) {
         let words = black_box(&mut self.0);
         match E::VERSION {
@@ -304,6 +333,11 @@ macro_rules! io_of_crate {
             fn write(&mut self, addr: u64, width: Width, value: u64) -> Result<[u64; 0], impl Refusal> {
                 let wrote = self.lend(|io| io.handle_write((addr as usize).into(), width.into(), value as usize));
                 wrote.map(|_| [])
+            }
+            #[inline(always)]
+            fn open(&mut self, value: u64) -> Option<[u64; 2]> {
+                let wrote = self.lend(|io| io.handle_write((WINDOW as usize).into(), Width::Dword.into(), value as usize));
+                wrote.ok().and_then(Sends::sent)
             }
             #[inline(always)]
             fn renew(&mut self) {

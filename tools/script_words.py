@@ -50,7 +50,7 @@ def either(words):
 
 
 def service(flags):
-    """Where a claim set its line in service; bits above the first two mean nothing."""
+    """On which chips flags of a claim name its line; bits above the first two mean nothing."""
     return ("neither", "the master", "the slave", "both")[flags % 4]
 
 
@@ -72,7 +72,7 @@ def given_back(numbers):
     line, flags = numbers["line"], numbers["flags"] & (3 if numbers["line"] >= 8 else 1)
     if line >= LINES:
         return "a claim of line {line}"
-    return "line {line} given back, " + (f"out of service on {service(flags)}" if flags else "in service as before")
+    return "a claim of line {line} given back, " + (f"out of service on {service(flags)}" if flags else "in service as before")
 
 
 def kind(number):

@@ -74,12 +74,12 @@ WORDS = (
     (["claim 15"], "12 0 -", "line 15 asks -> nothing claimed"),
     (["claim 16"], "12 0 -", "line 16 isn't there: the pair has 0 to 15 -> nothing claimed"),
     (["claim 200"], "12 0 -", "line 200 isn't there: the pair has 0 to 15 -> nothing claimed"),
-    (["restore 0x76 14 0"], "14 0 -", "line 14 given back, in service as before -> done"),
-    (["restore 0x76 14 1"], "14 0 -", "line 14 given back, out of service on the master -> done"),
-    (["restore 0x76 14 2"], "14 0 -", "line 14 given back, out of service on the slave -> done"),
-    (["restore 0x70 8 255"], "14 0 -", "line 8 given back, out of service on both -> done"),
-    (["restore 8 1 255"], "14 0 -", "line 1 given back, out of service on the master -> done"),
-    (["restore 8 7 254"], "14 0 -", "line 7 given back, in service as before -> done"),
+    (["restore 0x76 14 0"], "14 0 -", "a claim of line 14 given back, in service as before -> done"),
+    (["restore 0x76 14 1"], "14 0 -", "a claim of line 14 given back, out of service on the master -> done"),
+    (["restore 0x76 14 2"], "14 0 -", "a claim of line 14 given back, out of service on the slave -> done"),
+    (["restore 0x70 8 255"], "14 0 -", "a claim of line 8 given back, out of service on both -> done"),
+    (["restore 8 1 255"], "14 0 -", "a claim of line 1 given back, out of service on the master -> done"),
+    (["restore 8 7 254"], "14 0 -", "a claim of line 7 given back, in service as before -> done"),
     (["restore 0x80 16 3"], "14 5 -", "a claim of line 16 -> refused (5): the pair has lines 0 to 15"),
     (["pic-rule 1"], "16 0 -", "a new pair: rule 1, line 2 follows the slave -> done"),
     # The local APIC.
@@ -410,7 +410,7 @@ def check_readme(checks, program):
     """Each command in the README's story prints what stands below it."""
     blocks = re.findall(r"^    \$ (.*)\n((?:    .*\n)*)", (TOP / "README.md").read_text(encoding="utf-8"), re.M)
     blocks = [(line, below) for line, below in blocks if "tools/script-text" in line]
-    checks.true(f"the README has commands with their output ({len(blocks)})", len(blocks) >= 4)
+    checks.true(f"the README has commands with their output ({len(blocks)})", len(blocks) == 5)
     for line, below in blocks:
         whole = re.sub(r"tools/script-text (run|diff)", lambda found: f'{found[0]} --program "$PROGRAM"', line)
         ran = subprocess.run(["sh", "-c", whole], cwd=TOP, env={**os.environ, "PROGRAM": program}, stdout=subprocess.PIPE, text=True)

@@ -15,7 +15,7 @@ use types::Refusal;
 use types::Reply;
 
 // No line is longer.
-pub const LINE: usize = 80;
+const LINE: usize = 80;
 
 // ---- printing
 

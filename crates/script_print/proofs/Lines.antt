@@ -47,23 +47,19 @@ pub lines-did : (s : List ℕ) (m : Machine) (at : ℕ) (x : Step) (tag : ℕ) (
     → linesFrom s m at ≡ line tag r ++ linesFrom s (x .machine) (x .next .at)
 lines-did s m at x tag r g h = by-step s m at ∙ rw (← g) (rw h)
 
--- a step that performs nothing leaves the machine and the place
-pub record Stays (m : Machine) (at : ℕ) (x : Step) : Type 0 where
-  pub machine : x .machine ≡ m
-  pub place : x .next .at ≡ at
-
-pub stopped-stays : (s : List ℕ) (m : Machine) (at : ℕ) (x : Step) (why : Stop) → x ≡ stepOf s m at → x .said ≡ Stopped why → Stays m at x
+-- a step that performs nothing leaves the place
+stopped-stays : (s : List ℕ) (m : Machine) (at : ℕ) (x : Step) (why : Stop) → x ≡ stepOf s m at → x .said ≡ Stopped why → x .next .at ≡ at
 unfolding stepOf
 stopped-stays s m at x why g h = rw g (go (fieldFor s (m .used) at) (rw g at h))
   where
-    go : (f : Field) → stepBy m at f .said ≡ Stopped why → Stays m at (stepBy m at f)
+    go : (f : Field) → stepBy m at f .said ≡ Stopped why → stepBy m at f .next .at ≡ at
     go (Good t c next) p = let z : _≡_ {A = ℕ} 0 1 = cc in absurd (omega arith)
-    go Bad p = record { machine = refl; place = refl }
-    go End p = record { machine = refl; place = refl }
+    go Bad p = refl
+    go End p = refl
 
 pub lines-stopped : (s : List ℕ) (m : Machine) (at : ℕ) (x : Step) (why : Stop) → x ≡ stepOf s m at → x .said ≡ Stopped why
     → linesFrom s m at ≡ stopText why (x .next .at)
 lines-stopped s m at x why g h =
     let e : stepOf s m at .said ≡ Stopped why = ap (λ (y : Step). y .said) (sym g) ∙ h in
-    let p : x .next .at ≡ at = stopped-stays s m at x why g h .place in
+    let p : x .next .at ≡ at = stopped-stays s m at x why g h in
     by-step s m at ∙ rw (e, p)

@@ -19,7 +19,7 @@ use Rattle.script_machine.specs.Machine.{Machine, newMachine}
 use Rattle.script_machine.specs.Run.{Step, stepOf}
 use Rattle.script_machine.proofs.Places.{did-lies}
 use Rattle.script_print.specs.Printed.{stopText, linesFrom, printed}
-use Rattle.script_print.proofs.Lines.{lines-did, lines-stopped, stopped-stays}
+use Rattle.script_print.proofs.Lines.{lines-did, lines-stopped}
 
 -- a line for which there is room
 pub put-all : (l : List ℕ) (at : ℕ) (vs m : List ℕ) (end : ℕ) → at + 80 ≤ length l → Puts l at (inRoom (length l) at vs) m end → Puts l at vs m end

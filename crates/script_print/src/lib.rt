@@ -11,9 +11,9 @@ use script_machine::Said;
 use script_machine::Stop;
 
 // The longest script, in bytes.
-pub const LIMIT: usize = 65536;
+const LIMIT: usize = 65536;
 
-// A line's 80 bytes for each three of the longest script, since no field has fewer, and for the rest.
+// A line's 80 bytes for each three of the longest script, since no field has fewer, and one line more.
 pub const SPACE: usize = 1747760;
 
 // Runs a script on a new machine, puts all that is printed for it at the buffer's start, and answers how many bytes that are.

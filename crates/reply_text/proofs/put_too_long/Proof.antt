@@ -2,7 +2,6 @@ use Rattle.utils.specs.Cases.{so-is, so-false}
 use Rattle.reply_text.proofs.Puts.{put-room, put-no-room}
 use borrow.Author.Needs.{needs}
 use borrow.Author.Tests.{leb-true, not-false}
-use native.Mathlib.Omega.{arith}
 use Rattle.reply_text.proofs.put_too_long.Statement.{statement}
 use Rattle.reply_text.proofs.put_too_long.Tie as tie
 
