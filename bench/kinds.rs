@@ -37,7 +37,7 @@ macro_rules! kind {
 }
 
 kind!(io, TheirIo = TheirIo::new_default(), IoWords<Line> = IoWords::new(), sillwander::EmulatedIoApic = Default::default());
-// The original has no version 0x20 and no rule 1: beside them stand its version 0x11 and its rule 0.
+// The original has no version 0x20 and no rules 1 and 2: beside them stand its version 0x11 and its rule 0.
 kind!(io20, TheirIo = TheirIo::new_default(), IoWords<Lines> = IoWords::new(), sillwander::EmulatedIoApic20 = Default::default());
 kind!(pic, TheirPic = TheirPic::new(), PicWords = PicWords::new(0), sillwander::EmulatedPic = sillwander::EmulatedPic::new());
 kind!(
@@ -45,6 +45,12 @@ kind!(
     TheirPic = TheirPic::new(),
     PicWords = PicWords::new(1),
     sillwander::EmulatedPic = sillwander::EmulatedPic::new_rule(sillwander::PicRule::Cascade)
+);
+kind!(
+    full,
+    TheirPic = TheirPic::new(),
+    PicWords = PicWords::new(2),
+    sillwander::EmulatedPic = sillwander::EmulatedPic::new_rule(sillwander::PicRule::Full)
 );
 // vCPU 1 of 8.
 fn our_local() -> sillwander::EmulatedLocalApic {

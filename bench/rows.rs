@@ -330,6 +330,12 @@ row!(pic_claim_restore_4_cascade, cascade, open, claim_and_restore, [4]);
 row!(pic_claim_restore_12_cascade, cascade, open, claim_and_restore, [12]);
 row!(pic_claim_eoi_1_over_cascade, cascade, in_service, claim_and_eoi, [1, 0x20, 0x20]);
 row!(pic_mask_write_read_cascade, cascade, open, mask_written_and_read, [0xa1, 0x0f]);
+// In the full profile, and with rotation, which the original's EOI does without.
+row!(pic_claim_eoi_4_full, full, open, claim_and_eoi, [4, 0x20, 0x20]);
+row!(pic_claim_eoi_4_rotating, full, open, claim_and_eoi, [4, 0x20, 0xa0]);
+row!(pic_claim_eoi_12_full, full, open, claim_and_eois, [12, 0xa0, 0x20, 0x20]);
+row!(pic_claim_restore_4_full, full, open, claim_and_restore, [4]);
+row!(pic_mask_write_read_full, full, open, mask_written_and_read, [0xa1, 0x0f]);
 
 // ---- the local APIC
 
@@ -431,6 +437,11 @@ pub const ROWS: &[&Row] = &[
     &pic_claim_restore_12_cascade::ROW,
     &pic_claim_eoi_1_over_cascade::ROW,
     &pic_mask_write_read_cascade::ROW,
+    &pic_claim_eoi_4_full::ROW,
+    &pic_claim_eoi_4_rotating::ROW,
+    &pic_claim_eoi_12_full::ROW,
+    &pic_claim_restore_4_full::ROW,
+    &pic_mask_write_read_full::ROW,
     &accept_eoi_31::ROW,
     &accept_eoi_f1::ROW,
     &accept_eoi_51_over_31::ROW,

@@ -107,20 +107,25 @@ uint64_t sillwander_ioapic_handle_write(uint64_t words[32], uint64_t addr, uint6
  *          bits 23..16  requests           bit  41      single
  *          bits 31..24  in service         bit  42      automatic EOI
  *                                          bit  43      a command port reads the lines in service
- *    2   the rule: 1; any other number is 0
+ *    2   the rule: 1 or 2; any other number is 0
  *    3   spare: 0 in a new state, and no call reads or writes it
  *
- * Bits 63..44 of words 0 and 1 are ignored; a new pair has them 0, and every other call keeps them.
+ * By rule 2 words 0 and 1 have, besides,
+ *          bits 46..44  the line of highest priority, which stands after the lowest: 0 where line 7 is lowest
+ *          bit  47      rotation in automatic EOI mode
+ * and bits 63..48 are ignored. By the other rules bits 63..44 are. A new pair has all of them 0, and every other call keeps what is ignored.
  *
  * Rule 1 is the 8259A's cascade: a call that changes the pair leaves the master's request 2 set exactly when a request of the slave counts, one that is unmasked and
  * above every line in service on the slave. By rule 0 request 2 is a latch, which a slave's line sets and one acknowledgement clears for all lines that wait.
+ * Rule 2 is the full 8259A profile: rule 1's cascade, and each chip takes all eight OCW2 commands, rotation with them; its priorities, and with them which request
+ * counts, start after the chip's lowest line. A restore doesn't turn priorities back.
  */
 #define SILLWANDER_PIC_WORDS 4
 
 /* A new pair of rule 0. Answers 0. */
 uint64_t sillwander_pic_new(uint64_t words[4]);
 
-/* A new pair of rule 0 or 1. Refused: 1 for another number. That refusal is the boundary's own: in the core the rule is a type of two values, and a new pair is never refused. */
+/* A new pair of rule 0, 1 or 2. Refused: 1 for another number. That refusal is the boundary's own: in the core the rule is a type of three values, and a new pair is never refused. */
 uint64_t sillwander_pic_new_rule(uint64_t words[4], uint64_t rule);
 
 /* Writes the first and last port of the master and of the slave to ranges[0..3]. Answers 0. */

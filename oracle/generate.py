@@ -628,7 +628,7 @@ def gate_short_scripts():
 def judged(scripts):
     """Leaves out the scripts to which the Rust has no answer.
 
-    A damaged or random byte can make a first field `06 20` or `16 01`, which chooses what the Rust isn't. Ours would take
+    A damaged or random byte can make a first field `06 20`, `16 01` or `16 02`, which chooses what the Rust isn't. Ours would take
     it, the harness calls it bad, and that would be a false alarm. (While a difference is made small, `cut` in comparison.py
     sees to the same.)
     """

@@ -154,7 +154,7 @@ UNJUDGED = tuple(
 
 
 def is_unjudged(script):
-    """Whether a script has such a field where it is good: `06 20` or `16 01` before all other fields of its chip.
+    """Whether a script has such a field where it is good: `06 20`, `16 01` or `16 02` before all other fields of its chip.
 
     Ours takes it, and the Rust has no answer to it (the harness calls it bad): such a script compares nothing. Too late, the
     same choice is bad to both.

@@ -681,12 +681,69 @@ static void cascade_rule(void)
     memset(pic, 0xff, SILLWANDER_PIC_WORDS * 8);
     EXPECT(sillwander_pic_new_rule(pic, 0), NONE);
     CHECK(pic[2] == 0 && pic[3] == 0);
-    pic[2] = HIGH + 1; /* any number but 1 is rule 0 */
+    pic[2] = HIGH + 1; /* any number but 1 and 2 is rule 0 */
     open_masks();
     EXPECT(claim(2), three(0x0a, 2, 1));
-    uint64_t others[] = {2, 3, 0x11, 256, 257, HIGH, HIGH + 1, UINT64_MAX};
+    uint64_t others[] = {3, 4, 0x11, 256, 257, HIGH, HIGH + 1, UINT64_MAX};
     for (unsigned k = 0; k < sizeof others / sizeof *others; k++)
         REFUSED(pic_lent, sillwander_pic_new_rule(pic, others[k]), SILLWANDER_UNSUPPORTED);
+}
+
+/* The highest line of a set after the lowest, going round. */
+static unsigned first_after(unsigned lowest, unsigned lines)
+{
+    unsigned line = lowest;
+    do
+        line = (line + 1) % 8;
+    while (!(lines >> line & 1));
+    return line;
+}
+
+/* Rule 2, the full 8259A profile: each OCW2 command from each lowest line. */
+static void rotating_priorities(void)
+{
+    start("the full profile");
+    EXPECT(sillwander_pic_new_rule(pic, 2), NONE);
+    CHECK(pic[0] == 0xff08 && pic[1] == 0xff70 && pic[2] == 2 && pic[3] == 0);
+    for (unsigned lowest = 0; lowest < 8; lowest++)
+        for (unsigned command = 0; command < 8; command++)
+            for (unsigned line = 0; line < 8; line++) {
+                EXPECT(outb(0x20, 0x11), NONE); /* ICW1: line 7 is lowest, nothing requested or in service */
+                CHECK(pic[0] >> 44 == 0);
+                EXPECT(outb(0x21, 0x08), NONE);
+                EXPECT(outb(0x21, 4), NONE);
+                EXPECT(outb(0x21, 1), NONE);
+                EXPECT(outb(0x21, 0), NONE);
+                EXPECT(outb(0x20, 0xc0 + lowest), NONE);
+                CHECK(pic[0] >> 44 == (lowest + 1) % 8);
+                EXPECT(outb(0x20, command << 5 | line), NONE); /* nothing in service: a plain EOI does nothing, rotation included */
+                int moves = command == 6 || command == 7;
+                CHECK((pic[0] >> 44 & 7) == ((moves ? line : lowest) + 1) % 8);
+                CHECK(pic[0] >> 47 == (command == 4));
+                EXPECT(outb(0x20, 0), NONE);
+                EXPECT(outb(0x20, 0xc0 + lowest), NONE);
+                pic[0] |= 0xb3ULL << 24; /* lines 0, 1, 4, 5 and 7 in service */
+                EXPECT(outb(0x20, command << 5 | line), NONE);
+                unsigned ended = command == 1 || command == 5 ? first_after(lowest, 0xb3) : line;
+                CHECK((pic[0] >> 24 & 0xff) == (command & 1 ? 0xb3 & ~(1U << ended) : 0xb3));
+                CHECK((pic[0] >> 44 & 7) == ((command >= 5 ? ended : lowest) + 1) % 8);
+            }
+
+    start("rotation in automatic EOI mode");
+    EXPECT(sillwander_pic_new_rule(pic, 2), NONE);
+    EXPECT(outb(0x20, 0x80), NONE); /* on, but not yet in automatic EOI mode */
+    EXPECT(outb(0x21, 0), NONE);
+    EXPECT(claim(3), three(0x0b, 3, 1));
+    CHECK(pic[0] >> 44 == 8);
+    pic[0] |= 1ULL << 42;
+    EXPECT(outb(0x20, 0x20), NONE);
+    EXPECT(claim(3), three(0x0b, 3, 0));
+    CHECK(pic[0] >> 44 == 8 + 4);
+    EXPECT(claim(3), three(0x0b, 3, 0));
+    pic[1] = 0x10000; /* the slave's line 0 asks, at base 0 */
+    EXPECT(claim(4), three(0x0c, 4, 0));
+    EXPECT(pending(), three(0, 8, 2));
+    CHECK(pic[0] >> 44 == 8 + 3);
 }
 
 static void refusals_of_the_io_apic(void)
@@ -866,7 +923,7 @@ static uint64_t call(unsigned which)
     case 8: return sillwander_ioapic_handle_read(io, d % 2 ? io[27] + a % 32 : a, b);
     case 9: return sillwander_ioapic_handle_write(io, d % 2 ? io[27] + (a % 3 == 2 ? 0x40 : a % 3 * 16) : a, b, c);
     case 10: return sillwander_pic_new(pic);
-    case 11: return sillwander_pic_new_rule(pic, d % 4 == 0 ? c : d % 2);
+    case 11: return sillwander_pic_new_rule(pic, d % 4 == 0 ? c : d % 3);
     case 12: return sillwander_pic_port_ranges(ranges);
     case 13: return sillwander_pic_claim_irq(pic, a);
     case 14: return sillwander_pic_claim_pending_interrupt(pic);
@@ -944,10 +1001,11 @@ static uint64_t in_flight(void)
     return lines;
 }
 
-/* The 8259A's output, bit by bit: a request that isn't masked, above every line in service. */
-static int asks(uint64_t chip)
+/* The 8259A's output, bit by bit: a request that isn't masked, above every line in service; the lines from the highest on, going round. */
+static int asks(uint64_t chip, unsigned highest)
 {
-    for (unsigned line = 0; line < 8; line++) {
+    for (unsigned rank = 0; rank < 8; rank++) {
+        unsigned line = (highest + rank) % 8;
         if (chip >> (24 + line) & 1)
             return 0;
         if ((chip >> (16 + line) & 1) && !(chip >> (8 + line) & 1))
@@ -956,7 +1014,7 @@ static int asks(uint64_t chip)
     return 0;
 }
 
-/* By rule 1 a call that isn't refused leaves the master's request 2 as the slave's output is: one on a line, a write, a restore, and a claim of something. */
+/* By rules 1 and 2 a call that isn't refused leaves the master's request 2 as the slave's output is: one on a line, a write, a restore, and a claim of something. */
 static int the_cascade_is_settled(unsigned which, uint64_t code)
 {
     int claims = which == PIC_PENDING || which == PIC_PENDING + 2;
@@ -964,7 +1022,9 @@ static int the_cascade_is_settled(unsigned which, uint64_t code)
         return 1;
     if ((which == PIC_PENDING - 1 || which == PIC_PENDING + 1) && memcmp(pic, pic_lent.before, 32) == 0)
         return 1; /* a line that the pair hasn't, or nothing moved */
-    return pic[2] != 1 || (int)(pic[0] >> 18 & 1) == asks(pic[1]);
+    if (pic[2] != 1 && pic[2] != 2)
+        return 1;
+    return (int)(pic[0] >> 18 & 1) == asks(pic[1], pic[2] == 2 ? pic[1] >> 44 & 7 : 0);
 }
 
 static void made_up_words(void)
@@ -1054,6 +1114,7 @@ int main(void)
     masked_in_flight();
     versions();
     cascade_rule();
+    rotating_priorities();
     refusals_of_the_io_apic();
     refusals_of_the_pair();
     refusals_of_the_local_apic();

@@ -11,7 +11,7 @@ pub no-version : decoded 0x06 (0x12 ∷ []) ≡ Malformed
 unfolding decoded numberAt
 no-version = refl
 
-pub no-rule : decoded 0x16 (2 ∷ []) ≡ Malformed
+pub no-rule : decoded 0x16 (3 ∷ []) ≡ Malformed
 unfolding decoded numberAt
 no-rule = refl
 

@@ -85,7 +85,7 @@ picFormats =
       «master_in_service» = bit0 (n 2);
       «slave_in_service» = bit1 (n 2);
     })))
-    ∷ format 0x16 isRule (1 ∷ []) (λ n. PicRule (ruleIn (n 0)))  -- rule: 0 or 1
+    ∷ format 0x16 isRule (1 ∷ []) (λ n. PicRule (ruleIn (n 0)))  -- rule: 0, 1 or 2
     ∷ []
 
 -- the local APIC's

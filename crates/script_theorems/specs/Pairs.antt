@@ -1,5 +1,5 @@
 -- The pair in scripts (document 02, T-02): it has the rule that field 16 chooses, if there is one, to the script's end; after every field of every script it keeps that
--- rule; and by rule 1 no slave request that counts goes unheard there.
+-- rule; and by rules 1 and 2 no slave request that counts goes unheard there.
 use Prim.Native.Nat.{ℕ}
 use mathlib.Core.Bool.{true}
 use mathlib.Core.List.{List, [], _∷_}
@@ -31,11 +31,11 @@ PairRule =
 abbrev pub pairAfter : List ℕ → ℕ → PicState
 pairAfter s a = runOf s newMachine 0 a .machine .pic
 
--- it keeps its rule: by rule 1 the master's request 2 is set exactly when some slave request counts
+-- it keeps its rule: by rules 1 and 2 the master's request 2 is set exactly when some slave request counts
 abbrev pub PairKeeps : Type 0
 PairKeeps = (s : List ℕ) (a : ℕ) → Keeps (pairAfter s a)
 
--- so by rule 1, if a slave request counts there and nothing on the master stands before its line 2, a claim answers the slave's highest request that counts
+-- so by rules 1 and 2, if a slave request counts there and nothing on the master stands before its line 2, a claim answers the slave's highest request that counts
 abbrev pub SlaveHeardInScripts : Type 0
 SlaveHeardInScripts =
     (s : List ℕ) (a j : ℕ)

@@ -11,6 +11,7 @@ use Rattle.vioapic.specs.Table as table
 use Rattle.vioapic.specs.Registers as window
 use Rattle.vioapic.specs.IoApic as vioapic
 use Rattle.vioapic.specs.Calls as ioapic
+use Rattle.vpic_priority.specs.Ring as ring
 use Rattle.vpic_chip.specs.Chip as chip
 use Rattle.vpic.specs.Pair as pair
 use Rattle.reply_text.specs.Text.{decimalIn, replyText, line, badLine}
@@ -71,7 +72,7 @@ exampleText =
     ∷ []
 
 pub example-prints : printed example ≡ exampleText
-unfolding set.with set.without set.outside set.lowest set.highest set.lastSet32 chip.opened chip.commanded chip.fed chip.commandRead chip.pulsed chip.counts chip.pendingLine chip.pendingIrq chip.asks chip.driven chip.acknowledged chip.acknowledge chip.unacknowledged pair.newState pair.settled pair.latched pair.masterClaim pair.slaveClaim pair.claimPending pair.claimIrq pair.restored pair.portRead pair.writtenAt pair.portWritten newMachine machine.picOutcome machine.localOutcome performed numberAt decoded fieldAt fieldFor stepOf stepsText linesFrom printed line replyText decimalIn
+unfolding ring.firstRank ring.firstBy ring.above set.with set.without set.outside set.lowest set.highest set.lastSet32 chip.opened chip.commanded chip.fed chip.commandRead chip.pulsed chip.counts chip.pendingLine chip.pendingIrq chip.asks chip.driven chip.acknowledged chip.acknowledge chip.unacknowledged pair.newState pair.settled pair.latched pair.masterClaim pair.slaveClaim pair.claimPending pair.claimIrq pair.restored pair.portRead pair.writtenAt pair.portWritten newMachine machine.picOutcome machine.localOutcome performed numberAt decoded fieldAt fieldFor stepOf stepsText linesFrom printed line replyText decimalIn
 example-prints = refl
 
 -- lines 3 and 5 are held with one vector; only when line 3 is let go is line 5 heard
@@ -116,7 +117,7 @@ springText =
     ∷ []
 
 pub spring-prints : printed spring ≡ springText
-unfolding set.with set.without set.outside set.lowest set.highest set.lastSet32 redirection.sendEntry redirection.raiseEntry redirection.lowerEntry redirection.endEntry redirection.writeLow redirection.writeHigh table.interruptForEntry table.setLevel table.firstAwaiting table.endOfEntry table.endOf table.vectorFor window.readFixed window.readWord window.readSelected window.writeWord window.writeSelected window.readAt window.writeAt vioapic.assertGsi vioapic.setGsiLevel vioapic.endOfInterrupt vioapic.vectorForGsi vioapic.addressRange vioapic.handleRead vioapic.handleWrite ioapic.outcome ioapic.run newMachine machine.picOutcome machine.localOutcome performed numberAt decoded fieldAt fieldFor stepOf stepsText linesFrom printed line replyText decimalIn
+unfolding ring.firstRank ring.firstBy ring.above set.with set.without set.outside set.lowest set.highest set.lastSet32 redirection.sendEntry redirection.raiseEntry redirection.lowerEntry redirection.endEntry redirection.writeLow redirection.writeHigh table.interruptForEntry table.setLevel table.firstAwaiting table.endOfEntry table.endOf table.vectorFor window.readFixed window.readWord window.readSelected window.writeWord window.writeSelected window.readAt window.writeAt vioapic.assertGsi vioapic.setGsiLevel vioapic.endOfInterrupt vioapic.vectorForGsi vioapic.addressRange vioapic.handleRead vioapic.handleWrite ioapic.outcome ioapic.run newMachine machine.picOutcome machine.localOutcome performed numberAt decoded fieldAt fieldFor stepOf stepsText linesFrom printed line replyText decimalIn
 spring-prints = refl
 
 -- an empty script prints nothing, and one byte is a bad field

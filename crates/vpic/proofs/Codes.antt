@@ -1,6 +1,6 @@
 -- A claim is read back from its number, an answer is known by its reply, and the pair by its words. Assumes nothing.
 use mathlib.Core.Path.{_≡_, refl, sym, ap, _∙_}
-use mathlib.Core.Bool.{Bool, true, false}
+use mathlib.Core.Bool.{Bool, true, false, cond}
 use mathlib.Core.List.{List, [], _∷_}
 use Prim.Native.Nat.{ℕ, _+_, _*_, _/_, _%_, _^_, _<_, _≤_}
 use native.Mathlib.Omega.{arith}
@@ -16,7 +16,8 @@ use Rattle.types.proofs.Replies.{outcome-same}
 use Rattle.vpic_chip.specs.declared.PicVector.{PicVector}
 use Rattle.vpic_chip.specs.declared.PicVector.the-variants.{Given, Nothing as NoVector}
 use Rattle.vpic_chip.specs.Chip.{vectorReply}
-use Rattle.vpic_chip.proofs.Packing.{word-same}
+use Rattle.vpic_chip.specs.Registers.{chipIn, fullIn}
+use Rattle.vpic_chip.proofs.Packing.{word-same, full-word-same}
 use Rattle.vpic_chip.proofs.Laws.{vector-reply-same}
 use Rattle.vpic.specs.declared.PicClaim.{PicClaim}
 use Rattle.vpic.specs.declared.PicClaim.the-variants.{Claimed, Nothing as NoClaim}
@@ -24,7 +25,7 @@ use Rattle.vpic.specs.declared.PicDone.{PicDone}
 use Rattle.vpic.specs.declared.PicDone.the-variants.{Done, Refused}
 use Rattle.vpic.specs.declared.PicValue.{PicValue}
 use Rattle.vpic.specs.declared.PicValue.the-variants.{Value, Refused as NotRead}
-use Rattle.vpic.specs.Words.{PicState, view}
+use Rattle.vpic.specs.Words.{PicState, chipBy, view}
 use Rattle.vpic.specs.Claim.{claimIn}
 use Rattle.vpic.specs.Pair.{claimOf, claimReply, doneReply, valueReply, claimOutcome, vectorOutcome, doneOutcome, valueOutcome}
 
@@ -70,12 +71,19 @@ none-kept a l m s e = rw e
 
 -- ---- a pair has one set of words: no word but those of the view
 
+chip-same : (rule v w : ℕ) → chipBy rule v ≡ chipBy rule w → v ≡ w
+chip-same rule v w = go (eqb rule 2)
+  where
+    go : (b : Bool) → cond b (fullIn v) (chipIn v) ≡ cond b (fullIn w) (chipIn w) → v ≡ w
+    go true q = full-word-same v w q
+    go false q = word-same v w q
+
 pub words-same : (l m : List ℕ) → length l ≡ 4 → length m ≡ 4 → view l ≡ view m → l ≡ m
 unfolding view
 words-same (a ∷ b ∷ c ∷ d ∷ []) (e ∷ f ∷ g ∷ h ∷ []) p q s =
-    let x : a ≡ e = word-same a e (ap (λ (r : PicState). r .master) s) in
-    let y : b ≡ f = word-same b f (ap (λ (r : PicState). r .slave) s) in
     let z : c ≡ g = ap (λ (r : PicState). r .rule) s in
+    let x : a ≡ e = chip-same c a e (ap (λ (r : PicState). r .master) s ∙ ap (λ (n : ℕ). chipBy n e) (sym z)) in
+    let y : b ≡ f = chip-same c b f (ap (λ (r : PicState). r .slave) s ∙ ap (λ (n : ℕ). chipBy n f) (sym z)) in
     let w : d ≡ h = ap (λ (r : PicState). r .spare) s in
     λ i. x i ∷ y i ∷ z i ∷ w i ∷ []
 words-same [] m p q s = absurd (omega arith)

@@ -22,18 +22,18 @@ use Rattle.vpic_chip.specs.declared.PicChip.{PicChip}
 use Rattle.vpic_chip.specs.declared.PendingIrq.{PendingIrq}
 use Rattle.vpic_chip.specs.declared.PendingIrq.the-variants.{Irq, Nothing}
 use Rattle.vpic_chip.specs.declared.PicVector.{PicVector}
-use Rattle.vpic_chip.specs.declared.PicVector.the-variants.{Given, Nothing as NoVector}
-use Rattle.vpic_chip.specs.Registers.{Chip, chipIn}
+use Rattle.vpic_chip.specs.declared.PicVector.the-variants.{Given}
+use Rattle.vpic_chip.specs.Registers.{Chip, chipIn, asFull}
 use Rattle.vpic_chip.specs.Chip.{pulsed, asks, cascadeIrq, driven, pendingLine, pendingIrq, acknowledged, acknowledge, unacknowledged, commanded, fed, commandRead, opened, vectorReply}
 use Rattle.vpic_chip.proofs.Laws.{asks-none, counted-idle, vector-reply-same}
 use Rattle.vpic.specs.declared.PicRule.{PicRule}
-use Rattle.vpic.specs.declared.PicRule.the-variants.{Latch, Cascade}
+use Rattle.vpic.specs.declared.PicRule.the-variants.{Latch, Cascade, Full}
 use Rattle.vpic.specs.declared.PicInterruptClaim.{PicInterruptClaim}
 use Rattle.vpic.specs.declared.PicClaim.{PicClaim}
 use Rattle.vpic.specs.declared.PicClaim.the-variants.{Nothing as NoClaim}
 use Rattle.vpic.specs.declared.PicValue.the-variants.{Value}
 use Rattle.vpic.specs.declared.PicDone.the-variants.{Done, Refused}
-use Rattle.vpic.specs.Words.{PicState, view}
+use Rattle.vpic.specs.Words.{PicState, plainView, view}
 use Rattle.vpic.specs.Pair.{ruleNumber, ruleIn, drives, chips, isCascade, settled, Keeps, isPlace, latchedAt, Latched, latched, StateClaim, stateClaim, grew, claimOf, masterClaim, slaveClaim, pendingPlace, claimAt, claimPending, claimIrq, restoredAt, restored, restoreInterrupt, Port, master-command, master-data, slave-command, slave-data, no-port, portAt, isThere, writtenTo, Written, writtenAt, isPort, portWritten, handleWrite, portRead, newState, claimVector, withClaim, withVector, claimOutcome, vectorOutcome, doneOutcome}
 use Rattle.vpic.specs.Claim.{masterTaken, slaveTaken, takenAt, isQuiet}
 use Rattle.vpic.proofs.Ready.{ready-master, ready-slave, low-slave}
@@ -41,13 +41,13 @@ use Rattle.vpic.proofs.Settled.{settled-kept, settled-twice, master-lea
 
 -- ---- the words
 
-pub master-set : (l : List ℕ) (w : ℕ) → length l ≡ 4 → view (set l 0 w) ≡ chips (view l) (chipIn w) (view l .slave)
-unfolding view
+pub master-set : (l : List ℕ) (w : ℕ) → length l ≡ 4 → plainView (set l 0 w) ≡ chips (plainView l) (chipIn w) (plainView l .slave)
+unfolding plainView
 master-set [] w h = absurd (omega arith)
 master-set (x ∷ l) w h = refl
 
-pub slave-set : (l : List ℕ) (w : ℕ) → length l ≡ 4 → view (set l 1 w) ≡ chips (view l) (view l .master) (chipIn w)
-unfolding view
+pub slave-set : (l : List ℕ) (w : ℕ) → length l ≡ 4 → plainView (set l 1 w) ≡ chips (plainView l) (plainView l .master) (chipIn w)
+unfolding plainView
 slave-set [] w h = absurd (omega arith)
 slave-set (x ∷ []) w h = absurd (omega arith)
 slave-set (x ∷ y ∷ l) w h = refl
@@ -61,7 +61,12 @@ new-done [] m s n rule h em es en = absurd (omega arith)
 new-done (x ∷ []) m s n rule h em es en = absurd (omega arith)
 new-done (x ∷ y ∷ []) m s n rule h em es en = absurd (omega arith)
 new-done (x ∷ y ∷ z ∷ []) m s n rule h em es en = absurd (omega arith)
-new-done (x ∷ y ∷ z ∷ u ∷ l) m s n rule h em es en = λ i. record { rule = en i; master = em i; slave = es i; spare = 0 }
+new-done (x ∷ y ∷ z ∷ u ∷ l) m s n Latch h em es en =
+    λ i. record { rule = en i; master = cond (eqb (en i) 2) (asFull (em i)) (em i); slave = cond (eqb (en i) 2) (asFull (es i)) (es i); spare = 0 }
+new-done (x ∷ y ∷ z ∷ u ∷ l) m s n Cascade h em es en =
+    λ i. record { rule = en i; master = cond (eqb (en i) 2) (asFull (em i)) (em i); slave = cond (eqb (en i) 2) (asFull (es i)) (es i); spare = 0 }
+new-done (x ∷ y ∷ z ∷ u ∷ l) m s n Full h em es en =
+    λ i. record { rule = en i; master = cond (eqb (en i) 2) (asFull (em i)) (em i); slave = cond (eqb (en i) 2) (asFull (es i)) (es i); spare = 0 }
 
 -- the rule that drives line 2
 pub cascade-not : (p : PicState) (r : PicRule) → r ≡ ruleIn (p .rule) → r ≡ Latch → false ≡ isCascade p
@@ -69,6 +74,9 @@ cascade-not p r e f = ap drives (sym f ∙ e)
 
 pub cascade-is : (p : PicState) (r : PicRule) → r ≡ ruleIn (p .rule) → r ≡ Cascade → true ≡ isCascade p
 cascade-is p r e f = ap drives (sym f ∙ e)
+
+pub cascade-full : (p : PicState) (r : PicRule) → r ≡ ruleIn (p .rule) → r ≡ Full → true ≡ isCascade p
+cascade-full p r e f = ap drives (sym f ∙ e)
 
 -- ---- settling and latching
 
@@ -254,17 +262,15 @@ module _ (p q : PicState) (l : PicLine) (a : PicPlace) (b : Bool) (ea : a ≡ pl
   unfolding claimIrq latched
   irq-some r x n er ex = ex ∙ taken-kept r (settled-twice q r er) ∙ ap claimPending (er ∙ ap settled (e .state ∙ ap (latchedAt p) ea)) ∙ rw (there ∙ not-false b n)
 
+  pub irq-claimed : (r : PicState) (x : StateClaim) → not b ≡ false → r ≡ settled q → x ≡ claimPending r → x ≡ claimIrq p l
+  unfolding claimIrq latched
+  irq-claimed r x n er ex = ex ∙ ap claimPending (er ∙ ap settled (e .state ∙ ap (latchedAt p) ea)) ∙ rw (there ∙ not-false b n)
+
 -- where the master doesn't ask, nothing is claimed, and the pair is settled too
 module _ (p q : PicState) (m : Chip) (b : Bool) (em : m ≡ p .master) (eb : b ≡ asks m) (n : not b ≡ true) (eq : q ≡ settled p) where
-  unasked : stateClaim q NoClaim ≡ claimPending p
+  pub unasked : stateClaim q NoClaim ≡ claimPending p
   unfolding claimPending pendingIrq asks
   unasked = let a : asks (p .master) ≡ b = ap asks (sym em) ∙ sym eb in ap (λ (x : PicState). stateClaim x NoClaim) eq ∙ rw (a ∙ not-true b n)
-
-  pub unasked-reply : claimOutcome q NoClaim ≡ withClaim (claimPending p)
-  unasked-reply = ap withClaim unasked
-
-  pub unasked-vector : vectorOutcome q NoVector ≡ withVector (claimPending p)
-  unasked-vector = ap withVector unasked
 
 -- where nothing is requested, the master doesn't ask, and nothing is left to settle
 module _ (p : PicState) (b : Bool) (eb : b ≡ isQuiet p) (t : b ≡ true) where
@@ -277,16 +283,10 @@ module _ (p : PicState) (b : Bool) (eb : b ≡ isQuiet p) (t : b ≡ true) where
       let s : p .slave .request ≡ 0 = omega (arith, none-asked) in
       ap (λ (n : ℕ). bit n 2) m ∙ asks-none (p .slave) (p .slave .request) refl s
 
-  quiet : stateClaim p NoClaim ≡ claimPending p
+  pub quiet : stateClaim p NoClaim ≡ claimPending p
   quiet =
       let m : p .master .request ≡ 0 = omega (arith, none-asked) in
       unasked p p (p .master) (asks (p .master)) refl refl (ap not (sym (asks-none (p .master) (p .master .request) refl m))) (sym (settled-kept p quiet-kept))
-
-  pub quiet-reply : claimOutcome p NoClaim ≡ withClaim (claimPending p)
-  quiet-reply = ap withClaim quiet
-
-  pub quiet-vector : vectorOutcome p NoVector ≡ withVector (claimPending p)
-  quiet-vector = ap withVector quiet
 
 pub quiet-is : (p : PicState) (m s : Chip) (a b : ℕ) → m ≡ p .master → s ≡ p .slave → a ≡ m .request → b ≡ s .request → eqb (a + b) 0 ≡ isQuiet p
 quiet-is p m s a b em es ea eb = ap₂ (λ (x y : ℕ). eqb (x + y) 0) (ea ∙ ap (λ (c : Chip). c .request) em) (eb ∙ ap (λ (c : Chip). c .request) es)
@@ -310,12 +310,13 @@ module _ (p q : PicState) (c d : PicClaim) (e : d ≡ c) where
 pub restore-out : (p : PicState) (c : PicInterruptClaim) → 16 ≤ c .irq .0 → doneOutcome p (Refused OutOfRange) ≡ restoreInterrupt p c
 restore-out p c l = search cases
 
-pub restore-done : (p q r : PicState) (c : PicInterruptClaim) (x : PicPlace) → c .irq .0 < 16 → x ≡ placeOf (c .irq) → q ≡ restoredAt p x (c .«master_in_service») (c .«slave_in_service») → r ≡ settled q
-    → doneOutcome r Done ≡ restoreInterrupt p c
+pub restore-way : (p q r : PicState) (c : PicInterruptClaim) (x : PicPlace) → x ≡ placeOf (c .irq) → q ≡ restoredAt p x (c .«master_in_service») (c .«slave_in_service») → r ≡ settled q
+    → r ≡ restored p c
 unfolding restored
-restore-done p q r c x l ex eq er =
-    ap (λ (s : PicState). doneOutcome s Done) (er ∙ ap settled (eq ∙ ap (λ (y : PicPlace). restoredAt p y (c .«master_in_service») (c .«slave_in_service»)) ex))
-    ∙ rw (lt-ltb (c .irq .0) 16 l)
+restore-way p q r c x ex eq er = er ∙ ap settled (eq ∙ ap (λ (y : PicPlace). restoredAt p y (c .«master_in_service») (c .«slave_in_service»)) ex)
+
+pub restore-done : (p r : PicState) (c : PicInterruptClaim) → c .irq .0 < 16 → r ≡ restored p c → doneOutcome r Done ≡ restoreInterrupt p c
+restore-done p r c l er = ap (λ (s : PicState). doneOutcome s Done) er ∙ rw (lt-ltb (c .irq .0) 16 l)
 
 -- ---- the ports
 
@@ -343,23 +344,28 @@ write-none p port v a b c d = record {
   known = rw (ne-eqb port 0x20 a, ne-eqb port 0x21 b, ne-eqb port 0xa0 c, ne-eqb port 0xa1 d);
 }
 
-module _ (p q : PicState) (port width value : ℕ) (b : Bool) (w : width ≡ 1) (e : Written p q port (value % 256) b) where
-  pub write-out : not b ≡ true → doneOutcome q (Refused Unsupported) ≡ handleWrite p port width value
+module _ (p q : PicState) (port byte : ℕ) (b : Bool) (e : Written p q port byte b) where
+  pub write-not : not b ≡ true → q ≡ p
   unfolding writtenAt
-  write-out n =
-      let f : isPort port ≡ false = sym (e .known) ∙ not-true b n in
-      rw (w, f) (ap (λ (s : PicState). doneOutcome s (Refused Unsupported)) (e .state ∙ go (portAt port) f))
+  write-not n = e .state ∙ go (portAt port) (sym (e .known) ∙ not-true b n)
     where
-      go : (a : Port) → isThere a ≡ false → writtenTo p a (value % 256) ≡ p
+      go : (a : Port) → isThere a ≡ false → writtenTo p a byte ≡ p
       go master-command f = never refl f
       go master-data f = never refl f
       go slave-command f = never refl f
       go slave-data f = never refl f
       go no-port f = refl
 
-  pub write-done : (r : PicState) → not b ≡ false → r ≡ settled q → doneOutcome r Done ≡ handleWrite p port width value
+  pub write-settled : (r : PicState) → r ≡ settled q → r ≡ portWritten p port byte
   unfolding portWritten
-  write-done r n er = rw (w, sym (e .known) ∙ not-false b n) (ap (λ (s : PicState). doneOutcome s Done) (er ∙ ap settled (e .state)))
+  write-settled r er = er ∙ ap settled (e .state)
+
+module _ (p q : PicState) (port width value : ℕ) (b : Bool) (w : width ≡ 1) (known : b ≡ isPort port) where
+  pub write-out : b ≡ false → q ≡ p → doneOutcome q (Refused Unsupported) ≡ handleWrite p port width value
+  write-out n e = rw (w, sym known ∙ n) (ap (λ (s : PicState). doneOutcome s (Refused Unsupported)) e)
+
+  pub write-done : b ≡ true → q ≡ portWritten p port (value % 256) → doneOutcome q Done ≡ handleWrite p port width value
+  write-done n e = rw (w, sym known ∙ n) (ap (λ (s : PicState). doneOutcome s Done) e)
 
 module _ (p : PicState) (port v : ℕ) (m : Chip) where
   pub read-master-command : port ≡ 0x20 → m ≡ p .master → v ≡ commandRead m → Value v ≡ portRead p port

@@ -4,6 +4,7 @@ use mathlib.Core.Bool.{true, false}
 use mathlib.Core.List.{List, [], _∷_}
 use mathlib.Core.Path.{refl}
 use Rattle.utils.specs.Set.{with, without, outside, lowest}
+use Rattle.vpic_priority.specs.Ring.{above, firstRank, firstBy}
 use Rattle.types.specs.declared.PicLine.{PicLine}
 use Rattle.types.specs.Reply.{flag, replyValues}
 use Rattle.types.specs.Departure.{Departure, Shown}
@@ -86,5 +87,5 @@ departures =
     ∷ []
 
 pub departures-hold : Shown departures
-unfolding departures opened commanded fed commandRead pulsed counts pendingLine pendingIrq acknowledged acknowledge asks driven newState settled latched masterClaim slaveClaim claimPending claimIrq portWritten writtenAt with without outside lowest
+unfolding firstRank firstBy above departures opened commanded fed commandRead pulsed counts pendingLine pendingIrq acknowledged acknowledge asks driven newState settled latched masterClaim slaveClaim claimPending claimIrq portWritten writtenAt with without outside lowest
 departures-hold = ((refl, refl), ((refl, refl), ((refl, refl), ((refl, refl), ((refl, refl), ((refl, refl), ((refl, refl), ((refl, refl), ((refl, refl), ((refl, refl), ((refl, refl), ((refl, refl), ((refl, refl), ((refl, refl), ((refl, refl), ((refl, refl), ((refl, refl), ((refl, refl), ((refl, refl), ((refl, refl), ((refl, refl), ((refl, refl), tt))))))))))))))))))))))

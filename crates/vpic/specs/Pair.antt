@@ -1,8 +1,8 @@
 -- The PC's two 8259A chips. Cascade mode: the slave hangs on the master's line 2, and an acknowledgement of that line is answered by the slave. The interrupt
 -- sequence; the four ports. Departures from the data sheet are marked D-nn and stand in docs/DIFFERENCES.md. By rule 1 (document 02,
--- T-02) the slave's output drives the master's line 2, as in the data sheet but for D-18; by rule 0, the Rust's, it doesn't (D-13).
+-- T-02) the slave's output drives the master's line 2, as in the data sheet but for D-18; by rule 0, the Rust's, it doesn't (D-13). By rule 2 (T-04) it does, and the chips take rotation.
 use Prim.Native.Nat.{ℕ, _+_, _*_, _/_, _%_}
-use mathlib.Core.Bool.{Bool, true, false, not, cond, _||_}
+use mathlib.Core.Bool.{Bool, true, false, not, cond}
 use mathlib.Core.Path.{_≡_}
 use lib.Dec.{ltb, eqb}
 use Rattle.utils.specs.Set.{bit, outside}
@@ -20,10 +20,10 @@ use Rattle.vpic_chip.specs.declared.PendingIrq.{PendingIrq}
 use Rattle.vpic_chip.specs.declared.PendingIrq.the-variants.{Irq, Nothing}
 use Rattle.vpic_chip.specs.declared.PicVector.{PicVector}
 use Rattle.vpic_chip.specs.declared.PicVector.the-variants.{Given, Nothing as NoVector}
-use Rattle.vpic_chip.specs.Registers.{Chip}
+use Rattle.vpic_chip.specs.Registers.{Chip, asFull}
 use Rattle.vpic_chip.specs.Chip.{opened, commanded, fed, commandRead, pulsed, asks, cascadeIrq, driven, pendingIrq, acknowledged, unacknowledged, vectorReply}
 use Rattle.vpic.specs.declared.PicRule.{PicRule}
-use Rattle.vpic.specs.declared.PicRule.the-variants.{Latch, Cascade}
+use Rattle.vpic.specs.declared.PicRule.the-variants.{Latch, Cascade, Full}
 use Rattle.vpic.specs.declared.PicInterruptClaim.{PicInterruptClaim}
 use Rattle.vpic.specs.declared.PicClaim.{PicClaim}
 use Rattle.vpic.specs.declared.PicClaim.the-variants.{Claimed, Nothing as NoClaim}
@@ -38,33 +38,41 @@ use Rattle.vpic.specs.Words.{PicState}
 abbrev pub chips : PicState → Chip → Chip → PicState
 chips p m s = record { rule = p .rule; master = m; slave = s; spare = p .spare }
 
--- ---- the two rules
+-- ---- the three rules
 
--- the rules by number: in the pair's words any number but 1 is rule 0
+-- the rules by number: in the pair's words any number but 1 and 2 is rule 0
 abbrev pub ruleNumber : PicRule → ℕ
 ruleNumber Latch = 0
 ruleNumber Cascade = 1
+ruleNumber Full = 2
 
 abbrev pub ruleIn : ℕ → PicRule
-ruleIn n = cond (eqb n 1) Cascade Latch
+ruleIn n = cond (eqb n 1) Cascade (cond (eqb n 2) Full Latch)
 
 -- the numbers that a rule has
 abbrev pub isRule : ℕ → Bool
-isRule n = eqb n 0 || eqb n 1
+isRule n = ltb n 3
 
 -- whether the slave's output drives the master's line 2
 abbrev pub drives : PicRule → Bool
 drives Latch = false
 drives Cascade = true
+drives Full = true
+
+-- a chip of a pair of this rule: rule 2 is the full 8259A profile
+abbrev pub ofRule : PicRule → Chip → Chip
+ofRule Latch c = c
+ofRule Cascade c = c
+ofRule Full c = asFull c
 
 abbrev pub isCascade : PicState → Bool
 isCascade p = drives (ruleIn (p .rule))
 
 -- a new pair of a rule, with the bases that the PC's BIOS gives them (the slave's is 0x70)
 unfoldable pub newState : PicRule → PicState
-newState rule = record { rule = ruleNumber rule; master = opened 0x08; slave = opened 0x70; spare = 0 }
+newState rule = record { rule = ruleNumber rule; master = ofRule rule (opened 0x08); slave = ofRule rule (opened 0x70); spare = 0 }
 
--- what ends every call that isn't refused, but a read and a claim of a line that isn't there. Rule 1: the slave's output drives the master's line 2.
+-- what ends every call that isn't refused, but a read and a claim of a line that isn't there. Rules 1 and 2: the slave's output drives the master's line 2.
 -- D-18: request 2 stands again straight after the master's ICW1, which resets the edge sense in the data sheet. D-13, rule 0: the output drives no line: request 2 is a
 -- latch, set by a slave's edge and cleared by an acknowledgement, so that nothing is left to do
 unfoldable pub settled : PicState → PicState

@@ -6,13 +6,14 @@
 
 ghost use mathlib.Core.Path.{_≡_};
 ghost use mathlib.Core.Bool.{not};
+ghost use Prim.Native.Nat.{_%_};
 ghost use Rattle.types.specs.Counters.{placeOf};
 ghost use Rattle.types.specs.declared.PicPlace.the-variants as place;
-ghost use Rattle.vpic_chip.specs.Registers.{chipIn};
-ghost use Rattle.vpic.specs.Words.{view};
+ghost use Rattle.vpic_chip.specs.Registers.{chipIn, fullIn};
+ghost use Rattle.vpic.specs.Words.{isFull, plainView, fullView, view};
 ghost use Rattle.vpic.specs.Claim.{claimIn, masterTaken, slaveTaken, takenAt, isQuiet};
 ghost use Rattle.vpic.specs.declared.PicRule.the-variants as rules;
-ghost use Rattle.vpic.specs.Pair.{ruleIn, ruleNumber, isRule, chips, isCascade, settled, Latched, stateClaim, claimOf, slaveClaim, pendingPlace, claimPending, claimIrq, restoredAt, portRead, Written, claimFlags, claimReply, claimVector, doneReply, valueReply, withClaim, withVector, claimOutcome, vectorOutcome, doneOutcome, valueOutcome, newState, portRanges, restoreInterrupt, handleRead, handleWrite};
+ghost use Rattle.vpic.specs.Pair.{ruleIn, ruleNumber, isRule, chips, isCascade, settled, Latched, stateClaim, claimOf, slaveClaim, pendingPlace, claimPending, claimIrq, restoredAt, portRead, Written, isPort, portWritten, claimFlags, claimReply, claimVector, doneReply, valueReply, withClaim, withVector, claimOutcome, vectorOutcome, doneOutcome, valueOutcome, newState, portRanges, restoreInterrupt, handleRead, handleWrite};
 use types::PicLine;
 use types::PicPlace;
 use types::Refusal;
@@ -33,12 +34,14 @@ pub const SLAVE_COMMAND: u16 = 0xa0;
 
 pub const SLAVE_DATA: u16 = 0xa1;
 
-// What the slave's output does to the master's line 2.
+// What the slave's output does to the master's line 2, and whether the chips take rotation.
 pub enum PicRule {
     // Nothing: the Rust's rule, number 0. A slave's edge sets the line's request, and an acknowledgement clears it.
     Latch,
     // It drives it: the 8259A's, number 1.
     Cascade,
+    // It drives it, and the chips take rotation: the full 8259A profile, number 2.
+    Full,
 }
 
 // A pending legacy PIC interrupt removed from the requests for delivery. It can be restored where its vector couldn't be published.
@@ -83,18 +86,18 @@ impl PicRule {
     pub fn is_number(number: u64) -> bool
         ensures { λ r. ⌜ r ≡ isRule number ⌝ }
     {
-        if number == 0 {
-            return true;
-        }
-        number == 1
+        number < 3
     }
 
-    // The rule of a number: any but 1 is the Rust's.
+    // The rule of a number: any but 1 and 2 is the Rust's.
     pub fn from_number(number: u64) -> Self
         ensures { λ r. ⌜ r ≡ ruleIn number ⌝ }
     {
         if number == 1 {
             return PicRule::Cascade;
+        }
+        if number == 2 {
+            return PicRule::Full;
         }
         PicRule::Latch
     }
@@ -105,6 +108,7 @@ impl PicRule {
         match self {
             PicRule::Latch => 0,
             PicRule::Cascade => 1,
+            PicRule::Full => 2,
         }
     }
 }
@@ -229,42 +233,49 @@ impl Claim {
 // ---- The words. Nothing below looks into them.
 
 fn is_cascade(words: &[u64; 4]) -> bool
-    ensures { λ r. ⌜ r ≡ isCascade (view (now (words .entry))) ⌝ }
+    ensures { λ r. ⌜ r ≡ isCascade (plainView (now (words .entry))) ⌝ }
 {
     match rule(words) {
         PicRule::Latch => false,
         PicRule::Cascade => true,
+        PicRule::Full => true,
     }
 }
 
-// The pair's registers: the two chips, and which rule it follows.
+fn is_full(words: &[u64; 4]) -> bool
+    ensures { λ r. ⌜ r ≡ isFull (view (now (words .entry)) .rule) ⌝ }
+{
+    words[2] == 2
+}
+
+// The pair's registers: the two chips, which look the same in every profile, and which rule it follows.
 pub fn master(words: &[u64; 4]) -> PicChip
-    ensures { λ r. ⌜ chipIn (r .0) ≡ view (now (words .entry)) .master ⌝ }
+    ensures { λ r. ⌜ chipIn (r .0) ≡ plainView (now (words .entry)) .master ⌝ }
 {
     PicChip(words[0])
 }
 
 pub fn slave(words: &[u64; 4]) -> PicChip
-    ensures { λ r. ⌜ chipIn (r .0) ≡ view (now (words .entry)) .slave ⌝ }
+    ensures { λ r. ⌜ chipIn (r .0) ≡ plainView (now (words .entry)) .slave ⌝ }
 {
     PicChip(words[1])
 }
 
 pub fn rule(words: &[u64; 4]) -> PicRule
-    ensures { λ r. ⌜ r ≡ ruleIn (view (now (words .entry)) .rule) ⌝ }
+    ensures { λ r. ⌜ r ≡ ruleIn (plainView (now (words .entry)) .rule) ⌝ }
 {
     PicRule::from_number(words[2])
 }
 
 fn set_master(words: &mut [u64; 4], chip: PicChip)
-    ensures { λ _. ⌜ view (now (words .exit)) ≡ chips (view (now (words .entry))) (chipIn (chip .0)) (view (now (words .entry)) .slave) ⌝ }
+    ensures { λ _. ⌜ plainView (now (words .exit)) ≡ chips (plainView (now (words .entry))) (chipIn (chip .0)) (plainView (now (words .entry)) .slave) ⌝ }
 {
     seen(&*words);
     words[0] = chip.0;
 }
 
 fn set_slave(words: &mut [u64; 4], chip: PicChip)
-    ensures { λ _. ⌜ view (now (words .exit)) ≡ chips (view (now (words .entry))) (view (now (words .entry)) .master) (chipIn (chip .0)) ⌝ }
+    ensures { λ _. ⌜ plainView (now (words .exit)) ≡ chips (plainView (now (words .entry))) (plainView (now (words .entry)) .master) (chipIn (chip .0)) ⌝ }
 {
     seen(&*words);
     words[1] = chip.0;
@@ -310,7 +321,7 @@ pub fn port_ranges() -> PortRanges
 
 // Every call that isn't refused ends so, but a read and a claim of a line that isn't there: by the cascade rule the master's request 2 follows the slave's output.
 fn settle(words: &mut [u64; 4])
-    ensures { λ _. ⌜ view (now (words .exit)) ≡ settled (view (now (words .entry))) ⌝ }
+    ensures { λ _. ⌜ plainView (now (words .exit)) ≡ settled (plainView (now (words .entry))) ⌝ }
 {
     if !is_cascade(&*words) {
         return;
@@ -328,7 +339,7 @@ fn settle(words: &mut [u64; 4])
 
 // An edge on a line of one of the chips; whether the pair has that line.
 fn latch(words: &mut [u64; 4], place: PicPlace) -> bool
-    ensures { λ r. ⌜ Latched (view (now (words .entry))) (view (now (words .exit))) place r ⌝ }
+    ensures { λ r. ⌜ Latched (plainView (now (words .entry))) (plainView (now (words .exit))) place r ⌝ }
 {
     match place {
         PicPlace::Master(k) => {
@@ -349,7 +360,7 @@ fn latch(words: &mut [u64; 4], place: PicPlace) -> bool
 
 // Whose line a claim takes: one of the master's, or one of the slave's through the master's line 2.
 fn pending_place(words: &[u64; 4]) -> PicPlace
-    ensures { λ r. ⌜ r ≡ pendingPlace (view (now (words .entry))) ⌝ }
+    ensures { λ r. ⌜ r ≡ pendingPlace (plainView (now (words .entry))) ⌝ }
 {
     let PendingIrq::Irq(master_irq) = master(words).pending_irq() else {
         return PicPlace::Nowhere;
@@ -365,8 +376,8 @@ fn pending_place(words: &[u64; 4]) -> PicPlace
 
 // The master answers for one of its lines; the pair isn't settled yet.
 fn take_master(words: &mut [u64; 4], irq: PicLine) -> Claim
-    requires { ⌜ pendingPlace (view (now words)) ≡ place.Master irq ⌝ }
-    ensures { λ r. ⌜ stateClaim (view (now (words .exit))) (claimIn (r .0)) ≡ masterTaken (view (now (words .entry))) irq ⌝ }
+    requires { ⌜ pendingPlace (plainView (now words)) ≡ place.Master irq ⌝ }
+    ensures { λ r. ⌜ stateClaim (plainView (now (words .exit))) (claimIn (r .0)) ≡ masterTaken (plainView (now (words .entry))) irq ⌝ }
 {
     let first = master(&*words);
     let taken = first.acknowledge(irq);
@@ -377,8 +388,8 @@ fn take_master(words: &mut [u64; 4], irq: PicLine) -> Claim
 
 // The slave answers for one of its lines, through the master's line 2.
 fn take_slave(words: &mut [u64; 4], irq: PicLine) -> Claim
-    requires { ⌜ pendingPlace (view (now words)) ≡ place.Slave irq ⌝ }
-    ensures { λ r. ⌜ stateClaim (view (now (words .exit))) (claimIn (r .0)) ≡ slaveTaken (view (now (words .entry))) irq ⌝ }
+    requires { ⌜ pendingPlace (plainView (now words)) ≡ place.Slave irq ⌝ }
+    ensures { λ r. ⌜ stateClaim (plainView (now (words .exit))) (claimIn (r .0)) ≡ slaveTaken (plainView (now (words .entry))) irq ⌝ }
 {
     let first = master(&*words);
     let second = slave(&*words);
@@ -398,8 +409,8 @@ fn take_slave(words: &mut [u64; 4], irq: PicLine) -> Claim
 // A slave's line that goes into service leaves nothing to settle: no other of the slave's lines counts then. Where one call stands in two arms of a test, both say the
 // same: the compiler then knows the claim's flags.
 fn claim_slave(words: &mut [u64; 4], irq: PicLine) -> Claim
-    requires { ⌜ pendingPlace (view (now words)) ≡ place.Slave irq ⌝ }
-    ensures { λ r. ⌜ stateClaim (view (now (words .exit))) (claimIn (r .0)) ≡ slaveClaim (view (now (words .entry))) irq ⌝ }
+    requires { ⌜ pendingPlace (plainView (now words)) ≡ place.Slave irq ⌝ }
+    ensures { λ r. ⌜ stateClaim (plainView (now (words .exit))) (claimIn (r .0)) ≡ slaveClaim (plainView (now (words .entry))) irq ⌝ }
 {
     if slave(&*words).auto_eoi() {
         let taken = take_slave(&mut *words, irq);
@@ -414,7 +425,7 @@ fn claim_slave(words: &mut [u64; 4], irq: PicLine) -> Claim
 
 // What can be delivered is taken. A master's line is taken without settling the pair.
 fn take(words: &mut [u64; 4]) -> Claim
-    ensures { λ r. ⌜ stateClaim (view (now (words .exit))) (claimIn (r .0)) ≡ takenAt (view (now (words .entry))) (pendingPlace (view (now (words .entry)))) ⌝ }
+    ensures { λ r. ⌜ stateClaim (plainView (now (words .exit))) (claimIn (r .0)) ≡ takenAt (plainView (now (words .entry))) (pendingPlace (plainView (now (words .entry)))) ⌝ }
 {
     match pending_place(&*words) {
         PicPlace::Master(k) => take_master(&mut *words, k),
@@ -423,16 +434,16 @@ fn take(words: &mut [u64; 4]) -> Claim
     }
 }
 
-// Whether no line of either chip is requested: then nothing can be claimed, and by either rule nothing is left to settle.
+// Whether no line of either chip is requested: then nothing can be claimed, and by no rule is anything left to settle.
 fn is_quiet(words: &[u64; 4]) -> bool
-    ensures { λ r. ⌜ r ≡ isQuiet (view (now (words .entry))) ⌝ }
+    ensures { λ r. ⌜ r ≡ isQuiet (plainView (now (words .entry))) ⌝ }
 {
     master(words).request() as u64 + slave(words).request() as u64 == 0
 }
 
 // What can be delivered is claimed.
 fn claim_pending(words: &mut [u64; 4]) -> Claim
-    ensures { λ r. ⌜ stateClaim (view (now (words .exit))) (claimIn (r .0)) ≡ claimPending (view (now (words .entry))) ⌝ }
+    ensures { λ r. ⌜ stateClaim (plainView (now (words .exit))) (claimIn (r .0)) ≡ claimPending (plainView (now (words .entry))) ⌝ }
 {
     let taken = take(&mut *words);
     settle(&mut *words);
@@ -441,7 +452,7 @@ fn claim_pending(words: &mut [u64; 4]) -> Claim
 
 // A line is latched, and what can be delivered is claimed: from a settled pair, which a claim of the master's line leaves settled.
 fn claim_line(words: &mut [u64; 4], irq: PicLine) -> Claim
-    ensures { λ r. ⌜ stateClaim (view (now (words .exit))) (claimIn (r .0)) ≡ claimIrq (view (now (words .entry))) irq ⌝ }
+    ensures { λ r. ⌜ stateClaim (plainView (now (words .exit))) (claimIn (r .0)) ≡ claimIrq (plainView (now (words .entry))) irq ⌝ }
 {
     if !latch(&mut *words, irq.place()) {
         return Claim(0);
@@ -454,6 +465,9 @@ fn claim_line(words: &mut [u64; 4], irq: PicLine) -> Claim
 pub fn claim_irq(words: &mut [u64; 4], irq: PicLine) -> PicClaim
     ensures { λ r. ⌜ claimOutcome (view (now (words .exit))) r ≡ withClaim (claimIrq (view (now (words .entry))) irq) ⌝ }
 {
+    if is_full(&*words) {
+        return full_claim_line(&mut *words, irq).claim();
+    }
     claim_line(&mut *words, irq).claim()
 }
 
@@ -464,6 +478,9 @@ pub fn claim_pending_interrupt(words: &mut [u64; 4]) -> PicClaim
     // As mostly, and found at once.
     if is_quiet(&*words) {
         return PicClaim::Nothing;
+    }
+    if is_full(&*words) {
+        return full_claim_pending(&mut *words).claim();
     }
     if !master(&*words).asks() {
         settle(&mut *words);
@@ -476,6 +493,9 @@ pub fn claim_pending_interrupt(words: &mut [u64; 4]) -> PicClaim
 pub fn pulse_irq(words: &mut [u64; 4], irq: PicLine) -> PicVector
     ensures { λ r. ⌜ vectorOutcome (view (now (words .exit))) r ≡ withVector (claimIrq (view (now (words .entry))) irq) ⌝ }
 {
+    if is_full(&*words) {
+        return full_claim_line(&mut *words, irq).claim().vector();
+    }
     claim_line(&mut *words, irq).claim().vector()
 }
 
@@ -484,6 +504,9 @@ pub fn next_interrupt(words: &mut [u64; 4]) -> PicVector
 {
     if is_quiet(&*words) {
         return PicVector::Nothing;
+    }
+    if is_full(&*words) {
+        return full_claim_pending(&mut *words).claim().vector();
     }
     if !master(&*words).asks() {
         settle(&mut *words);
@@ -499,7 +522,7 @@ fn restore_at(
     master_in_service: bool,
     slave_in_service: bool,
 )
-    ensures { λ _. ⌜ view (now (words .exit)) ≡ restoredAt (view (now (words .entry))) place «master_in_service» «slave_in_service» ⌝ }
+    ensures { λ _. ⌜ plainView (now (words .exit)) ≡ restoredAt (plainView (now (words .entry))) place «master_in_service» «slave_in_service» ⌝ }
 {
     match place {
         PicPlace::Master(k) => {
@@ -524,6 +547,25 @@ pub fn restore_interrupt(words: &mut [u64; 4], claim: PicInterruptClaim) -> PicD
     if irq.0 >= 16 {
         return PicDone::Refused(Refusal::OutOfRange);
     }
+    if is_full(&*words) {
+        // Called in two arms, so that it stays a function of its own, and the other rules' road as short as it was: the compiler takes in what is called once.
+        if irq.0 < 8 {
+            full_restore(
+                &mut *words,
+                PicPlace::Master(irq),
+                claim.master_in_service,
+                claim.slave_in_service,
+            );
+            return PicDone::Done;
+        }
+        full_restore(
+            &mut *words,
+            irq.place(),
+            claim.master_in_service,
+            claim.slave_in_service,
+        );
+        return PicDone::Done;
+    }
     restore_at(
         &mut *words,
         irq.place(),
@@ -538,7 +580,7 @@ pub fn restore_interrupt(words: &mut [u64; 4], claim: PicInterruptClaim) -> PicD
 
 // What a byte read of a port shows.
 fn read_port(words: &[u64; 4], port: u64) -> PicValue
-    ensures { λ r. ⌜ r ≡ portRead (view (now (words .entry))) port ⌝ }
+    ensures { λ r. ⌜ r ≡ portRead (plainView (now (words .entry))) port ⌝ }
 {
     if port == MASTER_COMMAND as u64 {
         return PicValue::Value(master(words).read_command());
@@ -567,7 +609,7 @@ pub fn handle_read(words: &[u64; 4], port: u64, width: u64) -> PicValue
 
 // A byte is written to a port; whether the pair has that port.
 fn write_at(words: &mut [u64; 4], port: u64, byte: u8) -> bool
-    ensures { λ r. ⌜ Written (view (now (words .entry))) (view (now (words .exit))) port byte r ⌝ }
+    ensures { λ r. ⌜ Written (plainView (now (words .entry))) (plainView (now (words .exit))) port byte r ⌝ }
 {
     if port == MASTER_COMMAND as u64 {
         let written = master(&*words).command(byte);
@@ -599,11 +641,247 @@ pub fn handle_write(words: &mut [u64; 4], port: u64, width: u64, value: u64) -> 
     if width != 1 {
         return PicDone::Refused(Refusal::Unsupported);
     }
+    if is_full(&*words) {
+        if !is_port(port) {
+            return PicDone::Refused(Refusal::Unsupported);
+        }
+        // In two arms, as above.
+        if value >= 256 {
+            full_write(&mut *words, port, value % 256);
+            return PicDone::Done;
+        }
+        full_write(&mut *words, port, value);
+        return PicDone::Done;
+    }
     if !write_at(&mut *words, port, (value % 256) as u8) {
         return PicDone::Refused(Refusal::Unsupported);
     }
     settle(&mut *words);
     PicDone::Done
+}
+
+// ---- The same in the full profile, whose chips take rotation. Each public call asks once which of the two roads is the pair's: the other rules' road stays as short as it is.
+
+fn full_master(words: &[u64; 4]) -> PicChip
+    ensures { λ r. ⌜ fullIn (r .0) ≡ fullView (now (words .entry)) .master ⌝ }
+{
+    PicChip(words[0])
+}
+
+fn full_slave(words: &[u64; 4]) -> PicChip
+    ensures { λ r. ⌜ fullIn (r .0) ≡ fullView (now (words .entry)) .slave ⌝ }
+{
+    PicChip(words[1])
+}
+
+fn full_set_master(words: &mut [u64; 4], chip: PicChip)
+    ensures { λ _. ⌜ fullView (now (words .exit)) ≡ chips (fullView (now (words .entry))) (fullIn (chip .0)) (fullView (now (words .entry)) .slave) ⌝ }
+{
+    seen(&*words);
+    words[0] = chip.0;
+}
+
+fn full_set_slave(words: &mut [u64; 4], chip: PicChip)
+    ensures { λ _. ⌜ fullView (now (words .exit)) ≡ chips (fullView (now (words .entry))) (fullView (now (words .entry)) .master) (fullIn (chip .0)) ⌝ }
+{
+    seen(&*words);
+    words[1] = chip.0;
+}
+
+fn full_settle(words: &mut [u64; 4])
+    ensures { λ _. ⌜ fullView (now (words .exit)) ≡ settled (fullView (now (words .entry))) ⌝ }
+{
+    if !is_cascade(&*words) {
+        return;
+    }
+    let up = full_slave(&*words).full_asks();
+    let driven = full_master(&*words).full_drive_cascade(up);
+    full_set_master(&mut *words, driven);
+}
+
+fn full_latch(words: &mut [u64; 4], place: PicPlace) -> bool
+    ensures { λ r. ⌜ Latched (fullView (now (words .entry))) (fullView (now (words .exit))) place r ⌝ }
+{
+    match place {
+        PicPlace::Master(k) => {
+            let edge = full_master(&*words).full_pulse(k);
+            full_set_master(&mut *words, edge);
+            true
+        }
+        PicPlace::Slave(k) => {
+            let cascade = full_master(&*words).full_pulse(PicLine(CASCADE_IRQ));
+            full_set_master(&mut *words, cascade);
+            let edge = full_slave(&*words).full_pulse(k);
+            full_set_slave(&mut *words, edge);
+            true
+        }
+        PicPlace::Nowhere => false,
+    }
+}
+
+fn full_pending_place(words: &[u64; 4]) -> PicPlace
+    ensures { λ r. ⌜ r ≡ pendingPlace (fullView (now (words .entry))) ⌝ }
+{
+    let PendingIrq::Irq(master_irq) = full_master(words).full_pending_irq() else {
+        return PicPlace::Nowhere;
+    };
+    if master_irq.0 != CASCADE_IRQ {
+        return PicPlace::Master(master_irq);
+    }
+    let PendingIrq::Irq(slave_irq) = full_slave(words).full_pending_irq() else {
+        return PicPlace::Master(PicLine(CASCADE_IRQ));
+    };
+    PicPlace::Slave(slave_irq)
+}
+
+fn full_take_master(words: &mut [u64; 4], irq: PicLine) -> Claim
+    requires { ⌜ pendingPlace (fullView (now words)) ≡ place.Master irq ⌝ }
+    ensures { λ r. ⌜ stateClaim (fullView (now (words .exit))) (claimIn (r .0)) ≡ masterTaken (fullView (now (words .entry))) irq ⌝ }
+{
+    let first = full_master(&*words);
+    let taken = first.full_acknowledge(irq);
+    full_set_master(&mut *words, taken.chip);
+    let vector = taken.vector;
+    claimed(vector, irq, !first.auto_eoi(), false)
+}
+
+fn full_take_slave(words: &mut [u64; 4], irq: PicLine) -> Claim
+    requires { ⌜ pendingPlace (fullView (now words)) ≡ place.Slave irq ⌝ }
+    ensures { λ r. ⌜ stateClaim (fullView (now (words .exit))) (claimIn (r .0)) ≡ slaveTaken (fullView (now (words .entry))) irq ⌝ }
+{
+    let first = full_master(&*words);
+    let second = full_slave(&*words);
+    let cascade = first.full_acknowledge(PicLine(CASCADE_IRQ));
+    let taken = second.full_acknowledge(irq);
+    full_set_master(&mut *words, cascade.chip);
+    full_set_slave(&mut *words, taken.chip);
+    let vector = taken.vector;
+    claimed(
+        vector,
+        PicLine(irq.0 + 8),
+        !first.auto_eoi(),
+        !second.auto_eoi(),
+    )
+}
+
+// What can be delivered is claimed.
+fn full_claim_pending(words: &mut [u64; 4]) -> Claim
+    ensures { λ r. ⌜ stateClaim (fullView (now (words .exit))) (claimIn (r .0)) ≡ claimPending (fullView (now (words .entry))) ⌝ }
+{
+    match full_pending_place(&*words) {
+        PicPlace::Master(k) => {
+            let taken = full_take_master(&mut *words, k);
+            full_settle(&mut *words);
+            taken
+        }
+        PicPlace::Slave(k) => {
+            let taken = full_take_slave(&mut *words, k);
+            full_settle(&mut *words);
+            taken
+        }
+        PicPlace::Nowhere => {
+            full_settle(&mut *words);
+            Claim(0)
+        }
+    }
+}
+
+fn full_claim_line(words: &mut [u64; 4], irq: PicLine) -> Claim
+    ensures { λ r. ⌜ stateClaim (fullView (now (words .exit))) (claimIn (r .0)) ≡ claimIrq (fullView (now (words .entry))) irq ⌝ }
+{
+    if !full_latch(&mut *words, irq.place()) {
+        return Claim(0);
+    }
+    full_settle(&mut *words);
+    full_claim_pending(&mut *words)
+}
+
+fn full_restore_at(
+    words: &mut [u64; 4],
+    place: PicPlace,
+    master_in_service: bool,
+    slave_in_service: bool,
+)
+    ensures { λ _. ⌜ fullView (now (words .exit)) ≡ restoredAt (fullView (now (words .entry))) place «master_in_service» «slave_in_service» ⌝ }
+{
+    match place {
+        PicPlace::Master(k) => {
+            let back = full_master(&*words).full_unacknowledge(k, master_in_service);
+            full_set_master(&mut *words, back);
+        }
+        PicPlace::Slave(k) => {
+            let cascade = full_master(&*words).full_unacknowledge(
+                PicLine(CASCADE_IRQ),
+                master_in_service,
+            );
+            full_set_master(&mut *words, cascade);
+            let back = full_slave(&*words).full_unacknowledge(k, slave_in_service);
+            full_set_slave(&mut *words, back);
+        }
+        PicPlace::Nowhere => {}
+    }
+}
+
+fn full_write_at(words: &mut [u64; 4], port: u64, byte: u8) -> bool
+    ensures { λ r. ⌜ Written (fullView (now (words .entry))) (fullView (now (words .exit))) port byte r ⌝ }
+{
+    if port == MASTER_COMMAND as u64 {
+        let written = full_master(&*words).full_command(byte);
+        full_set_master(&mut *words, written);
+        return true;
+    }
+    if port == MASTER_DATA as u64 {
+        let written = full_master(&*words).full_data(byte);
+        full_set_master(&mut *words, written);
+        return true;
+    }
+    if port == SLAVE_COMMAND as u64 {
+        let written = full_slave(&*words).full_command(byte);
+        full_set_slave(&mut *words, written);
+        return true;
+    }
+    if port == SLAVE_DATA as u64 {
+        let written = full_slave(&*words).full_data(byte);
+        full_set_slave(&mut *words, written);
+        return true;
+    }
+    false
+}
+
+fn full_restore(
+    words: &mut [u64; 4],
+    place: PicPlace,
+    master_in_service: bool,
+    slave_in_service: bool,
+)
+    ensures { λ _. ⌜ fullView (now (words .exit)) ≡ settled (restoredAt (fullView (now (words .entry))) place «master_in_service» «slave_in_service») ⌝ }
+{
+    full_restore_at(&mut *words, place, master_in_service, slave_in_service);
+    full_settle(&mut *words);
+}
+
+// A value's low byte written.
+fn full_write(words: &mut [u64; 4], port: u64, value: u64)
+    ensures { λ _. ⌜ fullView (now (words .exit)) ≡ portWritten (fullView (now (words .entry))) port (value % 256) ⌝ }
+{
+    full_write_at(&mut *words, port, (value % 256) as u8);
+    full_settle(&mut *words);
+}
+
+// Whether the pair has a port.
+fn is_port(port: u64) -> bool
+    ensures { λ r. ⌜ r ≡ isPort port ⌝ }
+{
+    if port == MASTER_COMMAND as u64 {
+        return true;
+    }
+    if port == MASTER_DATA as u64 {
+        return true;
+    }
+    if port == SLAVE_COMMAND as u64 {
+        return true;
+    }
+    port == SLAVE_DATA as u64
 }
 
 // ---- The same by value: a pair lends its words, and is handed back.

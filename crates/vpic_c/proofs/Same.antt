@@ -13,9 +13,9 @@ use Rattle.types.specs.declared.Refusal.the-variants.{Unsupported}
 use Rattle.types.specs.Reply.{Outcome, flag, replyNumber}
 use Rattle.reply_code.specs.Lent.{Fits}
 use Rattle.reply_code.proofs.Codes.{code-same}
-use Rattle.vpic_chip.specs.Registers.{chipIn}
+use Rattle.vpic_chip.specs.Registers.{Chip, chipIn}
 use Rattle.vpic_chip.specs.Chip.{acknowledged, commandRead, vectorReply}
-use Rattle.vpic.specs.Words.{PicState, view}
+use Rattle.vpic.specs.Words.{PicState, isFull, chipBy, view}
 use Rattle.vpic.specs.Pair.{ruleIn, isRule, refused, grew, pendingPlace, claimAt, claimPending, masterClaim, slaveClaim, claimReply, claimVector, valueReply, Port, master-command, master-data, slave-command, slave-data, no-port, portAt, readFrom, portRead}
 use Rattle.vpic.proofs.Ready.{Ready, pending-ready}
 use Rattle.vpic.proofs.Codes.{words-same}
@@ -60,15 +60,23 @@ mask-lt : (w : ℕ) → chipIn w .mask < 2 ^ 32
 unfolding chipIn
 mask-lt w = omega arith
 
+-- so it is of a chip by the pair's rule
+command-by : (rule w : ℕ) → commandRead (chipBy rule w) < 2 ^ 32
+unfolding commandRead
+command-by rule w = both (λ (c : Chip). commandRead c < 2 ^ 32) (isFull rule) _ _ (command-lt w) (command-lt w)
+
+mask-by : (rule w : ℕ) → chipBy rule w .mask < 2 ^ 32
+mask-by rule w = both (λ (c : Chip). c .mask < 2 ^ 32) (isFull rule) _ _ (mask-lt w) (mask-lt w)
+
 pub fits-value : (l : List ℕ) (port : ℕ) → Fits (valueReply (portRead (view l) port))
 unfolding portRead view
 fits-value l port = go (portAt port)
   where
     go : (a : Port) → Fits (valueReply (readFrom (view l) a))
-    go master-command = command-lt (getD l 0 0)
-    go master-data = mask-lt (getD l 0 0)
-    go slave-command = command-lt (getD l 1 0)
-    go slave-data = mask-lt (getD l 1 0)
+    go master-command = command-by (getD l 2 0) (getD l 0 0)
+    go master-data = mask-by (getD l 2 0) (getD l 0 0)
+    go slave-command = command-by (getD l 2 0) (getD l 1 0)
+    go slave-data = mask-by (getD l 2 0) (getD l 1 0)
     go no-port = tt
 
 pub refused-new-keeps-words : RefusedNewKeepsWords

@@ -1,17 +1,19 @@
 -- Laws of one chip: which requests count, and a law for each way out of its functions, over free records. Assumes nothing.
 use mathlib.Core.Path.{_≡_, refl, sym, ap, ap₂, subst, _∙_}
 use mathlib.Core.Bool.{Bool, true, false, not, cond, _&&_}
-use Prim.Native.Nat.{ℕ, _%_, _^_, _<_, _≤_}
+use Prim.Native.Nat.{ℕ, _/_, _%_, _^_, _<_, _≤_}
 use native.Mathlib.Omega.{arith}
 use native.Mathlib.Nat.{mod-lt, zero-div}
 use lib.Dec.{ltb, eqb}
 use lib.Pow.{pow-pos}
 use borrow.Author.Tests.{ltb-true, ltb-false, lt-ltb, le-ltb, ne-eqb, eqb-true, eqb-false, not-true, not-false}
+use Rattle.vpic_priority.specs.Ring.{rank, above, firstRank, firstBy}
+use Rattle.vpic_priority.proofs.Ring.{rank-lt, rank-low, by-rank, by-holds, by-before, by-none, nested-rank, nested-first-rank, nested-first, nested-above}
 use Rattle.utils.specs.Set.{bit, with, without, outside, setOf, first, below, lowest}
 use Rattle.utils.specs.Cases.{cases, and-left-no, and-right-no}
 use Rattle.utils.proofs.Bools.{never, and-true, and-false, and-one}
-use Rattle.utils.proofs.Search.{first-same, first-none, first-holds, first-before}
-use Rattle.utils.proofs.Laws.{bit-above, bit-setOf, bit-outside, bit-cut, setOf-lt, setOf-same, setOf-bits, lowest-before, without-member, bit-with-same, bit-without-other}
+use Rattle.utils.proofs.Search.{first-same}
+use Rattle.utils.proofs.Laws.{bit-above, bit-setOf, bit-outside, bit-cut, setOf-lt, setOf-same, setOf-bits, without-member, bit-with-same, bit-without-other}
 use Rattle.utils.proofs.Lowest.{lowest-in-byte}
 use Rattle.types.specs.declared.PicLine.{PicLine}
 use Rattle.types.specs.declared.Vector.{Vector}
@@ -23,7 +25,62 @@ use Rattle.vpic_chip.specs.declared.PendingIrq.the-variants.{Irq, Nothin
 use Rattle.vpic_chip.specs.declared.PicVector.{PicVector}
 use Rattle.vpic_chip.specs.declared.PicVector.the-variants.{Given, Nothing as NoVector}
 use Rattle.vpic_chip.specs.Registers.{Chip, withBase, withRequest, withInService, withStep, withAutoEoi}
-use Rattle.vpic_chip.specs.Chip.{nonSpecificEoi, specificEoi, afterIcw3, icw2, icw3, icw4, ocw1, fed, commanded, pulsed, counts, pendingLine, Highest, pendingIrq, pendingReply, asks, driven, acknowledged, acknowledge, unacknowledged, vectorReply}
+use Rattle.vpic_chip.specs.Chip.{lowestBy, firstOf, isAbove, isAboveAll, turned, autoRotated, ocw2, nonSpecificEoi, specificEoi, afterIcw3, icw2, icw3, icw4, ocw1, fed, commanded, pulsed, counts, pendingLine, Highest, pendingIrq, pendingReply, asks, driven, acknowledged, acknowledge, unacknowledged, vectorReply}
+
+-- ---- priorities
+
+-- a line is above every line of a set exactly if it is above each: ranks and `isAbove` say the same
+module _ (c : Chip) (k : ℕ) (set : ℕ → Bool) where
+  pub above-each : isAboveAll c k set ≡ true → (j : ℕ) → j < 8 → set j ≡ true → isAbove c k j ≡ true
+  unfolding above
+  above-each e j l s = lt-ltb (rank (lowestBy c) k) (rank (lowestBy c) j) (go (ltb (rank (lowestBy c) j) (firstRank (lowestBy c) set)) refl)
+    where
+      below-first : rank (lowestBy c) k < firstRank (lowestBy c) set
+      below-first = ltb-true (rank (lowestBy c) k) (firstRank (lowestBy c) set) e
+
+      go : (b : Bool) → ltb (rank (lowestBy c) j) (firstRank (lowestBy c) set) ≡ b → rank (lowestBy c) k < rank (lowestBy c) j
+      go true f = never s (by-before (lowestBy c) set j (ltb-true (rank (lowestBy c) j) (firstRank (lowestBy c) set) f))
+      go false f = omega (arith, below-first, ltb-false (rank (lowestBy c) j) (firstRank (lowestBy c) set) f)
+
+  pub each-above : k < 8 → ((j : ℕ) → j < 8 → set j ≡ true → isAbove c k j ≡ true) → isAboveAll c k set ≡ true
+  unfolding above
+  each-above l h = lt-ltb (rank (lowestBy c) k) (firstRank (lowestBy c) set) (go (ltb (firstRank (lowestBy c) set) 8) refl)
+    where
+      go : (b : Bool) → ltb (firstRank (lowestBy c) set) 8 ≡ b → rank (lowestBy c) k < firstRank (lowestBy c) set
+      go true f =
+          let n = firstOf c set in
+          let r : rank (lowestBy c) n ≡ firstRank (lowestBy c) set = by-rank (lowestBy c) set in
+          let i : n < 8 = rank-low (lowestBy c) n (omega (arith, r, ltb-true (firstRank (lowestBy c) set) 8 f)) in
+          omega (arith, r, ltb-true (rank (lowestBy c) k) (rank (lowestBy c) n) (h n i (by-holds (lowestBy c) set i)))
+      go false f = omega (arith, rank-lt (lowestBy c) k l, ltb-false (firstRank (lowestBy c) set) 8 f)
+
+-- a chip that doesn't take rotation has the order of the numbers
+module _ (c : Chip) (f : c .full ≡ false) where
+  pub plain-lowest : lowestBy c ≡ 7
+  plain-lowest = rw f
+
+  pub plain-first : (p : ℕ → Bool) → firstOf c p ≡ first 8 p
+  plain-first p = ap (λ (n : ℕ). firstBy n p) plain-lowest ∙ nested-first p
+
+  pub plain-above : (j k : ℕ) → j < 8 → k < 8 → isAbove c j k ≡ ltb j k
+  plain-above j k h l = ap (λ (n : ℕ). above n j k) plain-lowest ∙ nested-above j k h l
+
+  pub plain-above-all : (k n : ℕ) → k < 8 → isAboveAll c k (bit n) ≡ ltb k (lowest 8 n)
+  unfolding lowest
+  plain-above-all k n h =
+      ap (λ (m : ℕ). ltb (rank m k) (firstRank m (bit n))) plain-lowest ∙ ap₂ ltb (nested-rank k h) (nested-first-rank (bit n))
+
+  -- so a request counts if it is unmasked and its line below every line in service
+  pub plain-counts : (k : ℕ) → k < 8 → counts c k ≡ (bit (c .request) k && not (bit (c .mask) k) && ltb k (lowest 8 (c .«in_service»)))
+  unfolding counts
+  plain-counts k h = ap (λ (b : Bool). bit (c .request) k && not (bit (c .mask) k) && b) (plain-above-all k (c .«in_service») h)
+
+  -- and no command turns its priorities
+  pub plain-turned : (rotates : Bool) (k : ℕ) → turned c rotates k ≡ c
+  plain-turned rotates k = rw f
+
+  pub plain-auto : (on : Bool) → autoRotated c on ≡ c
+  plain-auto on = rw f
 
 -- ---- the requests that count
 
@@ -35,9 +92,8 @@ bit-below n c k = go (ltb k c) refl
     go true e = bit-cut n c k (ltb-true k c e) ∙ sym (and-one (bit n k))
     go false e = bit-above c (below n c) k (mod-lt n (pow-pos c)) (ltb-false k c e) ∙ sym (and-false (bit n k))
 
-pub waiting-way : (c : Chip) (q m o s r : ℕ) → q ≡ c .request → m ≡ c .mask → o ≡ outside 8 q m → s ≡ c .«in_service» → r ≡ below o (lowest 8 s) → r < 2 ^ 8 → r ≡ setOf 8 (counts c)
-unfolding counts
-waiting-way c q m o s r eq em eo es er l = sym (setOf-bits 8 r l) ∙ setOf-same 8 (bit r) (counts c) same
+pub waiting-way : (c : Chip) (q m o s r : ℕ) → c .full ≡ false → q ≡ c .request → m ≡ c .mask → o ≡ outside 8 q m → s ≡ c .«in_service» → r ≡ below o (lowest 8 s) → r < 2 ^ 8 → r ≡ setOf 8 (counts c)
+waiting-way c q m o s r f eq em eo es er l = sym (setOf-bits 8 r l) ∙ setOf-same 8 (bit r) (counts c) same
   where
     open-is : o ≡ outside 8 (c .request) (c .mask)
     open-is = cc
@@ -45,37 +101,49 @@ waiting-way c q m o s r eq em eo es er l = sym (setOf-bits 8 r l) ∙ setOf-same
     same : (k : ℕ) → k < 8 → bit r k ≡ counts c k
     same k h =
         ap (λ (n : ℕ). bit n k) (er ∙ ap₂ (λ (x y : ℕ). below x (lowest 8 y)) open-is es) ∙ bit-below (outside 8 (c .request) (c .mask)) (lowest 8 (c .«in_service»)) k
-        ∙ ap (λ (b : Bool). b && ltb k (lowest 8 (c .«in_service»))) (bit-outside 8 (c .request) (c .mask) k h)
+        ∙ ap (λ (b : Bool). b && ltb k (lowest 8 (c .«in_service»))) (bit-outside 8 (c .request) (c .mask) k h) ∙ sym (plain-counts c f k h)
 
 -- the lowest of those at which a test holds is the first
 lowest-setOf : (w : ℕ) (p : ℕ → Bool) → lowest w (setOf w p) ≡ first w p
 unfolding lowest
 lowest-setOf w p = first-same w (bit (setOf w p)) p (λ k l. bit-setOf w p k l)
 
-pub pending-none : (c : Chip) (n : ℕ) (l : PicLine) → n ≡ setOf 8 (counts c) → l .0 ≡ lowest 8 n → 8 ≤ l .0 → Nothing ≡ pendingIrq c
-unfolding pendingIrq pendingLine
-pending-none c n l en el h = let e : first 8 (counts c) ≡ l .0 = sym (el ∙ ap (lowest 8) en ∙ lowest-setOf 8 (counts c)) in rw (e, le-ltb (l .0) 8 h)
+plain-pending : (c : Chip) (n : ℕ) → c .full ≡ false → n ≡ setOf 8 (counts c) → lowest 8 n ≡ pendingLine c
+unfolding pendingLine
+plain-pending c n f e = ap (lowest 8) e ∙ lowest-setOf 8 (counts c) ∙ sym (plain-first c f (counts c))
 
-pub pending-some : (c : Chip) (n : ℕ) (l : PicLine) → n ≡ setOf 8 (counts c) → l .0 ≡ lowest 8 n → l .0 < 8 → Irq l ≡ pendingIrq c
-unfolding pendingIrq pendingLine
-pending-some c n l en el h = let e : first 8 (counts c) ≡ l .0 = sym (el ∙ ap (lowest 8) en ∙ lowest-setOf 8 (counts c)) in rw (e, lt-ltb (l .0) 8 h)
+pub pending-none : (c : Chip) (n : ℕ) (l : PicLine) → c .full ≡ false → n ≡ setOf 8 (counts c) → l .0 ≡ lowest 8 n → 8 ≤ l .0 → Nothing ≡ pendingIrq c
+unfolding pendingIrq
+pending-none c n l f en el h = let e : pendingLine c ≡ l .0 = sym (el ∙ plain-pending c n f en) in rw (e, le-ltb (l .0) 8 h)
 
-pub asks-way : (c : Chip) (n : ℕ) → n ≡ setOf 8 (counts c) → not (eqb n 0) ≡ asks c
-unfolding asks pendingLine lowest
-asks-way c n e = go (eqb n 0) refl ∙ ap (λ (k : ℕ). ltb k 8) (ap (lowest 8) e ∙ lowest-setOf 8 (counts c))
+pub pending-some : (c : Chip) (n : ℕ) (l : PicLine) → c .full ≡ false → n ≡ setOf 8 (counts c) → l .0 ≡ lowest 8 n → l .0 < 8 → Irq l ≡ pendingIrq c
+unfolding pendingIrq
+pending-some c n l f en el h = let e : pendingLine c ≡ l .0 = sym (el ∙ plain-pending c n f en) in rw (e, lt-ltb (l .0) 8 h)
+
+empty-lowest : ltb (lowest 8 0) 8 ≡ false
+unfolding lowest
+empty-lowest = refl
+
+pub asks-way : (c : Chip) (n : ℕ) → c .full ≡ false → n ≡ setOf 8 (counts c) → not (eqb n 0) ≡ asks c
+unfolding asks
+asks-way c n f e = go (eqb n 0) refl ∙ ap (λ (k : ℕ). ltb k 8) (plain-pending c n f e)
   where
     go : (b : Bool) → eqb n 0 ≡ b → not b ≡ ltb (lowest 8 n) 8
-    go true q = ap (λ (k : ℕ). ltb (lowest 8 k) 8) (sym (eqb-true n 0 q))
+    go true q = sym (ap (λ (k : ℕ). ltb (lowest 8 k) 8) (eqb-true n 0 q) ∙ empty-lowest)
     go false q = sym (lt-ltb (lowest 8 n) 8 (lowest-in-byte n (omega (arith, setOf-lt 8 (counts c))) (eqb-false n 0 q)))
+
+-- where no request counts, the chip doesn't ask
+pub asks-not : (c : Chip) → ((j : ℕ) → j < 8 → counts c j ≡ false) → asks c ≡ false
+unfolding asks pendingLine
+asks-not c n = ap (λ (k : ℕ). ltb k 8) (by-none (lowestBy c) (counts c) n)
 
 -- without a request none counts
 pub asks-none : (c : Chip) (n : ℕ) → n ≡ c .request → n ≡ 0 → false ≡ asks c
-unfolding asks pendingLine counts
+unfolding counts
 asks-none c n e z =
     sym
-    (ap (λ (k : ℕ). ltb k 8)
-    (first-none 8 (counts c)
-    (λ j l. and-left-no _ _ (and-left-no _ _ (ap (λ (m : ℕ). bit m j) (sym e ∙ z) ∙ ap (λ (m : ℕ). eqb (m % 2) 1) (zero-div (2 ^ j)))))))
+    (asks-not c
+    (λ j l. and-left-no _ _ (and-left-no _ _ (ap (λ (m : ℕ). bit m j) (sym e ∙ z) ∙ ap (λ (m : ℕ). eqb (m % 2) 1) (zero-div (2 ^ j))))))
 
 -- ---- what is pending
 
@@ -93,62 +161,84 @@ pending-is-line c k e = go (ltb (pendingLine c) 8) refl e
 
 -- it is the highest that counts
 pub pended : (c : Chip) (k : PicLine) → pendingIrq c ≡ Irq k → Highest c (k .0)
-unfolding pendingLine
+unfolding pendingLine above
 pended c k e =
     let is : (pendingLine c ≡ k .0) × (k .0 < 8) = pending-is-line c k e in
-    let here : first 8 (counts c) ≡ k .0 = is .0 in
+    let here : firstOf c (counts c) ≡ k .0 = is .0 in
+    let same : rank (lowestBy c) (k .0) ≡ firstRank (lowestBy c) (counts c) = ap (rank (lowestBy c)) (sym here) ∙ by-rank (lowestBy c) (counts c) in
     record {
       low = is .1;
-      counted = subst (λ (n : ℕ). counts c n ≡ true) here (first-holds 8 (counts c) (omega arith));
-      above = λ j l. first-before 8 (counts c) j (omega arith);
+      counted = subst (λ (n : ℕ). counts c n ≡ true) here (by-holds (lowestBy c) (counts c) (omega arith));
+      above = λ j l. by-before (lowestBy c) (counts c) j (omega (arith, same, ltb-true (rank (lowestBy c) j) (rank (lowestBy c) (k .0)) l));
     }
 
--- a line that counts is requested, and not in service
+-- a line that counts is requested, above every line in service, and so not in service
 module _ (c : Chip) (k : ℕ) (e : counts c k ≡ true) where
   pub counted-asked : bit (c .request) k ≡ true
   unfolding counts
   counted-asked =
-      and-true (bit (c .request) k) (not (bit (c .mask) k)) (and-true (bit (c .request) k && not (bit (c .mask) k)) (ltb k (lowest 8 (c .«in_service»))) e .0) .0
+      and-true (bit (c .request) k) (not (bit (c .mask) k)) (and-true (bit (c .request) k && not (bit (c .mask) k)) (isAboveAll c k (bit (c .«in_service»))) e .0) .0
+
+  pub counted-above : rank (lowestBy c) k < firstRank (lowestBy c) (bit (c .«in_service»))
+  unfolding counts
+  counted-above =
+      ltb-true (rank (lowestBy c) k) (firstRank (lowestBy c) (bit (c .«in_service»)))
+      (and-true (bit (c .request) k && not (bit (c .mask) k)) (isAboveAll c k (bit (c .«in_service»))) e .1)
 
   pub counted-idle : bit (c .«in_service») k ≡ false
-  unfolding counts
-  counted-idle =
-      lowest-before 8 (c .«in_service») k
-      (ltb-true k (lowest 8 (c .«in_service»)) (and-true (bit (c .request) k && not (bit (c .mask) k)) (ltb k (lowest 8 (c .«in_service»))) e .1))
+  counted-idle = by-before (lowestBy c) (bit (c .«in_service»)) k counted-above
+
+-- outside automatic EOI mode an acknowledgement turns no priorities
+pub untouched : (c : Chip) (k : ℕ) → c .«auto_eoi» ≡ false → acknowledged c k .«lowest_line» ≡ c .«lowest_line»
+unfolding acknowledged
+untouched c k a = go (c .full)
+  where
+    go : (b : Bool) → cond (b && (c .«auto_eoi» && c .«auto_rotation»)) k (c .«lowest_line») ≡ c .«lowest_line»
+    go true = rw a
+    go false = refl
 
 -- a pending line that went into service leaves nothing that counts
 module _ (c : Chip) (k : ℕ) (h : Highest c k) (a : c .«auto_eoi» ≡ false) where
-  served-line : lowest 8 (acknowledged c k .«in_service») ≤ k
+  same-lowest : lowestBy (acknowledged c k) ≡ lowestBy c
   unfolding acknowledged
-  served-line = go (ltb k (lowest 8 (acknowledged c k .«in_service»))) refl
-    where
-      on : bit (acknowledged c k .«in_service») k ≡ true
-      on = ap (λ (b : Bool). bit (cond b (c .«in_service») (with (c .«in_service») k)) k) a ∙ bit-with-same (c .«in_service») k
+  same-lowest = ap (λ (n : ℕ). cond (c .full) n 7) (untouched c k a)
 
-      go : (b : Bool) → ltb k (lowest 8 (acknowledged c k .«in_service»)) ≡ b → lowest 8 (acknowledged c k .«in_service») ≤ k
-      go true e = never on (lowest-before 8 (acknowledged c k .«in_service») k (ltb-true k (lowest 8 (acknowledged c k .«in_service»)) e))
-      go false e = ltb-false k (lowest 8 (acknowledged c k .«in_service»)) e
+  served-on : bit (acknowledged c k .«in_service») k ≡ true
+  unfolding acknowledged
+  served-on = ap (λ (b : Bool). bit (cond b (c .«in_service») (with (c .«in_service») k)) k) a ∙ bit-with-same (c .«in_service») k
+
+  -- the highest line in service is at least as high
+  served-line : firstRank (lowestBy c) (bit (acknowledged c k .«in_service»)) ≤ rank (lowestBy c) k
+  served-line = go (ltb (rank (lowestBy c) k) (firstRank (lowestBy c) (bit (acknowledged c k .«in_service»)))) refl
+    where
+      go : (b : Bool) → ltb (rank (lowestBy c) k) (firstRank (lowestBy c) (bit (acknowledged c k .«in_service»))) ≡ b
+          → firstRank (lowestBy c) (bit (acknowledged c k .«in_service»)) ≤ rank (lowestBy c) k
+      go true e =
+          never served-on
+          (by-before (lowestBy c) (bit (acknowledged c k .«in_service»)) k
+          (ltb-true (rank (lowestBy c) k) (firstRank (lowestBy c) (bit (acknowledged c k .«in_service»))) e))
+      go false e = ltb-false (rank (lowestBy c) k) (firstRank (lowestBy c) (bit (acknowledged c k .«in_service»))) e
 
   none-left : (j : ℕ) → j < 8 → counts (acknowledged c k) j ≡ false
-  unfolding counts acknowledged
-  none-left j l = go (ltb j k) refl
+  unfolding counts acknowledged above
+  none-left j l = go (ltb (rank (lowestBy c) j) (rank (lowestBy c) k)) refl
     where
-      above : ltb k (lowest 8 (c .«in_service»)) ≡ true
-      above = and-true (bit (c .request) k && not (bit (c .mask) k)) (ltb k (lowest 8 (c .«in_service»))) (h .counted) .1
-
-      go : (b : Bool) → ltb j k ≡ b → counts (acknowledged c k) j ≡ false
+      go : (b : Bool) → ltb (rank (lowestBy c) j) (rank (lowestBy c) k) ≡ b → counts (acknowledged c k) j ≡ false
       go true e =
-          let i : j < k = ltb-true j k e in
-          let o : bit (without (c .request) k) j ≡ bit (c .request) j = bit-without-other (c .request) k j (λ q. omega arith) in
-          let t : ltb j (lowest 8 (c .«in_service»)) ≡ true = lt-ltb j (lowest 8 (c .«in_service»)) (omega (arith, ltb-true k (lowest 8 (c .«in_service»)) above)) in
+          let i : rank (lowestBy c) j < rank (lowestBy c) k = ltb-true (rank (lowestBy c) j) (rank (lowestBy c) k) e in
+          let o : bit (without (c .request) k) j ≡ bit (c .request) j = bit-without-other (c .request) k j (λ q. omega (arith, ap (rank (lowestBy c)) q)) in
+          let t : isAboveAll c j (bit (c .«in_service»)) ≡ true =
+          lt-ltb (rank (lowestBy c) j) (firstRank (lowestBy c) (bit (c .«in_service»))) (omega (arith, counted-above c k (h .counted))) in
           let n : (bit (c .request) j && not (bit (c .mask) j)) ≡ false =
-          sym (and-one _) ∙ ap (λ (b : Bool). (bit (c .request) j && not (bit (c .mask) j)) && b) (sym t) ∙ h .above j i in
+          sym (and-one _) ∙ ap (λ (b : Bool). (bit (c .request) j && not (bit (c .mask) j)) && b) (sym t) ∙ h .above j e in
           and-left-no _ _ (ap (λ (b : Bool). b && not (bit (c .mask) j)) o ∙ n)
-      go false e = and-right-no (bit (without (c .request) k) j && not (bit (c .mask) j)) (ltb j (lowest 8 (acknowledged c k .«in_service»))) (le-ltb j (lowest 8 (acknowledged c k .«in_service»)) (omega (arith, served-line, ltb-false j k e)))
+      go false e =
+          and-right-no (bit (without (c .request) k) j && not (bit (c .mask) j)) (isAboveAll (acknowledged c k) j (bit (acknowledged c k .«in_service»)))
+          (ap (λ (n : ℕ). ltb (rank n j) (firstRank n (bit (acknowledged c k .«in_service»)))) same-lowest
+          ∙ le-ltb (rank (lowestBy c) j) (firstRank (lowestBy c) (bit (acknowledged c k .«in_service»))) (omega (arith, served-line, ltb-false (rank (lowestBy c) j) (rank (lowestBy c) k) e)))
 
   pub quiet-taken : asks (acknowledged c k) ≡ false
-  unfolding asks pendingLine
-  quiet-taken = ap (λ (n : ℕ). ltb n 8) (first-none 8 (counts (acknowledged c k)) none-left)
+  quiet-taken = asks-not (acknowledged c k) none-left
 
 -- an answer is known by its reply
 pub pending-reply-same : (a b : PendingIrq) → pendingReply a ≡ pendingReply b → a ≡ b
@@ -173,15 +263,14 @@ pub driven-down : (c d : Chip) (k : ℕ) (b : Bool) → b ≡ false → d ≡ wi
 unfolding driven
 driven-down c d k b t e = rw t e
 
-module _ (c d : Chip) (k : ℕ) (b : Bool) (f : b ≡ c .«auto_eoi») (ed : d ≡ withRequest c (without (c .request) k)) where
+module _ (c d : Chip) (k : ℕ) (b : Bool) (p : c .full ≡ false) (f : b ≡ c .«auto_eoi») (ed : d ≡ withRequest c (without (c .request) k)) where
   pub taken-way : b ≡ true → d ≡ acknowledged c k
   unfolding acknowledged
-  taken-way t = ed ∙ ap (withInService (withRequest c (without (c .request) k))) (rw (sym f ∙ t) refl)
+  taken-way t = ed ∙ rw (p, sym f ∙ t)
 
   pub served-way : (e : Chip) → b ≡ false → e ≡ withInService d (with (d .«in_service») k) → e ≡ acknowledged c k
   unfolding acknowledged
-  served-way e t ee =
-      ee ∙ ap (λ (x : Chip). withInService x (with (x .«in_service») k)) ed ∙ ap (withInService (withRequest c (without (c .request) k))) (rw (sym f ∙ t) refl)
+  served-way e t ee = ee ∙ ap (λ (x : Chip). withInService x (with (x .«in_service») k)) ed ∙ rw (p, sym f ∙ t)
 
 pub ack-none : (c : Chip) (l : PicLine) → 8 ≤ l .0 → _≡_ {A = Outcome Chip} (record { state = c; reply = reply.Nothing }) (acknowledge c l)
 unfolding acknowledge
@@ -240,14 +329,36 @@ module _ (c d : Chip) (v s : ℕ) (es : s ≡ c .«init_step») where
   pub fed-ready : s ≡ 0 → d ≡ ocw1 c v → d ≡ fed c v
   fed-ready h e = fed-ocw1 (λ z. omega arith) (λ z. omega arith) (λ z. omega arith) e
 
-pub commanded-eoi : (c d : Chip) (v : ℕ) → v ≡ 0x20 → d ≡ nonSpecificEoi c → d ≡ commanded c v
+pub commanded-eoi : (c d : Chip) (v : ℕ) → v ≡ 0x20 → d ≡ nonSpecificEoi c false → d ≡ commanded c v
 unfolding commanded
 commanded-eoi c d v h e = rw h e
 
 -- where no line is in service, nothing is taken out
-pub ended-way : (c d : Chip) (s n : ℕ) → s ≡ c .«in_service» → n ≡ without s (lowest 8 s) → s < 2 ^ 8 → d ≡ withInService c n → d ≡ nonSpecificEoi c
-ended-way c d s n es en l ed = ed ∙ ap (withInService c) (en ∙ ap (λ (x : ℕ). without x (lowest 8 x)) es) ∙ go (ltb (lowest 8 (c .«in_service»)) 8) refl
+pub ended-way : (c d : Chip) (s n : ℕ) → c .full ≡ false → s ≡ c .«in_service» → n ≡ without s (lowest 8 s) → s < 2 ^ 8 → d ≡ withInService c n → d ≡ nonSpecificEoi c false
+unfolding lowest
+ended-way c d s n f es en l ed =
+    ed ∙ ap (withInService c) (en ∙ ap (λ (x : ℕ). without x (first 8 (bit x))) es) ∙ go (ltb k 8) refl
+    ∙ ap (λ (x : Chip). cond (ltb k 8) x c) (sym (plain-turned (specificEoi c k) f false k))
+    ∙ ap (λ (n : ℕ). cond (ltb n 8) (turned (specificEoi c n) false n) c) (sym (plain-first c f (bit (c .«in_service»))))
   where
-    go : (b : Bool) → ltb (lowest 8 (c .«in_service»)) 8 ≡ b → withInService c (without (c .«in_service») (lowest 8 (c .«in_service»))) ≡ cond b (specificEoi c (lowest 8 (c .«in_service»))) c
+    k : ℕ
+    k = first 8 (bit (c .«in_service»))
+
+    go : (b : Bool) → ltb k 8 ≡ b → withInService c (without (c .«in_service») k) ≡ cond b (specificEoi c k) c
     go true e = refl
-    go false e = ap (withInService c) (without-member (c .«in_service») (lowest 8 (c .«in_service»)) (bit-above 8 (c .«in_service») (lowest 8 (c .«in_service»)) (omega arith) (ltb-false (lowest 8 (c .«in_service»)) 8 e)))
+    go false e = ap (withInService c) (without-member (c .«in_service») k (bit-above 8 (c .«in_service») k (omega arith) (ltb-false k 8 e)))
+
+-- OCW2 without rotation's profile
+module _ (c : Chip) (v : ℕ) (f : c .full ≡ false) where
+  pub ocw2-none : (v / 32 % 2 ≡ 1 → ⊥) → c ≡ ocw2 c v
+  ocw2-none h = rw (ne-eqb (v / 32 % 2) 1 h) (go (bit v 6))
+    where
+      go : (b : Bool) → c ≡ cond b (turned c (bit v 7) (v % 8)) (autoRotated c (bit v 7))
+      go true = sym (plain-turned c f (bit v 7) (v % 8))
+      go false = sym (plain-auto c f (bit v 7))
+
+  pub ocw2-specific : (d : Chip) → v / 32 % 2 ≡ 1 → v / 64 % 2 ≡ 1 → d ≡ specificEoi c (v % 8) → d ≡ ocw2 c v
+  ocw2-specific d h k e = rw (h, k) (e ∙ sym (plain-turned (specificEoi c (v % 8)) f (bit v 7) (v % 8)))
+
+  pub ocw2-plain : (d : Chip) → v / 32 % 2 ≡ 1 → (v / 64 % 2 ≡ 1 → ⊥) → d ≡ nonSpecificEoi c false → d ≡ ocw2 c v
+  ocw2-plain d h k e = rw (h, ne-eqb (v / 64 % 2) 1 k) (e ∙ rw f)

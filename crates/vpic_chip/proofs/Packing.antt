@@ -10,7 +10,7 @@ use borrow.Author.Tests.{eqb-true, eqb-false}
 use Rattle.utils.specs.Set.{bit, with, without}
 use Rattle.utils.proofs.Laws.{bit-at-least, with-lt, without-le}
 use Rattle.types.specs.Reply.{flag}
-use Rattle.vpic_chip.specs.Registers.{Chip, registers, withBase, withMask, withRequest, withInService, withStep, withAutoEoi, withReadIsr, chipIn}
+use Rattle.vpic_chip.specs.Registers.{Chip, registers, asFull, fullIn, withBase, withMask, withRequest, withInService, withStep, withAutoEoi, withReadIsr, withLowest, withAutoRotation, chipIn}
 use Rattle.vpic_chip.specs.Chip.{opened, icw1, specificEoi}
 
 abbrev byte : ℕ → ℕ → ℕ
@@ -22,10 +22,15 @@ digit w n = w / 2 ^ n % 2
 -- a chip by the registers of its word
 parts : (r b0 b1 b2 b3 b4 f0 f1 f2 f3 sp : ℕ) → r % 2 ^ 8 ≡ b0 → byte r 8 ≡ b1 → byte r 16 ≡ b2 → byte r 24 ≡ b3 → byte r 32 ≡ b4
     → digit r 40 ≡ f0 → digit r 41 ≡ f1 → digit r 42 ≡ f2 → digit r 43 ≡ f3 → r / 2 ^ 44 ≡ sp
-    → chipIn r ≡ registers b0 b1 b2 b3 b4 (eqb f0 1) (eqb f1 1) (eqb f2 1) (eqb f3 1) sp
+    → chipIn r ≡ registers b0 b1 b2 b3 b4 (eqb f0 1) (eqb f1 1) (eqb f2 1) (eqb f3 1) false 7 false sp
 unfolding chipIn
 parts r b0 b1 b2 b3 b4 f0 f1 f2 f3 sp e0 e1 e2 e3 e4 g0 g1 g2 g3 h =
-    λ i. registers (e0 i) (e1 i) (e2 i) (e3 i) (e4 i) (eqb (g0 i) 1) (eqb (g1 i) 1) (eqb (g2 i) 1) (eqb (g3 i) 1) (h i)
+    λ i. registers (e0 i) (e1 i) (e2 i) (e3 i) (e4 i) (eqb (g0 i) 1) (eqb (g1 i) 1) (eqb (g2 i) 1) (eqb (g3 i) 1) false 7 false (h i)
+
+-- such a chip doesn't take rotation
+pub plain : (w : ℕ) → chipIn w .full ≡ false
+unfolding chipIn
+plain w = refl
 
 flag-back : (b : Bool) → eqb (flag b) 1 ≡ b
 flag-back true = refl
@@ -176,3 +181,74 @@ word-same v w q =
     let g16 : v / 2 ^ 16 ≡ w / 2 ^ 16 = above-and-here v w (2 ^ 16) (2 ^ 8) g24 (ap (λ (c : Chip). c .request) q) in
     let g8 : v / 2 ^ 8 ≡ w / 2 ^ 8 = above-and-here v w (2 ^ 8) (2 ^ 8) g16 (ap (λ (c : Chip). c .mask) q) in
     sym (div-add-mod' v (2 ^ 8)) ∙ ap₂ (λ (x y : ℕ). x * 2 ^ 8 + y) g8 (ap (λ (c : Chip). c .«vector_base») q) ∙ div-add-mod' w (2 ^ 8)
+
+-- ---- the full profile's registers stand in what is left
+
+pub lowest-line-read : (w r : ℕ) → r ≡ (w / 2 ^ 44 + 7) % 8 → r ≡ fullIn w .«lowest_line»
+unfolding chipIn
+lowest-line-read w r e = e
+
+pub auto-rotation-read : (w : ℕ) → eqb (w / 2 ^ 47 % 2) 1 ≡ fullIn w .«auto_rotation»
+unfolding chipIn
+auto-rotation-read w = let d : w / 2 ^ 47 % 2 ≡ w / 2 ^ 44 / 2 ^ 3 % 2 = omega arith in ap (λ (n : ℕ). eqb n 1) d
+
+-- a chip by what stands in what is left of its word
+full-parts : (r w sp lo left : ℕ) (rot : Bool) → chipIn r ≡ registers (w % 2 ^ 8) (byte w 8) (byte w 16) (byte w 24) (byte w 32) (bit w 40) (bit w 41) (bit w 42) (bit w 43) false 7 false sp
+    → (sp + 7) % 2 ^ 3 ≡ lo → bit sp 3 ≡ rot → sp / 2 ^ 4 ≡ left
+    → fullIn r ≡ registers (w % 2 ^ 8) (byte w 8) (byte w 16) (byte w 24) (byte w 32) (bit w 40) (bit w 41) (bit w 42) (bit w 43) true lo rot left
+full-parts r w sp lo left rot e a b c =
+    ap asFull e ∙ (λ i. registers (w % 2 ^ 8) (byte w 8) (byte w 16) (byte w 24) (byte w 32) (bit w 40) (bit w 41) (bit w 42) (bit w 43) true (a i) (b i) (c i))
+
+eighth : (a v : ℕ) → (a * 8 + (v + 1) % 8) / 2 ^ 3 ≡ a
+eighth a v = omega arith
+
+pub lowest-put : (w v r : ℕ) → v < 8 → r ≡ w / 2 ^ 47 * 2 ^ 47 + (v + 1) % 8 * 2 ^ 44 + w % 2 ^ 44 → fullIn r ≡ withLowest (fullIn w) v
+unfolding chipIn
+lowest-put w v r h e =
+    let s = w / 2 ^ 47 * 8 + (v + 1) % 8 in
+    let d : s / 2 ^ 3 % 2 ≡ w / 2 ^ 44 / 2 ^ 3 % 2 = ap (λ (n : ℕ). n % 2) (eighth (w / 2 ^ 47) v ∙ sym (div-div-eq-div-mul w (2 ^ 44) (2 ^ 3))) in
+    full-parts r w s v (w / 2 ^ 44 / 2 ^ 4) (bit (w / 2 ^ 44) 3)
+    (parts r (w % 2 ^ 8) (byte w 8) (byte w 16) (byte w 24) (byte w 32) (digit w 40) (digit w 41) (digit w 42) (digit w 43) s
+    (omega arith) (omega arith) (omega arith) (omega arith) (omega arith) (omega arith) (omega arith) (omega arith) (omega arith) (omega arith))
+    (omega arith) (ap (λ (n : ℕ). eqb n 1) d) (omega arith)
+
+middle : (a v b : ℕ) → v ≤ 1 → b < 8 → (a * 16 + v * 8 + b) / 2 ^ 3 % 2 ≡ v
+middle a v b h l = omega arith
+
+top : (a v b : ℕ) → v ≤ 1 → b < 8 → (a * 16 + v * 8 + b) / 2 ^ 4 ≡ a
+top a v b h l = omega arith
+
+pub rotation-put : (w v r : ℕ) (b : Bool) → v ≡ flag b → v ≤ 1 → r ≡ w / 2 ^ 48 * 2 ^ 48 + v * 2 ^ 47 + w % 2 ^ 47 → fullIn r ≡ withAutoRotation (fullIn w) b
+unfolding chipIn
+rotation-put w v r b f h e =
+    let s = w / 2 ^ 48 * 16 + v * 8 + w / 2 ^ 44 % 8 in
+    let d : s / 2 ^ 3 % 2 ≡ v = middle (w / 2 ^ 48) v (w / 2 ^ 44 % 8) h (omega arith) in
+    full-parts r w s ((w / 2 ^ 44 + 7) % 2 ^ 3) (w / 2 ^ 44 / 2 ^ 4) b
+    (parts r (w % 2 ^ 8) (byte w 8) (byte w 16) (byte w 24) (byte w 32) (digit w 40) (digit w 41) (digit w 42) (digit w 43) s
+    (omega arith) (omega arith) (omega arith) (omega arith) (omega arith) (omega arith) (omega arith) (omega arith) (omega arith) (omega arith))
+    (omega arith) (ap (λ (n : ℕ). eqb n 1) (d ∙ f) ∙ flag-back b)
+    (top (w / 2 ^ 48) v (w / 2 ^ 44 % 8) h (omega arith) ∙ sym (div-div-eq-div-mul w (2 ^ 44) (2 ^ 4)))
+
+pub full-icw1-put : (w v r : ℕ) → r ≡ w / 2 ^ 48 * 2 ^ 48 + v % 4 * 2 ^ 40 + 2 ^ 32 + w % 2 ^ 16 → fullIn r ≡ icw1 (fullIn w) v
+unfolding chipIn
+full-icw1-put w v r e =
+    let s = w / 2 ^ 48 * 16 in
+    let a : (s + 7) % 2 ^ 3 ≡ 7 = omega arith in
+    let b : s / 2 ^ 3 % 2 ≡ 0 = omega arith in
+    let c : s / 2 ^ 4 ≡ w / 2 ^ 44 / 2 ^ 4 = omega arith in
+    ap asFull
+    (parts r (w % 2 ^ 8) (byte w 8) 0 0 1 (v % 2) (v / 2 % 2) 0 0 s
+    (omega arith) (omega arith) (omega arith) (omega arith) (omega arith) (omega arith) (omega arith) (omega arith) (omega arith) (omega arith))
+    ∙ (λ i. registers (w % 2 ^ 8) (byte w 8) 0 0 1 (eqb (v % 2) 1) (eqb (v / 2 % 2) 1) false false true (a i) (eqb (b i) 1) (c i))
+    ∙ simp div-one
+
+-- so has a chip of the full profile: the priorities and what is left are all that is left of the word
+pub full-word-same : (v w : ℕ) → fullIn v ≡ fullIn w → v ≡ w
+unfolding chipIn
+full-word-same v w q =
+    let a : v / 2 ^ 44 / 2 ^ 4 ≡ w / 2 ^ 44 / 2 ^ 4 = ap (λ (c : Chip). c .spare) q in
+    let b : v / 2 ^ 44 / 2 ^ 3 ≡ w / 2 ^ 44 / 2 ^ 3 = above-and-flag (v / 2 ^ 44) (w / 2 ^ 44) (2 ^ 3) a (ap (λ (c : Chip). c .«auto_rotation») q) in
+    let h : (v / 2 ^ 44 + 7) % 2 ^ 3 ≡ (w / 2 ^ 44 + 7) % 2 ^ 3 = ap (λ (c : Chip). c .«lowest_line») q in
+    let s : v / 2 ^ 44 ≡ w / 2 ^ 44 = omega arith in
+    word-same v w
+    (λ i. registers (q i .«vector_base») (q i .mask) (q i .request) (q i .«in_service») (q i .«init_step») (q i .«needs_icw4») (q i .single) (q i .«auto_eoi») (q i .«read_isr») false 7 false (s i))

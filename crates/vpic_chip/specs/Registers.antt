@@ -1,6 +1,6 @@
 -- The registers of one 8259A, and the word that holds them: include/sillwander.h has the same layout.
-use Prim.Native.Nat.{ℕ, _/_, _%_, _^_}
-use mathlib.Core.Bool.{Bool}
+use Prim.Native.Nat.{ℕ, _+_, _/_, _%_, _^_}
+use mathlib.Core.Bool.{Bool, true, false}
 use Rattle.utils.specs.Set.{bit}
 
 pub record Chip : Type 0 where
@@ -13,11 +13,14 @@ pub record Chip : Type 0 where
   pub single : Bool
   pub «auto_eoi» : Bool
   pub «read_isr» : Bool
+  pub full : Bool  -- whether the chip takes rotation (the pair's rule says so: the full 8259A profile)
+  pub «lowest_line» : ℕ  -- the line of lowest priority
+  pub «auto_rotation» : Bool  -- rotation in automatic EOI mode
   pub spare : ℕ  -- the bits of the word that stand for nothing: nothing reads them, and a new chip alone doesn't keep them
 
--- the chip of these ten registers, and of nine where the rest of the word is 0
-abbrev pub registers : ℕ → ℕ → ℕ → ℕ → ℕ → Bool → Bool → Bool → Bool → ℕ → Chip
-registers base mask irr isr step icw4 sngl aeoi ris spare = record {
+-- the chip of these registers
+abbrev pub registers : ℕ → ℕ → ℕ → ℕ → ℕ → Bool → Bool → Bool → Bool → Bool → ℕ → Bool → ℕ → Chip
+registers base mask irr isr step icw4 sngl aeoi ris full low rot spare = record {
   «vector_base» = base;
   mask = mask;
   request = irr;
@@ -27,41 +30,59 @@ registers base mask irr isr step icw4 sngl aeoi ris spare = record {
   single = sngl;
   «auto_eoi» = aeoi;
   «read_isr» = ris;
+  full = full;
+  «lowest_line» = low;
+  «auto_rotation» = rot;
   spare = spare;
 }
 
+-- a chip that doesn't take rotation, where the rest of the word is 0: its line 7 is lowest
 abbrev pub chip : ℕ → ℕ → ℕ → ℕ → ℕ → Bool → Bool → Bool → Bool → Chip
-chip base mask irr isr step icw4 sngl aeoi ris = registers base mask irr isr step icw4 sngl aeoi ris 0
+chip base mask irr isr step icw4 sngl aeoi ris = registers base mask irr isr step icw4 sngl aeoi ris false 7 false 0
 
 -- c with another register
 abbrev pub withBase : Chip → ℕ → Chip
-withBase c x = registers x (c .mask) (c .request) (c .«in_service») (c .«init_step») (c .«needs_icw4») (c .single) (c .«auto_eoi») (c .«read_isr») (c .spare)
+withBase c x = registers x (c .mask) (c .request) (c .«in_service») (c .«init_step») (c .«needs_icw4») (c .single) (c .«auto_eoi») (c .«read_isr») (c .full) (c .«lowest_line») (c .«auto_rotation») (c .spare)
 
 abbrev pub withMask : Chip → ℕ → Chip
-withMask c x = registers (c .«vector_base») x (c .request) (c .«in_service») (c .«init_step») (c .«needs_icw4») (c .single) (c .«auto_eoi») (c .«read_isr») (c .spare)
+withMask c x = registers (c .«vector_base») x (c .request) (c .«in_service») (c .«init_step») (c .«needs_icw4») (c .single) (c .«auto_eoi») (c .«read_isr») (c .full) (c .«lowest_line») (c .«auto_rotation») (c .spare)
 
 abbrev pub withRequest : Chip → ℕ → Chip
-withRequest c x = registers (c .«vector_base») (c .mask) x (c .«in_service») (c .«init_step») (c .«needs_icw4») (c .single) (c .«auto_eoi») (c .«read_isr») (c .spare)
+withRequest c x = registers (c .«vector_base») (c .mask) x (c .«in_service») (c .«init_step») (c .«needs_icw4») (c .single) (c .«auto_eoi») (c .«read_isr») (c .full) (c .«lowest_line») (c .«auto_rotation») (c .spare)
 
 abbrev pub withInService : Chip → ℕ → Chip
-withInService c x = registers (c .«vector_base») (c .mask) (c .request) x (c .«init_step») (c .«needs_icw4») (c .single) (c .«auto_eoi») (c .«read_isr») (c .spare)
+withInService c x = registers (c .«vector_base») (c .mask) (c .request) x (c .«init_step») (c .«needs_icw4») (c .single) (c .«auto_eoi») (c .«read_isr») (c .full) (c .«lowest_line») (c .«auto_rotation») (c .spare)
 
 abbrev pub withStep : Chip → ℕ → Chip
-withStep c x = registers (c .«vector_base») (c .mask) (c .request) (c .«in_service») x (c .«needs_icw4») (c .single) (c .«auto_eoi») (c .«read_isr») (c .spare)
+withStep c x = registers (c .«vector_base») (c .mask) (c .request) (c .«in_service») x (c .«needs_icw4») (c .single) (c .«auto_eoi») (c .«read_isr») (c .full) (c .«lowest_line») (c .«auto_rotation») (c .spare)
 
 abbrev pub withNeedsIcw4 : Chip → Bool → Chip
-withNeedsIcw4 c x = registers (c .«vector_base») (c .mask) (c .request) (c .«in_service») (c .«init_step») x (c .single) (c .«auto_eoi») (c .«read_isr») (c .spare)
+withNeedsIcw4 c x = registers (c .«vector_base») (c .mask) (c .request) (c .«in_service») (c .«init_step») x (c .single) (c .«auto_eoi») (c .«read_isr») (c .full) (c .«lowest_line») (c .«auto_rotation») (c .spare)
 
 abbrev pub withSingle : Chip → Bool → Chip
-withSingle c x = registers (c .«vector_base») (c .mask) (c .request) (c .«in_service») (c .«init_step») (c .«needs_icw4») x (c .«auto_eoi») (c .«read_isr») (c .spare)
+withSingle c x = registers (c .«vector_base») (c .mask) (c .request) (c .«in_service») (c .«init_step») (c .«needs_icw4») x (c .«auto_eoi») (c .«read_isr») (c .full) (c .«lowest_line») (c .«auto_rotation») (c .spare)
 
 abbrev pub withAutoEoi : Chip → Bool → Chip
-withAutoEoi c x = registers (c .«vector_base») (c .mask) (c .request) (c .«in_service») (c .«init_step») (c .«needs_icw4») (c .single) x (c .«read_isr») (c .spare)
+withAutoEoi c x = registers (c .«vector_base») (c .mask) (c .request) (c .«in_service») (c .«init_step») (c .«needs_icw4») (c .single) x (c .«read_isr») (c .full) (c .«lowest_line») (c .«auto_rotation») (c .spare)
 
 abbrev pub withReadIsr : Chip → Bool → Chip
-withReadIsr c x = registers (c .«vector_base») (c .mask) (c .request) (c .«in_service») (c .«init_step») (c .«needs_icw4») (c .single) (c .«auto_eoi») x (c .spare)
+withReadIsr c x = registers (c .«vector_base») (c .mask) (c .request) (c .«in_service») (c .«init_step») (c .«needs_icw4») (c .single) (c .«auto_eoi») x (c .full) (c .«lowest_line») (c .«auto_rotation») (c .spare)
 
--- the chip in a word: base, mask, requests, in service and step are a byte each, then come four flags, and what is left
+abbrev pub withLowest : Chip → ℕ → Chip
+withLowest c x = registers (c .«vector_base») (c .mask) (c .request) (c .«in_service») (c .«init_step») (c .«needs_icw4») (c .single) (c .«auto_eoi») (c .«read_isr») (c .full) x (c .«auto_rotation») (c .spare)
+
+abbrev pub withAutoRotation : Chip → Bool → Chip
+withAutoRotation c x = registers (c .«vector_base») (c .mask) (c .request) (c .«in_service») (c .«init_step») (c .«needs_icw4») (c .single) (c .«auto_eoi») (c .«read_isr») (c .full) (c .«lowest_line») x (c .spare)
+
+-- the chip in a word, where the pair's rule isn't the full profile: base, mask, requests, in service and step are a byte each, then come four flags, and what is left
 unfoldable pub chipIn : ℕ → Chip
 chipIn w =
-    registers (w % 2 ^ 8) (w / 2 ^ 8 % 2 ^ 8) (w / 2 ^ 16 % 2 ^ 8) (w / 2 ^ 24 % 2 ^ 8) (w / 2 ^ 32 % 2 ^ 8) (bit w 40) (bit w 41) (bit w 42) (bit w 43) (w / 2 ^ 44)
+    registers (w % 2 ^ 8) (w / 2 ^ 8 % 2 ^ 8) (w / 2 ^ 16 % 2 ^ 8) (w / 2 ^ 24 % 2 ^ 8) (w / 2 ^ 32 % 2 ^ 8) (bit w 40) (bit w 41) (bit w 42) (bit w 43) false 7 false (w / 2 ^ 44)
+
+-- in the full profile what is left begins with the priorities: three bits are the highest line, which the lowest stands before, and one is rotation in automatic EOI mode
+abbrev pub asFull : Chip → Chip
+asFull c =
+    registers (c .«vector_base») (c .mask) (c .request) (c .«in_service») (c .«init_step») (c .«needs_icw4») (c .single) (c .«auto_eoi») (c .«read_isr») true ((c .spare + 7) % 2 ^ 3) (bit (c .spare) 3) (c .spare / 2 ^ 4)
+
+abbrev pub fullIn : ℕ → Chip
+fullIn w = asFull (chipIn w)

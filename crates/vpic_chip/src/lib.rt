@@ -5,11 +5,12 @@
 // nothing; `Option` became enums; each function has its contract. A set of the chip's eight lines is a byte.
 
 ghost use mathlib.Core.Path.{_≡_};
+ghost use mathlib.Core.Bool.{false};
 ghost use Prim.Native.Nat.{_<_, _≤_};
 ghost use Rattle.utils.specs.Set.{with, without, setOf, lowest};
 ghost use Rattle.types.specs.Reply.{flag};
-ghost use Rattle.vpic_chip.specs.Registers.{withBase, withMask, withRequest, withInService, withStep, withAutoEoi, withReadIsr, chipIn};
-ghost use Rattle.vpic_chip.specs.Chip.{opened, icw1, ocw3, specificEoi, nonSpecificEoi, ocw2, commanded, afterIcw3, icw2, icw3, icw4, ocw1, fed, commandRead, pulsed, cascadeIrq, counts, asks, driven, pendingIrq, acknowledged, acknowledge, acknowledgeOutcome, vectorReply, unacknowledged};
+ghost use Rattle.vpic_chip.specs.Registers.{withBase, withMask, withRequest, withInService, withStep, withAutoEoi, withReadIsr, withLowest, withAutoRotation, chipIn, fullIn};
+ghost use Rattle.vpic_chip.specs.Chip.{turned, opened, icw1, ocw3, specificEoi, nonSpecificEoi, ocw2, commanded, afterIcw3, icw2, icw3, icw4, ocw1, fed, commandRead, pulsed, cascadeIrq, counts, pendingLine, asks, driven, pendingIrq, acknowledged, acknowledge, acknowledgeOutcome, fullOutcome, vectorReply, unacknowledged};
 use types::PicLine;
 use types::Reply;
 use types::Vector;
@@ -260,7 +261,7 @@ impl PicChip {
 
     // The highest line in service ends.
     fn end_highest(self) -> Self
-        ensures { λ r. ⌜ chipIn (r .0) ≡ nonSpecificEoi (chipIn (self .0)) ⌝ }
+        ensures { λ r. ⌜ chipIn (r .0) ≡ nonSpecificEoi (chipIn (self .0)) false ⌝ }
     {
         self.with_in_service(set8::without_lowest(self.in_service()))
     }
@@ -429,6 +430,204 @@ impl PicChip {
             return again;
         }
         again.end(irq)
+    }
+}
+
+// ---- The full profile: the same registers, and behind them priorities that rotate. A pair of that rule makes these calls, and no other pair does: what the plain ones do
+// stays as short as it is.
+
+impl PicChip {
+    pub fn lowest_line(self) -> u8
+        ensures { λ r. ⌜ r ≡ fullIn (self .0) .«lowest_line» ⌝ }
+    {
+        ((self.0 / 0x1000_0000_0000 + 7) % 8) as u8
+    }
+
+    pub fn auto_rotation(self) -> bool
+        ensures { λ r. ⌜ r ≡ fullIn (self .0) .«auto_rotation» ⌝ }
+    {
+        self.0 / 0x8000_0000_0000 % 2 == 1
+    }
+
+    fn with_lowest(self, irq: PicLine) -> Self
+        requires { ⌜ irq .0 < 8 ⌝ }
+        ensures { λ r. ⌜ fullIn (r .0) ≡ withLowest (fullIn (self .0)) (irq .0) ⌝ }
+    {
+        PicChip(
+            self.0 / 0x8000_0000_0000 * 0x8000_0000_0000
+                + (irq.0 as u64 + 1) % 8 * 0x1000_0000_0000
+                + self.0 % 0x1000_0000_0000,
+        )
+    }
+
+    fn with_auto_rotation(self, up: bool) -> Self
+        ensures { λ r. ⌜ fullIn (r .0) ≡ withAutoRotation (fullIn (self .0)) up ⌝ }
+    {
+        PicChip(
+            self.0 / 0x1_0000_0000_0000 * 0x1_0000_0000_0000
+                + digit(up) * 0x8000_0000_0000
+                + self.0 % 0x8000_0000_0000,
+        )
+    }
+
+    fn full_icw1(self, value: u8) -> Self
+        ensures { λ r. ⌜ fullIn (r .0) ≡ icw1 (fullIn (self .0)) value ⌝ }
+    {
+        PicChip(
+            self.0 / 0x1_0000_0000_0000 * 0x1_0000_0000_0000
+                + value as u64 % 4 * 0x100_0000_0000
+                + 0x1_0000_0000
+                + self.0 % 0x1_0000,
+        )
+    }
+
+    // A byte written to the command port.
+    pub fn full_command(self, value: u8) -> Self
+        ensures { λ r. ⌜ fullIn (r .0) ≡ commanded (fullIn (self .0)) value ⌝ }
+    {
+        if value / 16 % 2 == 1 {
+            return self.full_icw1(value);
+        }
+        if value / 8 % 2 == 1 {
+            return self.ocw3(value);
+        }
+        self.full_ocw2(value)
+    }
+
+    fn full_ocw2(self, value: u8) -> Self
+        ensures { λ r. ⌜ fullIn (r .0) ≡ ocw2 (fullIn (self .0)) value ⌝ }
+    {
+        let rotates = value / 128 % 2 == 1;
+        if value / 32 % 2 == 1 {
+            if value / 64 % 2 == 1 {
+                return self.full_end(PicLine(value % 8), rotates);
+            }
+            return self.full_end_highest(rotates);
+        }
+        if value / 64 % 2 != 1 {
+            return self.with_auto_rotation(rotates);
+        }
+        if rotates {
+            return self.with_lowest(PicLine(value % 8));
+        }
+        self
+    }
+
+    // The line is no longer in service and, if the command rotates, lowest.
+    fn full_end(self, irq: PicLine, rotates: bool) -> Self
+        requires { ⌜ irq .0 < 8 ⌝ }
+        ensures { λ r. ⌜ fullIn (r .0) ≡ turned (specificEoi (fullIn (self .0)) (irq .0)) rotates (irq .0) ⌝ }
+    {
+        let ended = self.end(irq);
+        if rotates {
+            return ended.with_lowest(irq);
+        }
+        ended
+    }
+
+    fn full_end_highest(self, rotates: bool) -> Self
+        ensures { λ r. ⌜ fullIn (r .0) ≡ nonSpecificEoi (fullIn (self .0)) rotates ⌝ }
+    {
+        let irq = vpic_priority::first_line(self.lowest_line(), self.in_service());
+        if irq >= 8 {
+            return self;
+        }
+        self.full_end(PicLine(irq), rotates)
+    }
+
+    // A byte written to the data port.
+    pub fn full_data(self, value: u8) -> Self
+        ensures { λ r. ⌜ fullIn (r .0) ≡ fed (fullIn (self .0)) value ⌝ }
+    {
+        self.data(value)
+    }
+
+    // An edge on a line.
+    pub fn full_pulse(self, irq: PicLine) -> Self
+        ensures { λ r. ⌜ fullIn (r .0) ≡ pulsed (fullIn (self .0)) irq ⌝ }
+    {
+        self.pulse(irq)
+    }
+
+    // The line whose request counts and is highest, or 8: the highest unmasked request, where it is above the highest line in service.
+    fn full_pending_line(self) -> PicLine
+        ensures { λ r. ⌜ r .0 ≡ pendingLine (fullIn (self .0)) ⌝ }
+    {
+        let open = set8::outside(self.request(), self.mask());
+        // As mostly, and found at once: each search lays out its table.
+        if open == 0 {
+            return PicLine(8);
+        }
+        let lowest = self.lowest_line();
+        let asked = vpic_priority::first_line(lowest, open);
+        let served = vpic_priority::first_line(lowest, self.in_service());
+        if vpic_priority::is_above(lowest, asked, served) {
+            return PicLine(asked);
+        }
+        PicLine(8)
+    }
+
+    // The request that would be acknowledged next.
+    pub fn full_pending_irq(self) -> PendingIrq
+        ensures { λ r. ⌜ r ≡ pendingIrq (fullIn (self .0)) ⌝ }
+    {
+        let irq = self.full_pending_line();
+        if irq.0 >= 8 {
+            return PendingIrq::Nothing;
+        }
+        PendingIrq::Irq(irq)
+    }
+
+    // The output, INT: whether a request counts.
+    pub fn full_asks(self) -> bool
+        ensures { λ r. ⌜ r ≡ asks (fullIn (self .0)) ⌝ }
+    {
+        self.full_pending_line().0 < 8
+    }
+
+    // The cascade line is driven by a level.
+    pub fn full_drive_cascade(self, up: bool) -> Self
+        ensures { λ r. ⌜ fullIn (r .0) ≡ driven (fullIn (self .0)) (cascadeIrq .0) up ⌝ }
+    {
+        self.drive_cascade(up)
+    }
+
+    // The interrupt acknowledge sequence of a line, with its vector.
+    pub fn full_acknowledge(self, irq: PicLine) -> Acknowledged
+        ensures { λ r. ⌜ fullOutcome r ≡ acknowledge (fullIn (self .0)) irq ⌝ }
+    {
+        if irq.0 >= 8 {
+            return Acknowledged {
+                chip: self,
+                vector: PicVector::Nothing,
+            };
+        }
+        let vector = irq.vector(self.vector_base());
+        Acknowledged {
+            chip: self.full_acknowledged(irq),
+            vector: PicVector::Given(vector),
+        }
+    }
+
+    fn full_acknowledged(self, irq: PicLine) -> Self
+        requires { ⌜ irq .0 < 8 ⌝ }
+        ensures { λ r. ⌜ fullIn (r .0) ≡ acknowledged (fullIn (self .0)) (irq .0) ⌝ }
+    {
+        let left = self.unrequested(irq);
+        if !self.auto_eoi() {
+            return left.served(irq);
+        }
+        if self.auto_rotation() {
+            return left.with_lowest(irq);
+        }
+        left
+    }
+
+    // A line's acknowledgement taken back; priorities aren't turned back.
+    pub fn full_unacknowledge(self, irq: PicLine, in_service: bool) -> Self
+        ensures { λ r. ⌜ fullIn (r .0) ≡ unacknowledged (fullIn (self .0)) irq «in_service» ⌝ }
+    {
+        self.unacknowledge(irq, in_service)
     }
 }
 

@@ -1,40 +1,43 @@
--- No call changes the rule's number, nor what stands for nothing. Assumes nothing.
-use mathlib.Core.Path.{_≡_, refl, ap, _∙_}
-use mathlib.Core.Bool.{Bool}
-use Prim.Native.Nat.{ℕ, _%_}
+-- No call changes the rule's number, a chip's profile, nor what stands for nothing. Assumes nothing.
+use mathlib.Core.Path.{_≡_, refl, sym, ap, _∙_}
+use mathlib.Core.Bool.{Bool, true, false, cond}
+use Prim.Native.Nat.{ℕ, _/_, _%_, _^_}
+use native.Mathlib.Omega.{arith}
 use lib.Dec.{ltb, eqb}
-use Rattle.utils.specs.Set.{bit, lowest}
+use lib.ListN.{getD}
+use Rattle.utils.specs.Set.{bit}
 use Rattle.utils.proofs.Bools.{both}
 use Rattle.types.specs.declared.PicLine.{PicLine}
 use Rattle.types.specs.declared.PicPlace.{PicPlace}
 use Rattle.types.specs.declared.PicPlace.the-variants.{Master, Slave, Nowhere}
 use Rattle.types.specs.Counters.{placeOf}
 use Rattle.types.specs.Reply.{Outcome}
-use Rattle.vpic_chip.specs.Registers.{Chip, chipIn}
-use Rattle.vpic_chip.specs.Chip.{cascadeIrq, commanded, fed, pulsed, driven, acknowledged, unacknowledged}
-use Rattle.vpic.specs.Words.{PicState, view}
+use Rattle.vpic_chip.specs.Registers.{Chip, chipIn, fullIn}
+use Rattle.vpic_chip.specs.Chip.{cascadeIrq, firstOf, commanded, fed, pulsed, driven, acknowledged, unacknowledged}
+use Rattle.vpic.specs.Words.{PicState, chipBy, view}
 use Rattle.vpic.specs.Pair.{StateClaim, isCascade, settled, latchedAt, latched, masterClaim, slaveClaim, pendingPlace, claimAt, claimPending, claimIrq, restoredAt, restored, Port, master-command, master-data, slave-command, slave-data, no-port, portAt, isPort, writtenTo, writtenAt, portWritten}
-use Rattle.vpic_theorems.specs.Statements.{Call, claim-irq, claim-pending-interrupt, pulse-irq, next-interrupt, restore-interrupt, handle-read, handle-write, outcome, CallsKeepRest}
+use Rattle.vpic_theorems.specs.Statements.{Call, claim-irq, claim-pending-interrupt, pulse-irq, next-interrupt, restore-interrupt, handle-read, handle-write, outcome, spareFrom, CallsKeepRest}
 
 -- ---- one chip
 
-abbrev Same : Chip → Chip → Type 0
-Same c d = d .spare ≡ c .spare
+-- what stands for nothing, and the profile
+abbrev pub Same : Chip → Chip → Type 0
+Same c d = (d .spare ≡ c .spare) × (d .full ≡ c .full)
 
 commanded-same : (c : Chip) (v : ℕ) → Same c (commanded c v)
 unfolding commanded
 commanded-same c v =
-    both (Same c) (bit v 4) _ _ refl
-    (both (Same c) (bit v 3) _ _ refl
-    (both (Same c) (bit v 5) _ _ (both (Same c) (bit v 6) _ _ refl (both (Same c) (ltb (lowest 8 (c .«in_service»)) 8) _ _ refl refl)) refl))
+    both (Same c) (bit v 4) _ _ (refl, refl)
+    (both (Same c) (bit v 3) _ _ (refl, refl)
+    (both (Same c) (bit v 5) _ _ (both (Same c) (bit v 6) _ _ (refl, refl) (both (Same c) (ltb (firstOf c (bit (c .«in_service»))) 8) _ _ (refl, refl) (refl, refl))) (both (Same c) (bit v 6) _ _ (refl, refl) (refl, refl))))
 
 fed-same : (c : Chip) (v : ℕ) → Same c (fed c v)
 unfolding fed
-fed-same c v = both (Same c) (eqb (c .«init_step») 1) _ _ refl (both (Same c) (eqb (c .«init_step») 2) _ _ refl (both (Same c) (eqb (c .«init_step») 3) _ _ refl refl))
+fed-same c v = both (Same c) (eqb (c .«init_step») 1) _ _ (refl, refl) (both (Same c) (eqb (c .«init_step») 2) _ _ (refl, refl) (both (Same c) (eqb (c .«init_step») 3) _ _ (refl, refl) (refl, refl)))
 
 pulsed-same : (c : Chip) (l : PicLine) → Same c (pulsed c l)
 unfolding pulsed
-pulsed-same c l = both (Same c) (ltb (l .0) 8) _ _ refl refl
+pulsed-same c l = both (Same c) (ltb (l .0) 8) _ _ (refl, refl) (refl, refl)
 
 unacknowledged-same : (c : Chip) (l : PicLine) (f : Bool) → Same c (unacknowledged c l f)
 unfolding unacknowledged
@@ -45,14 +48,14 @@ unacknowledged-same c l f = both (Same c) f _ _ (both (Same c) (ltb (l .0) 8) _ 
 pub record Stays (p q : PicState) : Type 0 where
   pub rule : q .rule ≡ p .rule
   pub spare : q .spare ≡ p .spare
-  pub master : q .master .spare ≡ p .master .spare
-  pub slave : q .slave .spare ≡ p .slave .spare
+  pub master : Same (p .master) (q .master)
+  pub slave : Same (p .slave) (q .slave)
 
 same : (p : PicState) → Stays p p
-same p = record { rule = refl; spare = refl; master = refl; slave = refl }
+same p = record { rule = refl; spare = refl; master = (refl, refl); slave = (refl, refl) }
 
 then : (p q r : PicState) → Stays p q → Stays q r → Stays p r
-then p q r h k = record { rule = k .rule ∙ h .rule; spare = k .spare ∙ h .spare; master = k .master ∙ h .master; slave = k .slave ∙ h .slave }
+then p q r h k = record { rule = k .rule ∙ h .rule; spare = k .spare ∙ h .spare; master = (k .master .0 ∙ h .master .0, k .master .1 ∙ h .master .1); slave = (k .slave .0 ∙ h .slave .0, k .slave .1 ∙ h .slave .1) }
 
 settled-stays : (p q : PicState) → Stays p q → Stays p (settled q)
 unfolding settled driven
@@ -63,12 +66,12 @@ unfolding claimPending masterClaim slaveClaim acknowledged
 claim-stays p = go (pendingPlace p)
   where
     go : (a : PicPlace) → Stays p (claimAt p a .state)
-    go (Master k) = settled-stays p _ (record { rule = refl; spare = refl; master = refl; slave = refl })
-    go (Slave k) = settled-stays p _ (record { rule = refl; spare = refl; master = refl; slave = refl })
+    go (Master k) = settled-stays p _ (record { rule = refl; spare = refl; master = (refl, refl); slave = (refl, refl) })
+    go (Slave k) = settled-stays p _ (record { rule = refl; spare = refl; master = (refl, refl); slave = (refl, refl) })
     go Nowhere = settled-stays p p (same p)
 
 latched-stays : (p : PicState) (a : PicPlace) → Stays p (latchedAt p a)
-latched-stays p (Master k) = record { rule = refl; spare = refl; master = pulsed-same (p .master) k; slave = refl }
+latched-stays p (Master k) = record { rule = refl; spare = refl; master = pulsed-same (p .master) k; slave = (refl, refl) }
 latched-stays p (Slave k) = record { rule = refl; spare = refl; master = pulsed-same (p .master) cascadeIrq; slave = pulsed-same (p .slave) k }
 latched-stays p Nowhere = same p
 
@@ -80,7 +83,7 @@ raise-stays p l =
     (same p)
 
 restored-stays : (p : PicState) (a : PicPlace) (m s : Bool) → Stays p (restoredAt p a m s)
-restored-stays p (Master k) m s = record { rule = refl; spare = refl; master = unacknowledged-same (p .master) k m; slave = refl }
+restored-stays p (Master k) m s = record { rule = refl; spare = refl; master = unacknowledged-same (p .master) k m; slave = (refl, refl) }
 restored-stays p (Slave k) m s = record { rule = refl; spare = refl; master = unacknowledged-same (p .master) cascadeIrq m; slave = unacknowledged-same (p .slave) k s }
 restored-stays p Nowhere m s = same p
 
@@ -89,10 +92,10 @@ unfolding writtenAt
 written-stays p port byte = go (portAt port)
   where
     go : (a : Port) → Stays p (writtenTo p a byte)
-    go master-command = record { rule = refl; spare = refl; master = commanded-same (p .master) byte; slave = refl }
-    go master-data = record { rule = refl; spare = refl; master = fed-same (p .master) byte; slave = refl }
-    go slave-command = record { rule = refl; spare = refl; master = refl; slave = commanded-same (p .slave) byte }
-    go slave-data = record { rule = refl; spare = refl; master = refl; slave = fed-same (p .slave) byte }
+    go master-command = record { rule = refl; spare = refl; master = commanded-same (p .master) byte; slave = (refl, refl) }
+    go master-data = record { rule = refl; spare = refl; master = fed-same (p .master) byte; slave = (refl, refl) }
+    go slave-command = record { rule = refl; spare = refl; master = (refl, refl); slave = commanded-same (p .slave) byte }
+    go slave-data = record { rule = refl; spare = refl; master = (refl, refl); slave = fed-same (p .slave) byte }
     go no-port = same p
 
 abbrev Leaves : PicState → Outcome PicState → Type 0
@@ -109,13 +112,23 @@ calls-kept p (handle-read port width) = both (Leaves p) (eqb width 1) _ _ (same 
 calls-kept p (handle-write port width value) =
     both (Leaves p) (eqb width 1) _ _ (both (Leaves p) (isPort port) _ _ (settled-stays p _ (written-stays p port (value % 256))) (same p)) (same p)
 
+-- where the words of a chip begin to stand for nothing
+left-is : (rule v w : ℕ) → chipBy rule v .spare ≡ chipBy rule w .spare → v / 2 ^ spareFrom rule ≡ w / 2 ^ spareFrom rule
+unfolding chipIn
+left-is rule v w = go (eqb rule 2)
+  where
+    go : (b : Bool) → cond b (fullIn v) (chipIn v) .spare ≡ cond b (fullIn w) (chipIn w) .spare → v / 2 ^ cond b 48 44 ≡ w / 2 ^ cond b 48 44
+    go true q = omega arith
+    go false q = q
+
 pub calls-keep-rest : CallsKeepRest
-unfolding view chipIn
+unfolding view
 calls-keep-rest l m c e =
     let h = calls-kept (view l) c in
+    let r : getD m 2 0 ≡ getD l 2 0 = ap (λ (p : PicState). p .rule) e ∙ h .rule in
     record {
-      master = ap (λ (p : PicState). p .master .spare) e ∙ h .master;
-      slave = ap (λ (p : PicState). p .slave .spare) e ∙ h .slave;
-      rule = ap (λ (p : PicState). p .rule) e ∙ h .rule;
+      master = left-is (getD l 2 0) (getD m 0 0) (getD l 0 0) (ap (λ (n : ℕ). chipBy n (getD m 0 0) .spare) (sym r) ∙ ap (λ (p : PicState). p .master .spare) e ∙ h .master .0);
+      slave = left-is (getD l 2 0) (getD m 1 0) (getD l 1 0) (ap (λ (n : ℕ). chipBy n (getD m 1 0) .spare) (sym r) ∙ ap (λ (p : PicState). p .slave .spare) e ∙ h .slave .0);
+      rule = r;
       last = ap (λ (p : PicState). p .spare) e ∙ h .spare;
     }

@@ -3,3 +3,12 @@ pub mod Restore
 pub mod Calls
 pub mod Kept
 pub mod Rule
+pub mod Ring
+pub mod Turns
+pub mod Rotation
+pub mod Rounds
+pub mod Turned
+pub mod Plain
+pub mod FullDepartures
+pub mod FullRule
+pub mod Exactly

@@ -1,9 +1,10 @@
 -- A claim that is restored at once gives back the pair as it was, and serves the highest request of each chip; what its flags say. Assumes nothing.
 use mathlib.Core.Path.{_≡_, refl, sym, ap, ap₂, subst, _∙_}
-use mathlib.Core.Bool.{Bool, true, false, not, cond}
+use mathlib.Core.Bool.{Bool, true, false, not, cond, _&&_}
 use Prim.Native.Nat.{ℕ, _+_, _-_, _<_}
 use native.Mathlib.Omega.{arith}
 use lib.Dec.{ltb, eqb}
+use lib.ListN.{getD}
 use borrow.Author.Tests.{lt-ltb, le-ltb, eqb-true}
 use Rattle.utils.specs.Set.{bit, with, without, outside, lowest}
 use Rattle.utils.proofs.Bools.{both}
@@ -14,10 +15,11 @@ use Rattle.types.specs.declared.PicPlace.{PicPlace}
 use Rattle.types.specs.declared.PicPlace.the-variants.{Master, Slave, Nowhere}
 use Rattle.types.specs.declared.Reply.the-variants as reply
 use Rattle.types.specs.Counters.{placeOf, lineVector}
-use Rattle.vpic_chip.specs.Registers.{Chip, withRequest, withInService}
+use Rattle.vpic_chip.specs.Registers.{Chip, chipIn, fullIn, withRequest, withInService, withLowest}
+use Rattle.vpic_priority.specs.Ring.{firstRank, firstBy}
 use Rattle.vpic_chip.specs.declared.PendingIrq.{PendingIrq}
 use Rattle.vpic_chip.specs.declared.PendingIrq.the-variants.{Irq, Nothing}
-use Rattle.vpic.specs.Words.{PicState}
+use Rattle.vpic.specs.Words.{PicState, isFull, view}
 use Rattle.vpic.specs.declared.PicInterruptClaim.{PicInterruptClaim}
 use Rattle.vpic.specs.declared.PicClaim.the-variants.{Claimed, Nothing as NoClaim}
 use Rattle.vpic_chip.specs.Chip.{cascadeIrq, opened, commanded, fed, pulsed, driven, counts, pendingLine, Highest, pendingIrq, acknowledged, unacknowledged}
@@ -27,13 +29,21 @@ use Rattle.vpic_theorems.specs.Rule.{LatchedKeeps, WrittenKeeps, Restore
 use Rattle.vpic_theorems.proofs.Settled.{settled-between}
 use Rattle.vpic.proofs.Settled.{settled-kept, settled-keeps}
 use Rattle.vpic.proofs.Laws.{none-new, grew-taken}
-use Rattle.vpic_theorems.specs.Statements.{RestoredAtOnce, RestoredAfterRaise, Served, ServedBy, HighestServed, SecondCallerUnheard, Flagged, FlagsSay, FlagsSayAfterRaise}
+use Rattle.vpic_theorems.specs.Statements.{Steady, BothSteady, PlainWords, PlainSteady, RestoredAtOnce, RestoredAfterRaise, PlainRestoredAtOnce, PlainRestoredAfterRaise, Served, ServedBy, HighestServed, SecondCallerUnheard, Flagged, FlagsSay, FlagsSayAfterRaise}
 
 -- ---- one chip: acknowledged, and taken back
 
-chip-back : (c : Chip) (k : PicLine) → Highest c (k .0) → unacknowledged (acknowledged c (k .0)) k (grew c (acknowledged c (k .0))) ≡ c
-unfolding unacknowledged acknowledged pulsed
-chip-back c k h = ap (unacknowledged (acknowledged c (k .0)) k) (grew-taken c (k .0) (h .low) (counted-idle c (k .0) (h .counted))) ∙ go (c .«auto_eoi»)
+-- an acknowledgement that turns no priorities
+steady-taken : (c : Chip) (k : ℕ) → Steady c → acknowledged c k ≡ withInService (withRequest c (without (c .request) k)) (cond (c .«auto_eoi») (c .«in_service») (with (c .«in_service») k))
+unfolding acknowledged
+steady-taken c k s =
+    ap (λ (b : Bool). withLowest (withInService (withRequest c (without (c .request) k)) (cond (c .«auto_eoi») (c .«in_service») (with (c .«in_service») k))) (cond b k (c .«lowest_line»))) s
+
+chip-back : (c : Chip) (k : PicLine) → Steady c → Highest c (k .0) → unacknowledged (acknowledged c (k .0)) k (grew c (acknowledged c (k .0))) ≡ c
+unfolding unacknowledged pulsed
+chip-back c k s h =
+    ap (unacknowledged (acknowledged c (k .0)) k) (grew-taken c (k .0) (h .low) (counted-idle c (k .0) (h .counted)))
+    ∙ ap (λ (d : Chip). unacknowledged d k (not (c .«auto_eoi»))) (steady-taken c (k .0) s) ∙ go (c .«auto_eoi»)
   where
     asked : bit (c .request) (k .0) ≡ true
     asked = counted-asked c (k .0) (h .counted)
@@ -44,45 +54,45 @@ chip-back c k h = ap (unacknowledged (acknowledged c (k .0)) k) (grew-taken c (k
 
 -- ---- the pair: a claim of the master's line, and of the slave's
 
-place-low : (k : PicLine) → k .0 < 8 → placeOf k ≡ Master k
+pub place-low : (k : PicLine) → k .0 < 8 → placeOf k ≡ Master k
 place-low k h = rw (lt-ltb (k .0) 8 h)
 
-place-high : (k : PicLine) → k .0 < 8 → placeOf (record { 0 = k .0 + 8 }) ≡ Slave k
+pub place-high : (k : PicLine) → k .0 < 8 → placeOf (record { 0 = k .0 + 8 }) ≡ Slave k
 place-high k h = rw (le-ltb (k .0 + 8) 8 (omega arith), lt-ltb (k .0 + 8) 16 (omega arith)) (ap (λ (n : ℕ). Slave (record { 0 = n })) e)
   where
     e : k .0 + 8 - 8 ≡ k .0
     e = omega arith
 
 -- which claim a claim is
-the-claim : (p q : PicState) (v : Vector) (l : PicLine) → PicInterruptClaim
+unfoldable pub the-claim : (p q : PicState) (v : Vector) (l : PicLine) → PicInterruptClaim
 the-claim p q v l = record { vector = v; irq = l; «master_in_service» = grew (p .master) (q .master); «slave_in_service» = grew (p .slave) (q .slave) }
 
-master-back : (p : PicState) (k : PicLine) (c : PicInterruptClaim) → Keeps p → Highest (p .master) (k .0) → masterClaim p k .claim ≡ Claimed c
+master-back : (p : PicState) (k : PicLine) (c : PicInterruptClaim) → Keeps p → BothSteady p → Highest (p .master) (k .0) → masterClaim p k .claim ≡ Claimed c
     → restored (masterClaim p k .state) c ≡ p
 unfolding masterClaim restored the-claim
-master-back p k c keeps h e =
+master-back p k c keeps s h e =
     let q = chips p (acknowledged (p .master) (k .0)) (p .slave) in
     let f : c ≡ the-claim p q (lineVector (p .master .«vector_base») k) k = cc in
     rw (f, place-low k (h .low))
-    (settled-between q k (grew (p .master) (q .master)) (λ s. s) (h .low)
-    ∙ ap (λ (m : Chip). settled (chips p m (p .slave))) (chip-back (p .master) k h)
+    (settled-between q k (grew (p .master) (q .master)) (λ d. d) (h .low)
+    ∙ ap (λ (m : Chip). settled (chips p m (p .slave))) (chip-back (p .master) k (s .0) h)
     ∙ settled-kept p keeps)
 
-slave-back : (p : PicState) (k : PicLine) (c : PicInterruptClaim) → Keeps p → Highest (p .master) 2 → Highest (p .slave) (k .0) → slaveClaim p k .claim ≡ Claimed c
+slave-back : (p : PicState) (k : PicLine) (c : PicInterruptClaim) → Keeps p → BothSteady p → Highest (p .master) 2 → Highest (p .slave) (k .0) → slaveClaim p k .claim ≡ Claimed c
     → restored (slaveClaim p k .state) c ≡ p
 unfolding slaveClaim restored the-claim
-slave-back p k c keeps m h e =
+slave-back p k c keeps s m h e =
     let q = chips p (acknowledged (p .master) 2) (acknowledged (p .slave) (k .0)) in
     let f : c ≡ the-claim p q (lineVector (p .slave .«vector_base») k) (record { 0 = k .0 + 8 }) = cc in
     rw (f, place-high k (h .low))
-    (settled-between q cascadeIrq (grew (p .master) (q .master)) (λ s. unacknowledged s k (grew (p .slave) (q .slave))) (m .low)
-    ∙ ap₂ (λ (a b : Chip). settled (chips p a b)) (chip-back (p .master) cascadeIrq m) (chip-back (p .slave) k h)
+    (settled-between q cascadeIrq (grew (p .master) (q .master)) (λ d. unacknowledged d k (grew (p .slave) (q .slave))) (m .low)
+    ∙ ap₂ (λ (a b : Chip). settled (chips p a b)) (chip-back (p .master) cascadeIrq (s .0) m) (chip-back (p .slave) k (s .1) h)
     ∙ settled-kept p keeps)
 
 -- ---- any claim is one of the two
 
 -- what is shown of the master's and of the slave's claims holds of every claim
-by-claim : (P : StateClaim → PicInterruptClaim → Type 0) (p : PicState)
+pub by-claim : (P : StateClaim → PicInterruptClaim → Type 0) (p : PicState)
     → ((k : PicLine) (c : PicInterruptClaim) → Highest (p .master) (k .0) → masterClaim p k .claim ≡ Claimed c → P (masterClaim p k) c)
     → ((k : PicLine) (c : PicInterruptClaim) → Highest (p .master) 2 → Highest (p .slave) (k .0) → slaveClaim p k .claim ≡ Claimed c → P (slaveClaim p k) c)
     → (c : PicInterruptClaim) → claimPending p .claim ≡ Claimed c → P (claimPending p) c
@@ -112,15 +122,15 @@ unfolding slaveClaim
 slave-line p k c e = let f : c .irq ≡ record { 0 = k .0 + 8 } = cc in ap (λ (l : PicLine). l .0) f
 
 -- every claim names a line of the pair
-below-16 : (p : PicState) (c : PicInterruptClaim) → claimPending p .claim ≡ Claimed c → c .irq .0 < 16
+pub below-16 : (p : PicState) (c : PicInterruptClaim) → claimPending p .claim ≡ Claimed c → c .irq .0 < 16
 below-16 p =
     by-claim (λ r c. c .irq .0 < 16) p (λ k c h e. omega (arith, h .low, ap (λ (l : PicLine). l .0) (master-line p k c e)))
     (λ k c m h e. omega (arith, h .low, slave-line p k c e))
 
 pub restored-at-once : RestoredAtOnce
-restored-at-once p c keeps e =
+restored-at-once p c keeps steady e =
     rw (lt-ltb (c .irq .0) 16 (below-16 p c e))
-    (rw (by-claim (λ r d. restored (r .state) d ≡ p) p (λ k d h f. master-back p k d keeps h f) (λ k d m h f. slave-back p k d keeps m h f) c e))
+    (rw (by-claim (λ r d. restored (r .state) d ≡ p) p (λ k d h f. master-back p k d keeps steady h f) (λ k d m h f. slave-back p k d keeps steady m h f) c e))
 
 pub latched-keeps : LatchedKeeps
 unfolding latched
@@ -134,14 +144,49 @@ pub restored-keeps : RestoredKeeps
 unfolding restored
 restored-keeps p c = settled-keeps (restoredAt p (placeOf (c .irq)) (c .«master_in_service») (c .«slave_in_service»))
 
+-- to latch a line turns no priorities, and leaves the modes
+pulsed-steady : (c : Chip) (l : PicLine) → Steady c → Steady (pulsed c l)
+unfolding pulsed
+pulsed-steady c l s = both Steady (ltb (l .0) 8) _ _ s s
+
+latched-steady : (p : PicState) (l : PicLine) → BothSteady p → BothSteady (latched p l)
+unfolding latched settled driven
+latched-steady p l s = both BothSteady (isCascade (latchedAt p (placeOf l))) _ _ (go (placeOf l)) (go (placeOf l))
+  where
+    go : (a : PicPlace) → BothSteady (latchedAt p a)
+    go (Master k) = (pulsed-steady (p .master) k (s .0), s .1)
+    go (Slave k) = (pulsed-steady (p .master) cascadeIrq (s .0), pulsed-steady (p .slave) k (s .1))
+    go Nowhere = s
+
 pub restored-after-raise : RestoredAfterRaise
 unfolding claimIrq
-restored-after-raise p l c e = go (ltb (l .0) 16) e
+restored-after-raise p l c steady e = go (ltb (l .0) 16) e
   where
     go : (b : Bool) → cond b (claimPending (latched p l)) (record { state = p; claim = NoClaim }) .claim ≡ Claimed c
         → restoreInterrupt (cond b (claimPending (latched p l)) (record { state = p; claim = NoClaim }) .state) c ≡ record { state = latched p l; reply = reply.Nothing }
-    go true f = restored-at-once (latched p l) c (latched-keeps p l) f
+    go true f = restored-at-once (latched p l) c (latched-keeps p l) (latched-steady p l steady) f
     go false f = let z : _≡_ {A = ℕ} 0 1 = cc in absurd (omega arith)
+
+-- ---- rules 0 and 1
+
+pub plain-words : PlainWords
+unfolding view chipIn
+plain-words l e = (go (getD l 0 0), go (getD l 1 0))
+  where
+    go : (w : ℕ) → cond (isFull (getD l 2 0)) (fullIn w) (chipIn w) .full ≡ false
+    go w = ap (λ (b : Bool). cond b (fullIn w) (chipIn w) .full) e
+
+plain-chip : (c : Chip) → c .full ≡ false → Steady c
+plain-chip c f = ap (λ (b : Bool). b && (c .«auto_eoi» && c .«auto_rotation»)) f
+
+pub plain-steady : PlainSteady
+plain-steady p h = (plain-chip (p .master) (h .0), plain-chip (p .slave) (h .1))
+
+pub plain-restored-at-once : PlainRestoredAtOnce
+plain-restored-at-once p c h keeps e = restored-at-once p c keeps (plain-steady p h) e
+
+pub plain-restored-after-raise : PlainRestoredAfterRaise
+plain-restored-after-raise p l c h e = restored-after-raise p l c (plain-steady p h) e
 
 -- ---- the highest request is served
 
@@ -178,7 +223,7 @@ highest-served p =
     (λ k c m h e. rw (slave-line p k c e) (slave-serves p k m h))
 
 pub second-caller-unheard : SecondCallerUnheard
-unfolding opened commanded fed pulsed counts pendingLine pendingIrq acknowledged newState settled latched masterClaim slaveClaim claimPending claimIrq portWritten writtenAt with without outside lowest
+unfolding firstRank firstBy opened commanded fed pulsed counts pendingLine pendingIrq acknowledged newState settled latched masterClaim slaveClaim claimPending claimIrq portWritten writtenAt with without outside lowest
 second-caller-unheard = (refl, refl, refl)
 
 -- ---- what a claim's flags say

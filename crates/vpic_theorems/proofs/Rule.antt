@@ -5,12 +5,12 @@ use mathlib.Core.List.{List, [], _∷_}
 use Prim.Native.Nat.{ℕ, _%_, _<_, _≤_}
 use native.Mathlib.Omega.{arith}
 use lib.Dec.{ltb, eqb}
-use borrow.Author.Tests.{lt-ltb, ltb-true, ltb-false}
-use Rattle.utils.specs.Set.{bit, with, without, outside, first, lowest}
+use borrow.Author.Tests.{lt-ltb, le-ltb, ltb-true, ltb-false}
+use Rattle.utils.specs.Set.{bit, with, without, outside, lowest}
 use Rattle.utils.specs.Cases.{and-left-no}
-use Rattle.utils.proofs.Bools.{and-true}
-use Rattle.utils.proofs.Search.{first-is, first-holds, first-before}
-use Rattle.utils.proofs.Laws.{lowest-le, lowest-in}
+use Rattle.vpic_priority.specs.Ring.{rank, above, firstRank, firstBy}
+use Rattle.vpic_priority.proofs.Ring.{rank-out, rank-lt, rank-low, first-rank-le, by-rank, by-holds, by-before, by-is}
+use Rattle.vpic_chip.proofs.Laws.{counted-above}
 use Rattle.types.specs.declared.PicLine.{PicLine}
 use Rattle.types.specs.declared.PicPlace.{PicPlace}
 use Rattle.types.specs.declared.PicPlace.the-variants.{Master, Slave, Nowhere}
@@ -20,9 +20,9 @@ use Rattle.types.specs.declared.Refusal.the-variants.{Unsupported, OutOfRange}
 use Rattle.types.specs.Counters.{placeOf}
 use Rattle.types.specs.Reply.{Outcome, replyNumber}
 use Rattle.vpic_chip.specs.Registers.{Chip}
-use Rattle.vpic.specs.declared.PicRule.the-variants.{Latch, Cascade}
+use Rattle.vpic.specs.declared.PicRule.the-variants.{Latch, Cascade, Full}
 use Rattle.vpic.specs.Words.{PicState}
-use Rattle.vpic_chip.specs.Chip.{opened, commanded, fed, pulsed, asks, cascadeIrq, driven, counts, pendingLine, Highest, pendingIrq, acknowledged, unacknowledged}
+use Rattle.vpic_chip.specs.Chip.{lowestBy, firstOf, isAboveAll, opened, commanded, fed, pulsed, asks, cascadeIrq, driven, counts, pendingLine, Highest, pendingIrq, acknowledged, unacknowledged}
 use Rattle.vpic.specs.Pair.{chips, Keeps, newState, settled, latchedAt, latched, masterClaim, slaveClaim, pendingPlace, claimAt, claimPending, claimIrq, nothingClaimed, restoredAt, restored, isPort, writtenAt, portWritten, portRead, valueReply, refused}
 use Rattle.vpic_theorems.specs.Statements.{Call, claim-irq, claim-pending-interrupt, pulse-irq, next-interrupt, restore-interrupt, handle-read, handle-write, outcome}
 use Rattle.vpic_theorems.specs.Rule.{AsksIfCounts, CountsIfAsks, run, NewHasRule, NewKeeps, CallsKeep, CallsKeepNumber, RunsKeep, CallsSettle, ReadsUnchanged, LineTwoLatchesNothing, Clear, SlaveHeard, UnkeptNotRestored}
@@ -33,26 +33,28 @@ use Rattle.vpic_theorems.proofs.Kept.{calls-kept}
 -- ---- a chip's output
 
 count-low : (c : Chip) (k : ℕ) → counts c k ≡ true → k < 8
-unfolding counts
-count-low c k e =
-    let l : ltb k (lowest 8 (c .«in_service»)) ≡ true = and-true (bit (c .request) k && not (bit (c .mask) k)) (ltb k (lowest 8 (c .«in_service»))) e .1 in
-    omega (arith, ltb-true k (lowest 8 (c .«in_service»)) l, lowest-le 8 (c .«in_service»))
+count-low c k e = rank-low (lowestBy c) k (omega (arith, counted-above c k e, first-rank-le (lowestBy c) (bit (c .«in_service»))))
 
 pub asks-if-counts : AsksIfCounts
 unfolding asks pendingLine
-asks-if-counts c k e = go (ltb (first 8 (counts c)) 8) refl
+asks-if-counts c k e = go (ltb (firstOf c (counts c)) 8) refl
   where
-    go : (b : Bool) → ltb (first 8 (counts c)) 8 ≡ b → b ≡ true
+    go : (b : Bool) → ltb (firstOf c (counts c)) 8 ≡ b → b ≡ true
     go true h = refl
     go false h =
-        let n : counts c k ≡ false = first-before 8 (counts c) k (omega (arith, count-low c k e, ltb-false (first 8 (counts c)) 8 h)) in
+        let out : 8 ≤ firstRank (lowestBy c) (counts c) = omega (arith, by-rank (lowestBy c) (counts c), rank-out (lowestBy c) (firstOf c (counts c)) (ltb-false (firstOf c (counts c)) 8 h)) in
+        let n : counts c k ≡ false = by-before (lowestBy c) (counts c) k (omega (arith, rank-lt (lowestBy c) k (count-low c k e))) in
         sym n ∙ e
 
 pub counts-if-asks : CountsIfAsks
-unfolding asks pendingLine
+unfolding asks pendingLine above
 counts-if-asks c e =
-    let l : first 8 (counts c) < 8 = ltb-true (first 8 (counts c)) 8 e in
-    record { low = l; counted = first-holds 8 (counts c) l; above = first-before 8 (counts c) }
+    let l : firstOf c (counts c) < 8 = ltb-true (firstOf c (counts c)) 8 e in
+    record {
+      low = l;
+      counted = by-holds (lowestBy c) (counts c) l;
+      above = λ j h. by-before (lowestBy c) (counts c) j (omega (arith, by-rank (lowestBy c) (counts c), ltb-true (rank (lowestBy c) j) (rank (lowestBy c) (firstOf c (counts c))) h));
+    }
 
 -- ---- the rule is kept
 
@@ -60,10 +62,13 @@ pub new-has-rule : NewHasRule
 unfolding newState
 new-has-rule Latch = refl
 new-has-rule Cascade = refl
+new-has-rule Full = refl
 
 pub new-keeps : NewKeeps
-unfolding newState opened asks pendingLine counts lowest
-new-keeps rule e = refl
+unfolding newState opened asks pendingLine counts firstRank firstBy
+new-keeps Latch e = refl
+new-keeps Cascade e = refl
+new-keeps Full e = refl
 
 -- a claim settles the pair
 claim-keeps : (p : PicState) → Keeps (claimPending p .state)
@@ -152,23 +157,29 @@ line-two-latches-nothing p e keeps =
 
 -- the master's line 2 is the highest that counts
 line-two-next : (m : Chip) → Clear m → bit (m .request) 2 ≡ true → pendingLine m ≡ 2
-unfolding pendingLine counts
+unfolding pendingLine counts above
 line-two-next m clear e =
-    first-is 8 (counts m) 2 (omega arith)
-    (rw (e, clear .unmasked, lt-ltb 2 (lowest 8 (m .«in_service»)) idle))
-    (λ j l. and-left-no (bit (m .request) j && not (bit (m .mask) j)) (ltb j (lowest 8 (m .«in_service»))) (unasked j l (bit (m .request) j) refl))
+    by-is (lowestBy m) (counts m) 2 (omega arith)
+    (rw (e, clear .unmasked) (lt-ltb (rank (lowestBy m) 2) (firstRank (lowestBy m) (bit (m .«in_service»))) idle))
+    (λ j l. and-left-no (bit (m .request) j && not (bit (m .mask) j)) (isAboveAll m j (bit (m .«in_service»))) (unasked j (lt-ltb (rank (lowestBy m) j) (rank (lowestBy m) 2) l) (bit (m .request) j) refl))
   where
-    served : (b : Bool) → ltb 2 (lowest 8 (m .«in_service»)) ≡ b → 2 < lowest 8 (m .«in_service»)
-    served true h = ltb-true 2 (lowest 8 (m .«in_service»)) h
+    two : ℕ
+    two = rank (lowestBy m) 2
+
+    served : (b : Bool) → ltb two (firstRank (lowestBy m) (bit (m .«in_service»))) ≡ b → two < firstRank (lowestBy m) (bit (m .«in_service»))
+    served true h = ltb-true two (firstRank (lowestBy m) (bit (m .«in_service»))) h
     served false h =
-        let low : lowest 8 (m .«in_service») ≤ 2 = ltb-false 2 (lowest 8 (m .«in_service»)) h in
-        let in' : bit (m .«in_service») (lowest 8 (m .«in_service»)) ≡ true = lowest-in 8 (m .«in_service») (omega arith) in
-        absurd (true≢false (sym in' ∙ clear .idle (lowest 8 (m .«in_service»)) low))
+        let low : firstRank (lowestBy m) (bit (m .«in_service»)) ≤ two = ltb-false two (firstRank (lowestBy m) (bit (m .«in_service»))) h in
+        let k = firstOf m (bit (m .«in_service»)) in
+        let same : rank (lowestBy m) k ≡ firstRank (lowestBy m) (bit (m .«in_service»)) = by-rank (lowestBy m) (bit (m .«in_service»)) in
+        let in' : bit (m .«in_service») k ≡ true =
+        by-holds (lowestBy m) (bit (m .«in_service»)) (rank-low (lowestBy m) k (omega (arith, rank-lt (lowestBy m) 2 (omega arith)))) in
+        absurd (true≢false (sym in' ∙ clear .idle k (le-ltb two (rank (lowestBy m) k) (omega arith))))
 
-    idle : 2 < lowest 8 (m .«in_service»)
-    idle = served (ltb 2 (lowest 8 (m .«in_service»))) refl
+    idle : two < firstRank (lowestBy m) (bit (m .«in_service»))
+    idle = served (ltb two (firstRank (lowestBy m) (bit (m .«in_service»)))) refl
 
-    unasked : (j : ℕ) → j < 2 → (b : Bool) → bit (m .request) j ≡ b → (b && not (bit (m .mask) j)) ≡ false
+    unasked : (j : ℕ) → above (lowestBy m) j 2 ≡ true → (b : Bool) → bit (m .request) j ≡ b → (b && not (bit (m .mask) j)) ≡ false
     unasked j l true h = rw (clear .quiet j l h)
     unasked j l false h = refl
 
@@ -185,5 +196,5 @@ slave-heard p j cascade keeps e clear =
 -- ---- a computed example
 
 pub unkept-not-restored : UnkeptNotRestored
-unfolding pulsed asks driven counts pendingLine pendingIrq acknowledged unacknowledged settled masterClaim slaveClaim claimPending restored with without outside lowest
+unfolding firstRank firstBy pulsed asks driven counts pendingLine pendingIrq acknowledged unacknowledged settled masterClaim slaveClaim claimPending restored with without outside lowest
 unkept-not-restored = (refl, refl, refl)

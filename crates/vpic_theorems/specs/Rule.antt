@@ -1,6 +1,6 @@
 -- Theorems about the cascade rule (8259A, cascade mode: a slave's INT output drives its line of the master): every call keeps it, and no slave request that counts
 -- goes unheard.
-use Prim.Native.Nat.{ℕ, _<_, _≤_}
+use Prim.Native.Nat.{ℕ}
 use mathlib.Core.Path.{_≡_}
 use mathlib.Core.Bool.{Bool, true, false}
 use mathlib.Core.List.{List, [], _∷_}
@@ -14,7 +14,7 @@ use Rattle.vpic.specs.declared.PicRule.{PicRule}
 use Rattle.vpic.specs.declared.PicRule.the-variants.{Cascade}
 use Rattle.vpic.specs.declared.PicInterruptClaim.{PicInterruptClaim}
 use Rattle.vpic.specs.declared.PicClaim.the-variants.{Claimed}
-use Rattle.vpic_chip.specs.Chip.{asks, counts, pendingLine, Highest, cascadeIrq}
+use Rattle.vpic_chip.specs.Chip.{isAbove, asks, counts, pendingLine, Highest, cascadeIrq}
 use Rattle.vpic.specs.Pair.{ruleIn, newState, isCascade, Keeps, slaveClaim, claimPending, latched, restored, portWritten, restoreInterrupt, handleRead}
 use Rattle.vpic.specs.Departures.{at, line}
 use Rattle.vpic_theorems.specs.Statements.{Call, claim-irq, claim-pending-interrupt, pulse-irq, next-interrupt, restore-interrupt, handle-read, handle-write, outcome}
@@ -87,11 +87,11 @@ LineTwoLatchesNothing = (p : PicState) → isCascade p ≡ true → Keeps p → 
 
 -- ---- no slave request that counts goes unheard
 
--- nothing on the master stands before its line 2: it is unmasked, nothing at or above it is in service, and no unmasked request 0 or 1 waits
+-- nothing on the master stands before its line 2: it is unmasked, it is above every line in service, and no unmasked request of a line above it waits
 pub record Clear (m : Chip) : Type 0 where
   pub unmasked : bit (m .mask) (cascadeIrq .0) ≡ false
-  pub idle : (k : ℕ) → k ≤ cascadeIrq .0 → bit (m .«in_service») k ≡ false
-  pub quiet : (k : ℕ) → k < cascadeIrq .0 → bit (m .request) k ≡ true → bit (m .mask) k ≡ true
+  pub idle : (k : ℕ) → isAbove m (cascadeIrq .0) k ≡ false → bit (m .«in_service») k ≡ false
+  pub quiet : (k : ℕ) → isAbove m k (cascadeIrq .0) ≡ true → bit (m .request) k ≡ true → bit (m .mask) k ≡ true
 
 -- the slave answers for its line k, the highest of its requests that count: its vector, line k + 8
 pub record Heard (p : PicState) (k : ℕ) : Type 0 where

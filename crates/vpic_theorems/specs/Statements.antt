@@ -1,14 +1,15 @@
 -- Theorems about the pair that belong to no one call: a refusal changes nothing, a claim can be taken back, and the highest request is served; what a claim's flags say.
 use Prim.Native.Nat.{ℕ, _-_, _/_, _^_, _<_, _≤_}
 use mathlib.Core.Path.{_≡_}
-use mathlib.Core.Bool.{true, false, not}
+use mathlib.Core.Bool.{true, false, not, cond, _&&_}
+use lib.Dec.{eqb}
 use mathlib.Core.List.{List}
 use lib.ListN.{getD, length}
 use Rattle.types.specs.declared.PicLine.{PicLine}
 use Rattle.types.specs.declared.Reply.the-variants as reply
 use Rattle.types.specs.Reply.{Outcome, replyNumber}
 use Rattle.vpic_chip.specs.Registers.{Chip}
-use Rattle.vpic.specs.Words.{PicState, view}
+use Rattle.vpic.specs.Words.{PicState, isFull, view}
 use Rattle.vpic.specs.declared.PicRule.the-variants.{Latch}
 use Rattle.vpic.specs.declared.PicInterruptClaim.{PicInterruptClaim}
 use Rattle.vpic.specs.declared.PicClaim.the-variants.{Claimed, Nothing as NoClaim}
@@ -45,27 +46,57 @@ abbrev pub RefusedKeepsWords : Type 0
 RefusedKeepsWords =
     (l m : List ℕ) (c : Call) → length l ≡ 4 → length m ≡ 4 → view m ≡ outcome (view l) c .state → (replyNumber (outcome (view l) c .reply) ≡ 0 → ⊥) → m ≡ l
 
--- every call keeps what stands for nothing, bits 63 to 44 of a chip's word and the last word, and the rule's word as it was
+-- the first bit of a chip's word that stands for nothing: 44, and by rule 2, where the priorities come before, 48
+abbrev pub spareFrom : ℕ → ℕ
+spareFrom rule = cond (eqb rule 2) 48 44
+
+-- every call keeps what stands for nothing, the bits of a chip's word from there up and the last word, and the rule's word as it was
 pub record Kept (l m : List ℕ) : Type 0 where
-  pub master : getD m 0 0 / 2 ^ 44 ≡ getD l 0 0 / 2 ^ 44
-  pub slave : getD m 1 0 / 2 ^ 44 ≡ getD l 1 0 / 2 ^ 44
+  pub master : getD m 0 0 / 2 ^ spareFrom (getD l 2 0) ≡ getD l 0 0 / 2 ^ spareFrom (getD l 2 0)
+  pub slave : getD m 1 0 / 2 ^ spareFrom (getD l 2 0) ≡ getD l 1 0 / 2 ^ spareFrom (getD l 2 0)
   pub rule : getD m 2 0 ≡ getD l 2 0
   pub last : getD m 3 0 ≡ getD l 3 0
 
 abbrev pub CallsKeepRest : Type 0
 CallsKeepRest = (l m : List ℕ) (c : Call) → view m ≡ outcome (view l) c .state → Kept l m
 
--- a claim that is restored at once gives the pair back as it was, if the pair kept its rule
+-- a chip whose acknowledgements turn no priorities: every chip but one of the full profile with rotation in automatic EOI mode
+abbrev pub Steady : Chip → Type 0
+Steady c = (c .full && (c .«auto_eoi» && c .«auto_rotation»)) ≡ false
+
+abbrev pub BothSteady : PicState → Type 0
+BothSteady p = Steady (p .master) × Steady (p .slave)
+
+-- so are both chips of a pair by rules 0 and 1: in any words, only rule 2's pair has full chips, and a chip that isn't full turns no priorities
+abbrev pub BothPlain : PicState → Type 0
+BothPlain p = (p .master .full ≡ false) × (p .slave .full ≡ false)
+
+abbrev pub PlainWords : Type 0
+PlainWords = (l : List ℕ) → isFull (view l .rule) ≡ false → BothPlain (view l)
+
+abbrev pub PlainSteady : Type 0
+PlainSteady = (p : PicState) → BothPlain p → BothSteady p
+
+-- a claim that is restored at once gives the pair back as it was, if the pair kept its rule and the claim turned no priorities
 abbrev pub RestoredAtOnce : Type 0
 RestoredAtOnce =
-    (p : PicState) (c : PicInterruptClaim) → Keeps p → claimPending p .claim ≡ Claimed c
+    (p : PicState) (c : PicInterruptClaim) → Keeps p → BothSteady p → claimPending p .claim ≡ Claimed c
     → restoreInterrupt (claimPending p .state) c ≡ record { state = p; reply = reply.Nothing }
 
 -- the same after a line was raised: the pair as it was, with that line latched; a pair with a line latched keeps its rule, whatever it was
 abbrev pub RestoredAfterRaise : Type 0
 RestoredAfterRaise =
-    (p : PicState) (l : PicLine) (c : PicInterruptClaim) → claimIrq p l .claim ≡ Claimed c
+    (p : PicState) (l : PicLine) (c : PicInterruptClaim) → BothSteady p → claimIrq p l .claim ≡ Claimed c
     → restoreInterrupt (claimIrq p l .state) c ≡ record { state = latched p l; reply = reply.Nothing }
+
+-- so by rules 0 and 1 nothing is asked of the modes: a plain pair that kept its rule is as it was, and after a line was raised any plain pair is, with that line latched
+abbrev pub PlainRestoredAtOnce : Type 0
+PlainRestoredAtOnce =
+    (p : PicState) (c : PicInterruptClaim) → BothPlain p → Keeps p → claimPending p .claim ≡ Claimed c → restoreInterrupt (claimPending p .state) c ≡ record { state = p; reply = reply.Nothing }
+
+abbrev pub PlainRestoredAfterRaise : Type 0
+PlainRestoredAfterRaise =
+    (p : PicState) (l : PicLine) (c : PicInterruptClaim) → BothPlain p → claimIrq p l .claim ≡ Claimed c → restoreInterrupt (claimIrq p l .state) c ≡ record { state = latched p l; reply = reply.Nothing }
 
 -- the highest of the chip's requests that count was acknowledged, line k
 pub record Served (before after : Chip) (k : ℕ) : Type 0 where
@@ -95,7 +126,7 @@ pub record Flagged (p : PicState) (c : PicInterruptClaim) : Type 0 where
   pub slave : 8 ≤ c .irq .0 → c .«slave_in_service» ≡ not (p .slave .«auto_eoi»)
   pub alone : c .irq .0 < 8 → c .«slave_in_service» ≡ false
 
--- of any pair, of either rule: where what waits is claimed, and where a line is raised
+-- of any pair, of every rule: where what waits is claimed, and where a line is raised
 abbrev pub FlagsSay : Type 0
 FlagsSay = (p : PicState) (c : PicInterruptClaim) → claimPending p .claim ≡ Claimed c → Flagged p c
 

@@ -1,7 +1,7 @@
 //! The pair of 8259s.
 //!
 //! The names and signatures are those of vpic.rs of x86_vlapic 0.5.4 (Copyright The Axvisor Team, Apache License 2.0; `NOTICE`); behind them are calls of the archive.
-//! The original has one rule of the cascade: [`PicRule`] and [`EmulatedPic::new_rule`] are ours.
+//! The original has one rule of the cascade, and no rotation: [`PicRule`] and [`EmulatedPic::new_rule`] are ours.
 
 use crate::{
     archives::*,
@@ -60,7 +60,7 @@ impl Debug for PicInterruptClaim {
     }
 }
 
-/// What the slave does to the master's line 2. The discriminant is the archive's number.
+/// What the slave does to the master's line 2, and whether the chips take rotation. The discriminant is the archive's number.
 #[derive(Clone, Copy, Debug, Default, Eq, PartialEq, Hash)]
 #[repr(u8)]
 pub enum PicRule {
@@ -69,6 +69,8 @@ pub enum PicRule {
     Latch = 0,
     /// The 8259A's: it is requested exactly while a request of the slave counts.
     Cascade = 1,
+    /// The same, and each chip's priorities rotate: it takes all eight OCW2 commands. A restored claim doesn't turn priorities back.
+    Full = 2,
 }
 
 /// A PC's two 8259s: the master's lines are 0 to 7, the slave's 8 to 15.
@@ -85,7 +87,7 @@ impl EmulatedPic {
         Self { words }
     }
 
-    /// A new pair of either rule, every line masked.
+    /// A new pair of any rule, every line masked.
     ///
     /// Two devices on the slave: the second waits for the first, and is delivered when that has ended. By the original's rule it waits until the slave's next edge.
     ///

@@ -1,4 +1,5 @@
 use Rattle.utils.specs.Cases.{cases}
+use Rattle.vpic.proofs.Full.{read-done}
 use borrow.Author.Needs.{needs}
 use Rattle.vpic.proofs.handle_read.Statement.{statement}
 use Rattle.vpic.proofs.handle_read.Tie as tie
@@ -10,7 +11,12 @@ read-port-requires : tie.Need-read-port-requires
 read-port-requires c κs = search needs
 
 returns-2 : tie.Need-returns-2
-returns-2 c = rw (c .read-port .ensures) (search cases)
+returns-2 c = search read-done
 
 pub handle-read-spec : {M : Type 1} → statement M
-handle-read-spec = tie.close (tie.spec returns read-port-requires returns-2)
+handle-read-spec =
+    tie.close
+    (tie.spec
+    returns
+    read-port-requires
+    returns-2)

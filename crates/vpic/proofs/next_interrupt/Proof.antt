@@ -1,4 +1,4 @@
-use Rattle.vpic.proofs.Laws.{quiet-vector, unasked-vector, pending-vector}
+use Rattle.vpic.proofs.Full.{next-full, next-plain, quiet-vector, unasked-vector}
 use borrow.Author.Needs.{needs}
 use Rattle.vpic.proofs.next_interrupt.Statement.{statement}
 use Rattle.vpic.proofs.next_interrupt.Tie as tie
@@ -9,6 +9,21 @@ is-quiet-requires c κs = search needs
 returns : tie.Need-returns
 returns c = search quiet-vector
 
+is-full-requires : tie.Need-is-full-requires
+is-full-requires c κs = search needs
+
+full-claim-pending-requires : tie.Need-full-claim-pending-requires
+full-claim-pending-requires c κs = search needs
+
+claim-requires : tie.Need-claim-requires
+claim-requires c κs = search needs
+
+vector-requires : tie.Need-vector-requires
+vector-requires c κs = search needs
+
+returns-2 : tie.Need-returns-2
+returns-2 c = search next-full
+
 master-requires : tie.Need-master-requires
 master-requires c κs = search needs
 
@@ -18,20 +33,20 @@ asks-requires c κs = search needs
 settle-requires : tie.Need-settle-requires
 settle-requires c κs = search needs
 
-returns-2 : tie.Need-returns-2
-returns-2 c = search unasked-vector
+returns-3 : tie.Need-returns-3
+returns-3 c = search unasked-vector
 
 claim-pending-requires : tie.Need-claim-pending-requires
 claim-pending-requires c κs = search needs
 
-claim-requires : tie.Need-claim-requires
-claim-requires c κs = search needs
+claim-requires-2 : tie.Need-claim-requires-2
+claim-requires-2 c κs = search needs
 
-vector-requires : tie.Need-vector-requires
-vector-requires c κs = search needs
+vector-requires-2 : tie.Need-vector-requires-2
+vector-requires-2 c κs = search needs
 
-returns-3 : tie.Need-returns-3
-returns-3 c = search pending-vector
+returns-4 : tie.Need-returns-4
+returns-4 c = search next-plain
 
 pub next-interrupt-spec : {M : Type 1} → statement M
 next-interrupt-spec =
@@ -39,11 +54,16 @@ next-interrupt-spec =
     (tie.spec
     is-quiet-requires
     returns
+    is-full-requires
+    full-claim-pending-requires
+    claim-requires
+    vector-requires
+    returns-2
     master-requires
     asks-requires
     settle-requires
-    returns-2
+    returns-3
     claim-pending-requires
-    claim-requires
-    vector-requires
-    returns-3)
+    claim-requires-2
+    vector-requires-2
+    returns-4)

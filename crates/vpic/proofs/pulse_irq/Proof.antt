@@ -1,10 +1,13 @@
-use Rattle.vpic.proofs.Laws.{irq-vector}
+use Rattle.vpic.proofs.Full.{pulse-plain, pulse-full}
 use borrow.Author.Needs.{needs}
 use Rattle.vpic.proofs.pulse_irq.Statement.{statement}
 use Rattle.vpic.proofs.pulse_irq.Tie as tie
 
-claim-line-requires : tie.Need-claim-line-requires
-claim-line-requires c κs = search needs
+is-full-requires : tie.Need-is-full-requires
+is-full-requires c κs = search needs
+
+full-claim-line-requires : tie.Need-full-claim-line-requires
+full-claim-line-requires c κs = search needs
 
 claim-requires : tie.Need-claim-requires
 claim-requires c κs = search needs
@@ -13,7 +16,30 @@ vector-requires : tie.Need-vector-requires
 vector-requires c κs = search needs
 
 returns : tie.Need-returns
-returns c = search irq-vector
+returns c = search pulse-full
+
+claim-line-requires : tie.Need-claim-line-requires
+claim-line-requires c κs = search needs
+
+claim-requires-2 : tie.Need-claim-requires-2
+claim-requires-2 c κs = search needs
+
+vector-requires-2 : tie.Need-vector-requires-2
+vector-requires-2 c κs = search needs
+
+returns-2 : tie.Need-returns-2
+returns-2 c = search pulse-plain
 
 pub pulse-irq-spec : {M : Type 1} → statement M
-pulse-irq-spec = tie.close (tie.spec claim-line-requires claim-requires vector-requires returns)
+pulse-irq-spec =
+    tie.close
+    (tie.spec
+    is-full-requires
+    full-claim-line-requires
+    claim-requires
+    vector-requires
+    returns
+    claim-line-requires
+    claim-requires-2
+    vector-requires-2
+    returns-2)

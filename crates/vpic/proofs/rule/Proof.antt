@@ -1,4 +1,4 @@
-use Rattle.vpic.specs.Words.{view}
+use Rattle.vpic.specs.Words.{plainView}
 use borrow.Author.Needs.{needs}
 use Rattle.vpic.proofs.rule.Statement.{statement}
 use Rattle.vpic.proofs.rule.Tie as tie
@@ -10,7 +10,7 @@ from-number-requires : tie.Need-from-number-requires
 from-number-requires c κs = search needs
 
 returns : tie.Need-returns
-unfolding view
+unfolding plainView
 returns c = c .from-number .ensures
 
 pub rule-spec : {M : Type 1} → statement M

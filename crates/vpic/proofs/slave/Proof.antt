@@ -1,5 +1,5 @@
 use mathlib.Core.Path.{refl}
-use Rattle.vpic.specs.Words.{view}
+use Rattle.vpic.specs.Words.{plainView}
 use borrow.Author.Needs.{needs}
 use Rattle.vpic.proofs.slave.Statement.{statement}
 use Rattle.vpic.proofs.slave.Tie as tie
@@ -8,7 +8,7 @@ element-copy-out-t4 : tie.Need-element-copy-out-t4
 element-copy-out-t4 c = search needs
 
 returns : tie.Need-returns
-unfolding view
+unfolding plainView
 returns c = refl
 
 pub slave-spec : {M : Type 1} → statement M

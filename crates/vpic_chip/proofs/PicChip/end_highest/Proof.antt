@@ -1,3 +1,4 @@
+use Rattle.vpic_chip.proofs.Packing.{plain}
 use borrow.Author.Needs.{needs}
 use Rattle.vpic_chip.proofs.Laws.{ended-way}
 use Rattle.vpic_chip.proofs.PicChip.end_highest.Statement.{statement}
@@ -13,7 +14,7 @@ with-in-service-requires : tie.Need-with-in-service-requires
 with-in-service-requires c κs = search needs
 
 returns : tie.Need-returns
-returns c = search ended-way
+returns c = search (ended-way, plain)
 
 pub end-highest-spec : {M : Type 1} → statement M
 end-highest-spec =

@@ -1,3 +1,4 @@
+use Rattle.vpic_chip.proofs.Packing.{plain}
 use Rattle.vpic_chip.proofs.Laws.{waiting-way}
 use borrow.Author.Needs.{needs}
 use Rattle.vpic_chip.proofs.PicChip.waiting.Statement.{statement}
@@ -19,7 +20,7 @@ below-lowest-requires : tie.Need-below-lowest-requires
 below-lowest-requires c κs = search needs
 
 returns : tie.Need-returns
-returns c = search waiting-way
+returns c = search (waiting-way, plain)
 
 pub waiting-spec : {M : Type 1} → statement M
 waiting-spec =
