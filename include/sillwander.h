@@ -23,6 +23,7 @@
 #ifndef SILLWANDER_H
 #define SILLWANDER_H
 
+#include <stddef.h>
 #include <stdint.h>
 
 #ifdef __cplusplus
@@ -39,10 +40,12 @@ extern "C" {
 
 /* The numbers of refusals. */
 #define SILLWANDER_UNSUPPORTED 1      /* an access width, a port that the PIC doesn't have, or a version or rule that there isn't */
-#define SILLWANDER_INVALID_REGISTER 2 /* a local register not listed for that use, or written in the wrong mode or width */
+#define SILLWANDER_INVALID_REGISTER 2 /* a local register not listed for that use, or written in the wrong mode or width; a lowest vector above a highest */
 #define SILLWANDER_INVALID_DELIVERY 3 /* an interrupt command's delivery mode, or the destination format's model */
 #define SILLWANDER_INVALID_ADDRESS 4  /* an address below the I/O APIC, or a base and size whose sum doesn't fit in 64 bits */
-#define SILLWANDER_OUT_OF_RANGE 5     /* a vector, destination, vCPU count or id, or PIC line that is too large */
+#define SILLWANDER_OUT_OF_RANGE 5     /* a vector, destination, vCPU count or id, or PIC line that is too large; more than 24 lines to plan */
+#define SILLWANDER_NO_PLAN 8          /* lines that can't each have a vector of their own */
+#define SILLWANDER_TOO_SHORT 11       /* a lent buffer with fewer bytes than what goes into it */
 
 /*
  * ---- I/O APIC: 32 words
@@ -189,6 +192,31 @@ uint64_t sillwander_lapic_handle_read(const uint64_t words[48], uint64_t offset)
    command's delivery mode or the destination format's model, 5 for its destination. */
 uint64_t sillwander_lapic_handle_write(uint64_t words[48], uint64_t offset, uint64_t value, uint64_t width, uint64_t vcpu_num,
                                        uint64_t active_vcpus, uint64_t ipi[1]);
+
+/*
+ * ---- Vectors that don't collide
+ *
+ * A setup tool's lines want a vector each: `lines` of them, each with a range, a word made by SILLWANDER_RANGE. Vectors already taken are a set of 256 in four
+ * words: vector v is bit v % 64 of word v / 64. A plan has a byte for each line, its vector. No pointer may be null, also where there is nothing behind it, and
+ * what is written (plan, set) may not overlap another argument's memory (ranges, taken).
+ *
+ * SILLWANDER_RANGE evaluates its ends more than once. An end that is no vector (above 255, or negative) isn't cut: it makes a range whose lowest vector is above
+ * its highest, so that the planner refuses it with 2.
+ */
+#define SILLWANDER_RANGE(lowest, highest) \
+    ((uint16_t)((((lowest) | (highest)) & ~0xffull) ? 0x00ffu : ((unsigned)(highest) << 8 | (unsigned)(lowest))))
+
+/* The check of a proposal. One value: 1 if the plan has a byte for each line, a vector of the line's range, at least 32 and not taken, and another one for each
+   line; else 0. Bytes behind those of the lines don't count. */
+uint64_t sillwander_plan_check(const uint16_t *ranges, size_t lines, const uint64_t taken[4], const uint8_t *plan, size_t bytes);
+
+/* A plan that passes the check is written, a byte for each line and nothing behind them. Refused, and the plan untouched, in this order: 5 more than 24 lines,
+   11 fewer bytes than lines, 2 a lowest vector above a highest, 8 no plan would pass. */
+uint64_t sillwander_plan(const uint16_t *ranges, size_t lines, const uint64_t taken[4], uint8_t *plan, size_t bytes);
+
+/* Why sillwander_plan refuses with 8. Two values, the ends of a range of vectors that has fewer free ones than there are lines confined to it; those lines go
+   to set[0], bit k for line k. None where there is a plan, and set[0] stays. Refused: 5, then 2, as above. */
+uint64_t sillwander_plan_shortage(const uint16_t *ranges, size_t lines, const uint64_t taken[4], uint64_t set[1]);
 
 #ifdef __cplusplus
 }

@@ -35,10 +35,10 @@ class Repository:
     def __init__(self, folder):
         self.top = folder / "a repository"
         self.kit = folder / "kit"
-        for crate in ("script", "pair_examples"):
+        for crate in ("script", "plan", "pair_examples"):
             self.write(f"crates/{crate}/src/main.rt", "")
         self.write("crates/utils/src/lib.rt", "")
-        self.write("crates.txt", "vioapic_c: types io\nvpic_c: types vpic\nvlapic_c: vlapic\n")
+        self.write("crates.txt", "vioapic_c: types io\nvpic_c: types vpic\nvlapic_c: vlapic\nplanner_c: planner\n")
         for tool in ("run", "prove", "archives", "script-text", "script_fields.py", "script_words.py"):
             (self.top / "tools").mkdir(exist_ok=True)
             shutil.copy(TOP / "tools" / tool, self.top / "tools")
@@ -82,7 +82,7 @@ def check_starting(checks, folder):
     there = Repository(folder)
     for word in ("--help", "-h"):
         status, out, _ = there.tool("run", word, with_rt=False)
-        checks.same(f"tools/run {word}: status, programs named", (status, "pair_examples script" in out), (0, True))
+        checks.same(f"tools/run {word}: status, programs named", (status, "pair_examples plan script" in out), (0, True))
     for words in ((), ("--print",)):
         status, out, said = there.tool("run", *words)
         checks.same(f"tools/run {' '.join(words)}", (status, out, said.startswith("usage: ")), (2, "", True))
@@ -146,9 +146,30 @@ def check_statuses(checks, folder):
         checks.true(f"{words!r} in {said!r}", said.startswith(f"tools/run: {words}") and said.count("\n") == 1 if words else said == "")
     there.answer("12 0 -\n", 3)
     checks.same("the program's own status", there.tool("run", "script"), (3, "12 0 -\n", ""))
+    check_plan_statuses(checks, there)
     there.tool("run", "pair_examples")
-    there.answer("bad 14\n")
-    checks.same("another program's lines mean nothing", there.tool("run", "pair_examples"), (0, "bad 14\n", ""))
+    for lines in ("bad 14\n", "refused\n"):
+        there.answer(lines)
+        checks.same("another program's lines mean nothing", there.tool("run", "pair_examples"), (0, lines, ""))
+
+
+def check_plan_statuses(checks, there):
+    """A plan that there isn't: by the first line, and only by that."""
+    there.answer("")
+    there.tool("run", "plan")
+    for lines, status in (
+        ("", 0),
+        ("entry 3, register 0x16: vector 0x42    refused\n", 0),
+        ("entry 0, register 0x10: vector 0x20    a\nentry 1, register 0x12: vector 0x21    row 1\n", 0),
+        ("refused, 5: more than 24 lines\n", 1),
+        ("refused, 8: there is no plan.\nvectors 0x1f to 0x1f: 0 free; lines that may have no other: 1\n  a\n", 1),
+        ("row 3: an input above 23\n", 1),
+        ("plan: the text is longer than 65,535 bytes\n", 1),
+    ):
+        there.answer(lines)
+        checks.same(f"tools/run plan that prints {lines!r}", there.tool("run", "plan"), (status, lines, ""))
+    there.answer("entry 0, register 0x10: vector 0x20    a\n", 3)
+    checks.same("plan's own status", there.tool("run", "plan")[0], 3)
 
 
 def check_archives(checks, folder):
@@ -159,11 +180,11 @@ def check_archives(checks, folder):
     status, out, said = there.tool("archives")
     checks.same("tools/archives", (status, out), (0, f"{there.top}/target/staticlib\n"))
     checks.same("what rt was asked", there.asked(),
-                ["check io types vlapic vpic", "staticlib vioapic_c", "staticlib vpic_c", "staticlib vlapic_c"])
+                ["check io planner types vlapic vpic", "staticlib vioapic_c", "staticlib vpic_c", "staticlib vlapic_c", "staticlib planner_c"])
     checks.true(f"how long it takes: {said!r}", SLOW in said.splitlines()[0])
     checks.same("lines for crates", said.splitlines()[1:3], ["  utils proved (12 s)", "  io proved (3 s)"])
     checks.same("the second time", (there.tool("archives"), there.asked()), ((0, f"{there.top}/target/staticlib\n", ""), []))
     there.forget()
     there.write("broken", "")
     status, out, said = there.tool("archives")
-    checks.same("a proof that fails", (status, out, "NOT PROVED" in said, there.asked()), (1, "", True, ["check io types vlapic vpic"]))
+    checks.same("a proof that fails", (status, out, "NOT PROVED" in said, there.asked()), (1, "", True, ["check io planner types vlapic vpic"]))

@@ -1,4 +1,4 @@
--- A chip's state in words that a caller lends, and its answers as one number each: what the boundaries of the three chips share.
+-- A chip's state in words that a caller lends, and its answers as one number each: what the boundaries of the three chips share, and the planner's.
 use Prim.Native.Nat.{ℕ, _+_, _*_, _/_, _%_, _^_, _<_}
 use mathlib.Core.Bool.{Bool, not, cond}
 use mathlib.Core.List.{List, [], _∷_}

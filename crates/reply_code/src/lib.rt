@@ -1,4 +1,4 @@
-// What the boundaries of the three chips share: what a caller in C is answered, and what it hands in as a flag.
+// What the boundaries of the three chips and of the planner share: what a caller in C is answered, and what it hands in as a flag.
 
 ghost use mathlib.Core.Path.{_≡_};
 ghost use Rattle.reply_code.specs.Lent.{replyCode, isUp};

@@ -1,14 +1,14 @@
--- Refusals and replies in the numbers of document 01, "Refusal numbers": 0 for a call that is done, its values, and a number for each reason to refuse.
+-- Refusals and replies in the numbers of documents 01, "Refusal numbers", and 02: 0 for a call that is done, its values, and a number for each reason to refuse.
 use Prim.Native.Nat.{ℕ}
 use mathlib.Core.List.{List, [], _∷_}
 use mathlib.Core.Path.{_≡_}
 use mathlib.Core.Bool.{Bool, true, false}
 use Rattle.types.specs.declared.Refusal.{Refusal}
-use Rattle.types.specs.declared.Refusal.the-variants.{Unsupported, InvalidRegister, InvalidDelivery, InvalidAddress, OutOfRange, BadField, ScriptTooLong}
+use Rattle.types.specs.declared.Refusal.the-variants.{Unsupported, InvalidRegister, InvalidDelivery, InvalidAddress, OutOfRange, BadField, ScriptTooLong, NoPlan, TooShort}
 use Rattle.types.specs.declared.Reply.{Reply}
 use Rattle.types.specs.declared.Reply.the-variants.{Refused, Nothing, One, Two, Three}
 
--- 1 width or port, 2 local register, 3 delivery, 4 address, 5 id, count or line, 6 script field, 7 script too long
+-- 1 width or port, 2 local register, 3 delivery, 4 address, 5 id, count or line, 6 script field, 7 script too long, 8 no plan, 11 lent buffer too short
 abbrev pub refusalNumber : Refusal → ℕ
 refusalNumber Unsupported = 1
 refusalNumber InvalidRegister = 2
@@ -17,6 +17,8 @@ refusalNumber InvalidAddress = 4
 refusalNumber OutOfRange = 5
 refusalNumber BadField = 6
 refusalNumber ScriptTooLong = 7
+refusalNumber NoPlan = 8
+refusalNumber TooShort = 11
 
 abbrev pub replyNumber : Reply → ℕ
 replyNumber (Refused why) = refusalNumber why

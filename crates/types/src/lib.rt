@@ -103,18 +103,22 @@ impl VcpuId {
 pub enum Refusal {
     // Width, or PIC port: the Rust's `Unsupported`.
     Unsupported,
-    // Local register not listed for that use, or written in the wrong mode or width: the Rust's `InvalidInput`.
+    // Local register not listed for that use, or written in the wrong mode or width, the Rust's `InvalidInput`; a line's lowest vector above its highest.
     InvalidRegister,
     // An interrupt command's delivery mode, or the destination format's model.
     InvalidDelivery,
     // An address below the I/O APIC, or an I/O APIC that doesn't fit below 2^64.
     InvalidAddress,
-    // A destination, vCPU count or id, or PIC line that is too large.
+    // A destination, vCPU count or id, or PIC line that is too large; more than 24 lines to plan.
     OutOfRange,
     // A script's field.
     BadField,
     // A script.
     ScriptTooLong,
+    // Lines that can't each have a vector of their own.
+    NoPlan,
+    // A lent buffer with fewer bytes than what goes into it.
+    TooShort,
 }
 
 impl Refusal {
@@ -129,6 +133,8 @@ impl Refusal {
             Refusal::OutOfRange => 5,
             Refusal::BadField => 6,
             Refusal::ScriptTooLong => 7,
+            Refusal::NoPlan => 8,
+            Refusal::TooShort => 11,
         }
     }
 }

@@ -1,7 +1,7 @@
-//! The functions of the three archives, as include/sillwander.h declares them.
+//! The functions of the archives, as include/sillwander.h declares them.
 //!
 //! They are safe to call: it is proved that each takes any words and any numbers, and touches nothing but the words that it is lent. A reference to an
-//! array is the pointer that C passes.
+//! array is the pointer that C passes. The planner's take pointers with a count, and are called with those of slices.
 
 pub const IOAPIC_WORDS: usize = 32;
 pub const PIC_WORDS: usize = 4;
@@ -58,4 +58,12 @@ unsafe extern "C" {
         active_vcpus: u64,
         ipi: &mut [u64; 1],
     ) -> u64;
+}
+
+// SAFETY: as above. Each pointer has as many elements behind it as the number after it says.
+#[link(name = "planner_c", kind = "static")]
+unsafe extern "C" {
+    pub fn sillwander_plan_check(ranges: *const u16, lines: usize, taken: &[u64; 4], plan: *const u8, bytes: usize) -> u64;
+    pub fn sillwander_plan(ranges: *const u16, lines: usize, taken: &[u64; 4], plan: *mut u8, bytes: usize) -> u64;
+    pub fn sillwander_plan_shortage(ranges: *const u16, lines: usize, taken: &[u64; 4], set: &mut [u64; 1]) -> u64;
 }

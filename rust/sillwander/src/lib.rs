@@ -1,6 +1,6 @@
 //! The interrupt controllers of a small hypervisor, proved, behind the names of the crate that they were ported from, x86_vlapic 0.5.4.
 //!
-//! Every call goes to a function of the three archives that `rt staticlib` writes; nothing of the chips' rules stands here. What
+//! Every call goes to a function of the archives that `rt staticlib` writes; nothing of the chips' rules stands here. What
 //! the functions do is proved (docs/PROMISES.md); what this crate adds is types: numbers become addresses, widths and claims,
 //! and coded answers become `Option` and `Result`.
 //!
@@ -24,6 +24,7 @@
 mod archives;
 mod code;
 mod locked;
+mod planner;
 mod types;
 mod vioapic;
 mod vlapic;
@@ -31,6 +32,7 @@ mod vpic;
 
 pub use self::{
     locked::Locked,
+    planner::{TakenVectors, VectorRange, VectorShortage, check_vectors, plan_vectors, vector_shortage},
     types::{
         X86AccessWidth, X86GuestPhysAddr, X86GuestPhysAddrRange, X86InterruptVector, X86MsrAddr, X86MsrAddrRange, X86Port,
         X86PortRange, X86VcpuId, X86VlapicError, X86VlapicResult,

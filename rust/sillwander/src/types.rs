@@ -19,14 +19,18 @@ pub type X86InterruptVector = u8;
 pub enum X86VlapicError {
     /// An access width, or a port that the PIC doesn't have.
     Unsupported = 1,
-    /// A local register not listed for that use, or written in the wrong mode or width.
+    /// A local register not listed for that use, or written in the wrong mode or width; a line's lowest vector above its highest.
     InvalidInput = 2,
     /// An interrupt command's delivery mode, or the destination format's model.
     InvalidData = 3,
     /// An address below the I/O APIC, or a base and size whose sum doesn't fit in 64 bits. The original panics.
     InvalidAddress = 4,
-    /// A destination, vCPU count or vCPU id that is too large. The original panics or wraps.
+    /// A destination, vCPU count or vCPU id that is too large, where the original panics or wraps; more than 24 lines to plan.
     OutOfRange = 5,
+    /// Lines that can't each have a vector of its own.
+    NoPlan = 8,
+    /// A lent buffer with fewer bytes than what goes into it.
+    TooShort = 11,
 }
 
 impl X86VlapicError {
@@ -35,7 +39,7 @@ impl X86VlapicError {
         self as u8
     }
 
-    /// The archives' refusals are 1 to 5.
+    /// The archives' refusals are 1 to 5, 8 and 11.
     #[inline]
     pub(crate) const fn of_number(number: u8) -> Self {
         match number {
@@ -43,6 +47,8 @@ impl X86VlapicError {
             2 => Self::InvalidInput,
             3 => Self::InvalidData,
             4 => Self::InvalidAddress,
+            8 => Self::NoPlan,
+            11 => Self::TooShort,
             _ => {
                 debug_assert!(number == 5);
                 Self::OutOfRange
@@ -55,10 +61,12 @@ impl core::fmt::Display for X86VlapicError {
     fn fmt(&self, f: &mut core::fmt::Formatter<'_>) -> core::fmt::Result {
         f.write_str(match self {
             Self::Unsupported => "no such access width or PIC port",
-            Self::InvalidInput => "no such local register for that use, mode or width",
+            Self::InvalidInput => "no such local register for that use, mode or width; or a lowest vector above a highest",
             Self::InvalidData => "no such delivery mode or destination format",
             Self::InvalidAddress => "an address below the I/O APIC, or beyond 64 bits",
-            Self::OutOfRange => "a destination, vCPU count or vCPU id is too large",
+            Self::OutOfRange => "a destination, vCPU count or vCPU id is too large, or there are too many lines",
+            Self::NoPlan => "there aren't enough free vectors for the lines",
+            Self::TooShort => "the lent buffer is too short",
         })
     }
 }

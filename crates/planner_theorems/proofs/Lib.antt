@@ -1,0 +1,5 @@
+pub mod Counting
+pub mod Giving
+pub mod Hall
+pub mod Theorems
+pub mod Examples
