@@ -1,0 +1,13 @@
+use Rattle.board.proofs.Ways.{receive-way}
+use borrow.Author.Needs.{needs}
+use Rattle.board.proofs.receive.Statement.{statement}
+use Rattle.board.proofs.receive.Tie as tie
+
+receive-requires : tie.Need-receive-requires
+receive-requires c κs = search needs
+
+returns : tie.Need-returns
+returns c = search receive-way
+
+pub receive-spec : {M : Type 1} → statement M
+receive-spec = tie.close (tie.spec receive-requires returns)

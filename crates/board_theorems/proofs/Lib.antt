@@ -1,0 +1,6 @@
+pub mod Vectors
+pub mod Sent
+pub mod Rules
+pub mod Trace
+pub mod Entries
+pub mod Exact
