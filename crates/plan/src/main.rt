@@ -6,10 +6,8 @@
 // there is no plan, is proved in the crate planner; here it is only read and written. An input that can't be read and an output that can't be written are told on
 // standard error.
 
-ghost use Rattle.io.specs.Counts.{Counts};
 ghost use mathlib.Core.Path.{_≡_};
 ghost use lib.ListN.{length};
-use libc::STDIN_FILENO;
 use libc::STDOUT_FILENO;
 use planner::PlanAnswer;
 use planner::shortage::ShortageAnswer;
@@ -22,7 +20,7 @@ mod rows;
 
 fn main() {
     let mut text = io::large_buffer();
-    let input = read_input(&mut text);
+    let input = input::read_all(&mut text);
     let length = input.length;
     let mut told = false;
     if input.failed {
@@ -34,43 +32,6 @@ fn main() {
         return;
     }
     run(&mut told, &text[..length]);
-}
-
-// ---- reading
-
-// How many bytes were read, and whether a read failed before the end.
-struct Input {
-    length: usize,
-    failed: bool,
-}
-
-// Reads until the buffer is full or the input ends.
-fn read_input(buf: &mut [u8]) -> Input
-    ensures { λ r. ⌜ Counts (r .length) (now (buf .exit)) ⌝ }
-{
-    let mut done = 0;
-    while done < buf.len() {
-        let part = &mut buf[done..];
-        let got = libc::read(STDIN_FILENO, part);
-        if got < 0 {
-            return Input {
-                length: done,
-                failed: true,
-            };
-        }
-        let more = io::count(got, &buf[done..]);
-        if more == 0 {
-            return Input {
-                length: done,
-                failed: false,
-            };
-        }
-        done += more;
-    }
-    Input {
-        length: done,
-        failed: false,
-    }
 }
 
 // ---- planning
