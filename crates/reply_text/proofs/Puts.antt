@@ -1,17 +1,17 @@
 -- Texts in a lent buffer, one put behind the other. Assumes nothing.
 use mathlib.Core.Bool.{Bool, true, false, cond}
-use mathlib.Core.List.{List, [], _∷_, _++_}
+use mathlib.Core.List.{List, [], _∷_, _++_, append-assoc}
 use mathlib.Core.Path.{_≡_, refl, sym, ap, _∙_}
 use Prim.Native.Nat.{ℕ, suc, _+_, _-_, _%_, _≤_, _<_}
 use native.Mathlib.Nat.{mod-eq-of-lt}
 use native.Mathlib.Numerals.{add-one}
 use native.Mathlib.Omega.{arith}
 use lib.ListN.{length, take, getD, set, length-append}
-use lib.Seq.{sets, take-suc, length-take-le}
+use lib.Seq.{sets, take-suc, take-all, length-take-le}
 use lib.Dec.{ltb}
 use borrow.Author.Tests.{lt-ltb, le-ltb}
 use Rattle.io.specs.Digits.{glyph, digits, Fewest}
-use Rattle.reply_text.specs.Text.{Puts, decimalIn, decimal}
+use Rattle.reply_text.specs.Text.{Puts, decimalIn, decimal, space, newline, wordsText, wordsLine}
 use Rattle.reply_text.proofs.Digits.{digits-decimal}
 
 sets-append : (l : List ℕ) (i : ℕ) (vs ws : List ℕ) → sets l i (vs ++ ws) ≡ sets (sets l i vs) (i + length vs) ws
@@ -78,3 +78,35 @@ copied-all l m at n k d h e f s t =
     let w : take k d ≡ decimal n = t ∙ digits-decimal k 20 n f s in
     let z : k ≡ length (decimal n) = sym (length-take-le k d h) ∙ ap length w in
     record { buffer = e ∙ ap (sets l at) w; end = ap (λ (x : ℕ). at + x) z }
+
+-- ---- words
+
+words-append : (us ws : List ℕ) → wordsText (us ++ ws) ≡ wordsText us ++ wordsText ws
+unfolding wordsText
+words-append [] ws = refl
+words-append (u ∷ us) ws =
+    ap (λ (x : List ℕ). decimal u ++ (space ∷ x)) (words-append us ws) ∙ sym (append-assoc (decimal u) (space ∷ wordsText us) (wordsText ws))
+
+one-more-word : (ws : List ℕ) (k : ℕ) → k < length ws → wordsText (take k ws) ++ (decimal (getD ws k 0) ++ (space ∷ [])) ≡ wordsText (take (k + 1) ws)
+unfolding wordsText
+one-more-word ws k h =
+    let t : take (k + 1) ws ≡ take k ws ++ (getD ws k 0 ∷ []) = rw (add-one k) (take-suc ws k 0 h) in
+    sym (ap wordsText t ∙ words-append (take k ws) (getD ws k 0 ∷ []))
+
+-- words put one by one
+pub no-words : {l : List ℕ} {at : ℕ} (ws : List ℕ) → Puts l at (wordsText (take 0 ws)) l at
+unfolding wordsText
+no-words ws = record { buffer = refl; end = omega arith }
+
+pub more-words : {l m n o : List ℕ} {at i j e : ℕ} (ws : List ℕ) (k : ℕ) → k < length ws
+    → Puts l at (wordsText (take k ws)) m i
+    → Puts m i (decimal (getD ws k 0)) n j
+    → Puts n j (space ∷ []) o e
+    → Puts l at (wordsText (take (k + 1) ws)) o e
+more-words ws k h p q r = put-as (one-more-word ws k h) (then-put p (then-put q r))
+
+pub all-words : {l m n : List ℕ} {at i e : ℕ} (ws : List ℕ) (k : ℕ) → length ws ≤ k
+    → Puts l at (wordsText (take k ws)) m i
+    → Puts m i (newline ∷ []) n e
+    → Puts l at (wordsLine ws) n e
+all-words ws k h p q = then-put (put-as (ap wordsText (take-all k ws h)) p) q

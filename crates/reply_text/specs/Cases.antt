@@ -3,7 +3,7 @@ use mathlib.Core.List.{[], _∷_}
 use mathlib.Core.Path.{_≡_, refl}
 use Rattle.types.specs.declared.Refusal.the-variants.{OutOfRange}
 use Rattle.types.specs.declared.Reply.the-variants.{Refused, One, Three}
-use Rattle.reply_text.specs.Text.{decimalIn, decimal, replyText, line, badLine, tooLongLine}
+use Rattle.reply_text.specs.Text.{decimalIn, decimal, replyText, line, badLine, tooLongLine, wordsText, wordsLine}
 
 -- `12 0 8,0,1`
 pub claimed : line 0x12 (Three 8 0 1) ≡ 49 ∷ 50 ∷ 32 ∷ 48 ∷ 32 ∷ 56 ∷ 44 ∷ 48 ∷ 44 ∷ 49 ∷ 10 ∷ []
@@ -34,3 +34,8 @@ bad = refl
 pub too-long : tooLongLine ≡ 55 ∷ 10 ∷ []
 unfolding tooLongLine decimalIn
 too-long = refl
+
+-- `65536 0 `
+pub words : wordsLine (65536 ∷ 0 ∷ []) ≡ 54 ∷ 53 ∷ 53 ∷ 51 ∷ 54 ∷ 32 ∷ 48 ∷ 32 ∷ 10 ∷ []
+unfolding wordsText decimalIn
+words = refl

@@ -1,7 +1,7 @@
 -- What the program prints (document 01, "Scripts", and "Refusal numbers", 6 and 7), as bytes of ASCII: a line for each field, its tag in two hexadecimal digits, the refusal's
--- number, and the values in decimal digits, joined by commas, or `-` where there are none; a line for a bad field, with the place of its tag; and a line for a script
--- that is too long. Values are numbers of 64 bits.
-use Prim.Native.Nat.{ℕ, zero, suc, _+_, _/_, _%_}
+-- number, and the values in decimal digits, joined by commas, or `-` where there are none; a line for a bad field, with the place of its tag; a line for a script
+-- that is too long; and a line of the words that a chip's state is in. Values and words are numbers of 64 bits.
+use Prim.Native.Nat.{ℕ, zero, suc, _+_, _*_, _/_, _%_}
 use mathlib.Core.Bool.{cond}
 use mathlib.Core.List.{List, [], _∷_, _++_}
 use mathlib.Core.Path.{_≡_}
@@ -60,6 +60,15 @@ badLine at = 98 ∷ 97 ∷ 100 ∷ space ∷ (decimal at ++ (newline ∷ []))
 unfoldable pub tooLongLine : List ℕ
 tooLongLine = decimal (refusalNumber ScriptTooLong) ++ (newline ∷ [])
 
+-- words, each in decimal digits with a space behind it
+unfoldable pub wordsText : List ℕ → List ℕ
+wordsText [] = []
+wordsText (w ∷ ws) = decimal w ++ (space ∷ wordsText ws)
+
+-- a line of them
+abbrev pub wordsLine : List ℕ → List ℕ
+wordsLine ws = wordsText ws ++ (newline ∷ [])
+
 -- bytes that were put into a lent buffer from a place on: what the buffer holds then, and the place behind them
 pub record Puts (before : List ℕ) (at : ℕ) (bytes : List ℕ) (after : List ℕ) (behind : ℕ) : Type 0 where
   pub buffer : after ≡ sets before at bytes
@@ -68,3 +77,7 @@ pub record Puts (before : List ℕ) (at : ℕ) (bytes : List ℕ) (after : List 
 -- what a buffer of that size takes of a line from a place on: all of it if 80 bytes are left, which no line passes, else nothing
 abbrev pub inRoom : ℕ → ℕ → List ℕ → List ℕ
 inRoom size at bytes = cond (leb (at + 80) size) bytes []
+
+-- and of a line of words: all of it if 21 bytes are left for each, and one more, which it doesn't pass, else nothing
+abbrev pub wordsInRoom : ℕ → ℕ → List ℕ → List ℕ
+wordsInRoom size at ws = cond (leb (at + 21 * length ws + 1) size) (wordsLine ws) []

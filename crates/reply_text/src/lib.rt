@@ -2,20 +2,23 @@
 // a lent buffer: a function that puts some takes the place where it starts and answers where it ends. A line is put where the buffer has room for the longest one; where
 // it hasn't, nothing is put, and the place is answered as it came.
 
-ghost use Prim.Native.Nat.{_+_, _%_, _≤_, _<_};
+ghost use Prim.Native.Nat.{_+_, _*_, _%_, _≤_, _<_};
 ghost use mathlib.Core.Path.{_≡_};
 ghost use mathlib.Core.List.{[], _∷_};
 ghost use lib.ListN.{length};
 ghost use Rattle.io.specs.Digits.{glyph};
 ghost use Rattle.types.specs.Reply.{replyValues};
 ghost use lib.Dec.{leb};
-ghost use Rattle.reply_text.specs.Text.{Puts, inRoom, decimal, values, replyText, line, badLine, tooLongLine};
+ghost use Rattle.reply_text.specs.Text.{Puts, inRoom, decimal, values, replyText, line, badLine, tooLongLine, wordsLine, wordsInRoom};
 use libc::STDOUT_FILENO;
 use types::Refusal;
 use types::Reply;
 
 // No line is longer.
 const LINE: usize = 80;
+
+// No word of a line of words is longer, with the space behind it.
+const WORD: usize = 21;
 
 // ---- printing
 
@@ -70,6 +73,27 @@ pub fn put_too_long(out: &mut [u8], at: usize) -> usize
     too_long_into(out, at)
 }
 
+// A line of words: each in decimal digits with a space behind it, and the end of the line. It is put where the buffer has 21 bytes left for each word, and one more.
+pub fn put_words(out: &mut [u8], at: usize, words: &[u64]) -> usize
+    ensures { λ r. ⌜ Puts (now (out .entry)) at (wordsInRoom (length (now (out .entry))) at (now (words .entry))) (now (out .exit)) r ⌝ }
+    ensures { λ r. ⌜ r ≤ at + 21 * length (now (words .entry)) + 1 ⌝ }
+{
+    if !has_room_for(out.len(), at, words.len()) {
+        return at;
+    }
+    words_into(out, at, words)
+}
+
+// Whether a buffer of that length has room for so many words from a place on.
+fn has_room_for(length: usize, at: usize, count: usize) -> bool
+    ensures { λ r. ⌜ r ≡ leb (at + 21 * count + 1) length ⌝ }
+{
+    if length <= at {
+        return false;
+    }
+    (length - at - 1) / WORD >= count
+}
+
 // Whether a buffer of that length has room for a line from a place on.
 fn has_room(length: usize, at: usize) -> bool
     ensures { λ r. ⌜ r ≡ leb (at + 80) length ⌝ }
@@ -115,6 +139,21 @@ fn too_long_into(out: &mut [u8], at: usize) -> usize
     ensures { λ r. ⌜ r ≤ at + 80 ⌝ }
 {
     let end = put_decimal(out, at, Refusal::ScriptTooLong.number() as u64);
+    put(out, end, b'\n')
+}
+
+fn words_into(out: &mut [u8], at: usize, words: &[u64]) -> usize
+    requires { ⌜ at + 21 * length (now words) + 1 ≤ length (now out) ⌝ }
+    ensures { λ r. ⌜ Puts (now (out .entry)) at (wordsLine (now (words .entry))) (now (out .exit)) r ⌝ }
+    ensures { λ r. ⌜ r ≤ at + 21 * length (now (words .entry)) + 1 ⌝ }
+{
+    let mut end = at;
+    let mut k = 0;
+    while k < words.len() {
+        end = put_decimal(out, end, words[k]);
+        end = put(out, end, b' ');
+        k += 1;
+    }
     put(out, end, b'\n')
 }
 
