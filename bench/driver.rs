@@ -1,6 +1,7 @@
 //! The benchmark's driver: for each row the same calls on the original and on ours, so many times over.
 //!
-//!     driver count N        each row N times, once a side, for callgrind: `bench/run` reads the counts of the functions `row::side`
+//!     driver count N        each row N times, once a side, and then a line with both names. `bench/run` has callgrind's counts of the functions `row::side`, or those that
+//!                           bench/count.c takes at each line
 //!     driver time N         each row N times, nine times over: the least nanoseconds for once
 //!
 //! The sides are the original; `boundary`, the archives' functions on lent words, as C calls them; `krate`, the Rust
@@ -59,7 +60,12 @@ fn main() -> ExitCode {
             return ExitCode::FAILURE;
         }
         match way.as_str() {
-            "count" => row.around.iter().for_each(|around| around(times)),
+            "count" => {
+                for (around, side) in row.around.iter().zip(SIDES) {
+                    around(times);
+                    println!("{} {side}", row.name);
+                }
+            }
             _ => println!("{} {}", row.name, row.around.map(|around| format!("{:.2}", time(around, times))).join(" ")),
         }
     }
