@@ -1,12 +1,13 @@
-"""The fields of a script, as one table: `script-text` and the comparison with the Rust (oracle/) go by it. (Document 01, "Scripts"; 06
-and 16, document 02.)
+"""The fields of a script, as one table: `script-text` and the comparison with the Rust (oracle/) go by it. (Document 01, "Scripts"; 06,
+16 and 30 to 35, document 02.)
 
 A new field is a row of FIELDS, a new value of a code one of that part's `codes`, a new chip a row of CHIPS.
 docs/CONTRIBUTING.md says what else a field touches.
 """
 from collections import namedtuple
 
-from script_words import BROADCAST, CLAIMED, DONE, ENDED, READ, REGISTERS, SENT, WRITTEN, asking, given_back, gsi, words_of
+from script_words import (ACCEPTED, BOARD_ENDED, BROADCAST, CLAIMED, DONE, ENDED, READ, REGISTERS, SENT, WRITTEN, asking, given_back, gsi,
+                          message, words_of)
 
 LONGEST = 65536  # bytes of a script
 HEADER = 3  # bytes: the tag and the two of the length
@@ -39,6 +40,7 @@ X2 = Part("x2", 1, words=("xapic", "x2apic"))
 ID = Part("id", 1)
 COUNT = Part("count", 1)
 ACTIVE = Part("active", 8, hex=True)
+TPR = Part("tpr", 1, hex=True)
 
 # A chip, by the high digit of its fields' tags: its name, whether the Rust has it, and the version of its I/O APIC if no field chooses.
 Chip = namedtuple("Chip", "name in_rust version", defaults=(None,))
@@ -46,6 +48,7 @@ CHIPS = {
     0x0: Chip("the I/O APIC", True, 0x11),
     0x1: Chip("the pair", True),
     0x2: Chip("the local APIC", True),
+    0x3: Chip("the board", False, 0x20),
 }
 
 # Why a call is refused, by its number.
@@ -88,6 +91,12 @@ FIELDS = (
     Field(0x23, "local-read", (OFFSET,), "a local register is read", "{register}", READ, NOT_READ),
     Field(0x24, "setup", (X2, ID, COUNT, ACTIVE), "a new local APIC, its vCPU count and active mask",
           "a new local APIC: {x2}, id {id} of {count}, {active}", DONE, NO_SETUP),
+    Field(0x30, "board-line", (GSI, UP), "a line of the board goes up or down", gsi(" of the board goes {up}"), SENT),
+    Field(0x31, "board-accept", (), "its guest accepts the highest request, if PPR lets it", "the guest accepts", ACCEPTED),
+    Field(0x32, "board-eoi", (), "its guest ends its highest interrupt, down to the entries", "the guest's EOI", BOARD_ENDED),
+    Field(0x33, "board-tpr", (TPR,), "its guest writes TPR, and PPR follows", "TPR := {tpr}", DONE),
+    Field(0x34, "board-write", (WIDTH, ADDRESS, VALUE), "its I/O APIC's registers are written", "{register} := {value}", WRITTEN, NOT_IO),
+    Field(0x35, "board-message", (VECTOR, LEVEL), "a device without a line asks for a vector", message, DONE),
 )
 BY_NAME = {field.name: field for field in FIELDS}
 BY_TAG = {field.tag: field for field in FIELDS}

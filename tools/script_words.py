@@ -54,10 +54,11 @@ def service(flags):
     return ("neither", "the master", "the slave", "both")[flags % 4]
 
 
-# What a field does, where that depends on its numbers: a line that isn't there does nothing, and the flags of a claim that is given back
-# count for the chips that the line goes through, as the pair takes them.
+# What a field does, where that depends on its numbers: a line that isn't there does nothing, nor does a message of an illegal vector; and
+# the flags of a claim that is given back count for the chips that the line goes through, as the pair takes them.
 
 GSIS, LINES = 24, 16
+LEGAL = 16  # the lowest vector that a message may have
 
 
 def gsi(does):
@@ -75,6 +76,10 @@ def given_back(numbers):
     return "a claim of line {line} given back, " + (f"out of service on {service(flags)}" if flags else "in service as before")
 
 
+def message(numbers):
+    return "a message: vector {vector}, {level}" + (", dropped with error bit 6" if numbers["vector"] < LEGAL else "")
+
+
 def kind(number):
     return MODES[number] if number < len(MODES) else f"kind {number}"
 
@@ -82,6 +87,7 @@ def kind(number):
 # The values of answers and the parts of calls, by name. Others are written as `script_fields` says.
 WORDS = {
     "vector": byte,
+    "tpr": byte,
     "level": either(("edge", "level")),
     "ended": lambda lines: f"GSI {listed(bits(lines))}" if lines else "no line",
     "again": lambda lines: f"sent again GSI {listed(bits(lines))}" if lines else "none sent again",
@@ -110,10 +116,12 @@ ENDED = Answer("nothing ended", (
 ))
 CLAIMED = Answer("nothing claimed", ((("vector", "line", "flags"), "vector {vector}, line {line}, in service on {flags}"),))
 BROADCAST = Answer("no broadcast", ((("vector",), "broadcast: vector {vector}"),))
+ACCEPTED = Answer("nothing accepted", ((("vector",), "vector {vector} in service"),))
+BOARD_ENDED = Answer("no entry ended", ENDED_ALL.forms)
 IPI = Answer("nothing sent", ((("kind", "vector", "mask"), "sent: {kind}, vector {vector}, to {mask}"),))
 
 # The registers whose writes have an answer of their own.
-BY_REGISTER = (("io-write, EOI register of version 0x20", ENDED_ALL), ("local-write, ICR and self-IPI", IPI))
+BY_REGISTER = (("io-write and board-write, EOI register of version 0x20", ENDED_ALL), ("local-write, ICR and self-IPI", IPI))
 
 # What the values of an answer are called in the program's line, and what they are.
 VALUES = (

@@ -1,6 +1,6 @@
 """Tests of `script-text run` and `diff`: the words for each answer, refusal and bad field, and that the program decides.
 
-The expected words were written from document 01 ("Refusal numbers", "Scripts"), document 02 (T-01, T-02, T-08) and the data sheets'
+The expected words were written from document 01 ("Refusal numbers", "Scripts"), document 02 (T-01, T-02, T-07, T-08) and the data sheets'
 names of registers. A program that prints given lines stands in for `script` where that is enough, or where it doesn't answer so yet.
 """
 import json
@@ -105,6 +105,24 @@ WORDS = (
     (["setup x2apic 1 4 0xf"], "24 0 -", "a new local APIC: x2apic, id 1 of 4, vCPU 0-3 active -> done"),
     (["setup xapic 0 65 0"], "24 5 -",
      "a new local APIC: xapic, id 0 of 65, no vCPU active -> refused (5): a vCPU count is at most 64, an id at most 63"),
+    # The board: version 0x20 without a choice, and a selector of its own.
+    (["board-line 3 up"], "30 0 65,1", "GSI 3 of the board goes up -> sent: vector 0x41, level"),
+    (["board-line 24 down"], "30 0 -", "GSI 24 isn't there: the I/O APIC has 0 to 23 -> nothing sent"),
+    (["board-accept"], "31 0 65", "the guest accepts -> vector 0x41 in service"),
+    (["board-accept"], "31 0 -", "the guest accepts -> nothing accepted"),
+    (["board-eoi"], "32 0 40,8", "the guest's EOI -> ended GSI 3, 5; sent again GSI 3"),
+    (["board-eoi"], "32 0 8,0", "the guest's EOI -> ended GSI 3; none sent again"),
+    (["board-eoi"], "32 0 -", "the guest's EOI -> no entry ended"),
+    (["board-tpr 0x4f"], "33 0 -", "TPR := 0x4f -> done"),
+    (["board-write 4 0xfec00000 0x16", f"{SELECT} 1", "board-write 4 0xfec00010 0x8041"], "34 0 65,1",
+     "entry 3, low word := 0x8041 (vector 0x41, level) -> sent: vector 0x41, level"),
+    (["board-write 4 0xfec00040 0x41"], "34 0 8,8", "EOI register := 0x41 (vector 0x41) -> ended GSI 3; sent again GSI 3"),
+    (["board-write 1 0xfec00000 1"], "34 1 -", "selector := 0x1 (version) -> refused (1): the I/O APIC takes widths 4 and 8"),
+    (["board-write 8 0xfebffff0 1"], "34 4 -",
+     "address 0xfebffff0 := 0x1 -> refused (4): the address is below the I/O APIC's base, 0xfec00000"),
+    (["board-message 0x51 edge"], "35 0 -", "a message: vector 0x51, edge -> done"),
+    (["board-message 16 2"], "35 0 -", "a message: vector 0x10, level -> done"),
+    (["board-message 15 level"], "35 0 -", "a message: vector 0x0f, level, dropped with error bit 6 -> done"),
     # What no table knows yet is shown as it is.
     (["eoi 0x41"], "05 0 1,2,3,4", "EOI of vector 0x41 -> answers 1, 2, 3, 4"),
     (["claim 3"], "12 9 -", "line 3 asks -> refused (9): number 9"),
@@ -327,21 +345,21 @@ def check_help_words(checks):
 
 # One row more.
 
-# Rows such as requests to come will want (document 02, T-04 and T-07), with numbers that none has, and where they go in the table.
+# Rows such as requests to come may want, with numbers that none has, and where they go in the table.
 NEW_ROWS = (
     ('    0: "line 2 is a latch",\n', '    9: "the ninth rule",\n'),
-    ("CHIPS = {\n", '    0x7: Chip("the board", False, 0x20),\n'),
-    ("FIELDS = (\n", '    Field(0x70, "board-line", (GSI, UP), "a line of the board", "GSI {gsi} goes {up}", SENT),\n'
-                     '    Field(0x74, "board-write", (WIDTH, ADDRESS, VALUE), "and its I/O APIC", "{register} := {value}", WRITTEN, NOT_IO),\n'),
+    ("CHIPS = {\n", '    0x7: Chip("another board", False, 0x20),\n'),
+    ("FIELDS = (\n", '    Field(0x70, "other-line", (GSI, UP), "a line of another board", "GSI {gsi} goes {up}", SENT),\n'
+                     '    Field(0x74, "other-write", (WIDTH, ADDRESS, VALUE), "and its I/O APIC", "{register} := {value}", WRITTEN, NOT_IO),\n'),
 )
-BOARD = "pic-rule 9\nboard-line 3 up\nboard-write 4 0xfec00040 0x41\nboard-write 2 0 0"
-BOARD_BYTES = "16 01 00 09 70 02 00 03 01 74 11 00 04 40 00 c0 fe 00 00 00 00 41 00 00 00 00 00 00 00 74 11 00 02" + " 00" * 16
-BOARD_LINES = "16 0 -\n70 0 65,1\n74 0 8,0\n74 1 -\n"
-BOARD_WORDS = """\
+OTHER = "pic-rule 9\nother-line 3 up\nother-write 4 0xfec00040 0x41\nother-write 2 0 0"
+OTHER_BYTES = "16 01 00 09 70 02 00 03 01 74 11 00 04 40 00 c0 fe 00 00 00 00 41 00 00 00 00 00 00 00 74 11 00 02" + " 00" * 16
+OTHER_LINES = "16 0 -\n70 0 65,1\n74 0 8,0\n74 1 -\n"
+OTHER_WORDS = """\
 pic-rule 9                     # a new pair: rule 9, the ninth rule -> done
-board-line 3 up                # GSI 3 goes up -> sent: vector 0x41, level
-board-write 4 0xfec00040 0x41  # EOI register := 0x41 (vector 0x41) -> ended GSI 3; none sent again
-board-write 2 0x0 0x0          # address 0x0 := 0x0 -> refused (1): the I/O APIC takes widths 4 and 8
+other-line 3 up                # GSI 3 goes up -> sent: vector 0x41, level
+other-write 4 0xfec00040 0x41  # EOI register := 0x41 (vector 0x41) -> ended GSI 3; none sent again
+other-write 2 0x0 0x0          # address 0x0 := 0x0 -> refused (1): the I/O APIC takes widths 4 and 8
 """
 JUDGED = """
 import sys
@@ -368,16 +386,16 @@ def check_new_row(checks, folder):
         text = text.replace(above, above + row)
     table.write_text(text)
     tool = folder / "tools" / "script-text"
-    script = command("encode", given=BOARD.encode(), tool=tool).stdout
-    checks.same("new fields as bytes", script.hex(" "), BOARD_BYTES)
+    script = command("encode", given=OTHER.encode(), tool=tool).stdout
+    checks.same("new fields as bytes", script.hex(" "), OTHER_BYTES)
     text = command("decode", given=script, tool=tool).stdout
     checks.same("new fields as text again", command("encode", given=text, tool=tool).stdout, script)
-    ran = command("run", "--program", Printer(folder).says(BOARD_LINES), given=script, tool=tool)
-    checks.same_lines("new fields in words", ran.stdout.decode(), BOARD_WORDS)
-    checks.true("new fields in help", "board-line GSI up|down" in command("--help", tool=tool).stdout.decode())
+    ran = command("run", "--program", Printer(folder).says(OTHER_LINES), given=script, tool=tool)
+    checks.same_lines("new fields in words", ran.stdout.decode(), OTHER_WORDS)
+    checks.true("new fields in help", "other-line GSI up|down" in command("--help", tool=tool).stdout.decode())
     said = subprocess.run([sys.executable, "-c", JUDGED, folder / "oracle"], stdout=subprocess.PIPE, stderr=subprocess.STDOUT, text=True)
     checks.same("what the Rust can't judge, with the new fields", said.stdout,
-                "[True, False, True, False, False]\nFalse board-line 3 up True\n")
+                "[True, False, True, False, False]\nFalse other-line 3 up True\n")
 
 
 # The proved program.

@@ -3,18 +3,16 @@ use Prim.Native.Nat.{ℕ}
 use mathlib.Core.List.{List}
 use mathlib.Core.Path.{_≡_}
 use Rattle.types.specs.declared.Reply.{Reply}
-use Rattle.types.specs.declared.Reply.the-variants.{Nothing, One}
 use Rattle.types.specs.Reply.{Kept}
 use Rattle.vioapic.specs.State.{spare, newWords}
 use Rattle.vlapic_words.specs.Calls.{Stored, IsNew}
 use Rattle.vlapic_requests.specs.declared.Acceptance.{Acceptance}
-use Rattle.vlapic_requests.specs.declared.Acceptance.the-variants.{NotAccepted, Accepted}
+use Rattle.vlapic_requests.specs.Promise as requests
 use Rattle.board.specs.Board.{Board, boardIn, newBoard, After}
 
--- acceptance in document 01's numbers and values: the vector, or nothing
+-- acceptance in document 01's numbers and values
 abbrev pub acceptanceReply : Acceptance → Reply
-acceptanceReply NotAccepted = Nothing
-acceptanceReply (Accepted v) = One (v .0)
+acceptanceReply r = requests.acceptanceReply r
 
 -- a call that leaves the words io′ and l′ of the words io and l, with its answer, and that as a reply: the board that they stand for and the answer are those that the
 -- definition gives; refused, every word is as it was; what isn't looked at stays; and each of the local APIC's words is as it was or was stored

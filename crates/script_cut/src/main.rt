@@ -19,7 +19,15 @@ fn print_runs(script: &[u8], allowance: usize, runs: usize) {
     let mut ioapic = [0u64; 32];
     let mut pic = [0u64; 4];
     let mut apic = [0u64; 48];
-    let mut vm = script_machine::new(&mut ioapic, &mut pic, &mut apic);
+    let mut board_ioapic = [0u64; 32];
+    let mut board_apic = [0u64; 48];
+    let mut vm = script_machine::new(
+        &mut ioapic,
+        &mut pic,
+        &mut apic,
+        &mut board_ioapic,
+        &mut board_apic,
+    );
     let mut next = Cursor { at: 0 };
     let mut k: usize = 0;
     while k < runs {
@@ -28,6 +36,8 @@ fn print_runs(script: &[u8], allowance: usize, runs: usize) {
             &mut ioapic,
             &mut pic,
             &mut apic,
+            &mut board_ioapic,
+            &mut board_apic,
             vm,
             script,
             next,
@@ -42,7 +52,15 @@ fn print_runs(script: &[u8], allowance: usize, runs: usize) {
         next = behind;
     }
     let pending = Call::Pic(PicCall::ClaimPendingInterrupt);
-    let performed = script_machine::perform(&mut ioapic, &mut pic, &mut apic, vm, pending);
+    let performed = script_machine::perform(
+        &mut ioapic,
+        &mut pic,
+        &mut apic,
+        &mut board_ioapic,
+        &mut board_apic,
+        vm,
+        pending,
+    );
     let reply = performed.reply;
     reply_text::print_reply(reply);
 }

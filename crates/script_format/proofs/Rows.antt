@@ -9,7 +9,7 @@ use borrow.Author.Tests.{ne-eqb, leb-true, ltb-true}
 use Rattle.utils.proofs.Bools.{and-true}
 use Rattle.script_format.specs.declared.Body.{Body}
 use Rattle.script_format.specs.declared.Body.the-variants.{Malformed}
-use Rattle.script_format.specs.Format.{Format, decodedBy, decodedIn, decoded, ioFormats, picFormats, apicFormats}
+use Rattle.script_format.specs.Format.{Format, decodedBy, decodedIn, decoded, ioFormats, picFormats, apicFormats, boardFormats}
 
 -- the rows in the order of the source, the last one first
 abbrev pub onto : List Format → List Format → List Format
@@ -60,14 +60,20 @@ kept k tag body (f ∷ fs) gs h l = ap (λ (x : Body). cond (eqb tag (f .tag)) (
 module _ (tag : ℕ) (body : List ℕ) (r : Body) where
   pub decoded-io : tag < 0x10 → r ≡ decodedIn ioFormats tag body → r ≡ decoded tag body
   unfolding decoded
-  decoded-io h e = e ∙ sym (kept 0x10 tag body ioFormats (picFormats ++ apicFormats) refl h)
+  decoded-io h e = e ∙ sym (kept 0x10 tag body ioFormats (picFormats ++ (apicFormats ++ boardFormats)) refl h)
 
-  later : 0x10 ≤ tag → decoded tag body ≡ decodedIn (picFormats ++ apicFormats) tag body
+  from-10 : 0x10 ≤ tag → decoded tag body ≡ decodedIn (picFormats ++ (apicFormats ++ boardFormats)) tag body
   unfolding decoded
-  later h = passed 0x10 tag body ioFormats (picFormats ++ apicFormats) refl h
+  from-10 h = passed 0x10 tag body ioFormats (picFormats ++ (apicFormats ++ boardFormats)) refl h
 
   pub decoded-pic : 0x10 ≤ tag → tag < 0x20 → r ≡ decodedIn picFormats tag body → r ≡ decoded tag body
-  decoded-pic h l e = e ∙ sym (later h ∙ kept 0x20 tag body picFormats apicFormats refl l)
+  decoded-pic h l e = e ∙ sym (from-10 h ∙ kept 0x20 tag body picFormats (apicFormats ++ boardFormats) refl l)
 
-  pub decoded-apic : 0x20 ≤ tag → r ≡ decodedIn apicFormats tag body → r ≡ decoded tag body
-  decoded-apic h e = e ∙ sym (later (omega arith) ∙ passed 0x20 tag body picFormats apicFormats refl h)
+  from-20 : 0x20 ≤ tag → decoded tag body ≡ decodedIn (apicFormats ++ boardFormats) tag body
+  from-20 h = from-10 (omega arith) ∙ passed 0x20 tag body picFormats (apicFormats ++ boardFormats) refl h
+
+  pub decoded-apic : 0x20 ≤ tag → tag < 0x30 → r ≡ decodedIn apicFormats tag body → r ≡ decoded tag body
+  decoded-apic h l e = e ∙ sym (from-20 h ∙ kept 0x30 tag body apicFormats boardFormats refl l)
+
+  pub decoded-board : 0x30 ≤ tag → r ≡ decodedIn boardFormats tag body → r ≡ decoded tag body
+  decoded-board h e = e ∙ sym (from-20 (omega arith) ∙ passed 0x30 tag body apicFormats boardFormats refl h)

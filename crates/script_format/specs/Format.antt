@@ -1,4 +1,4 @@
--- The format of a script's fields (document 01, "Scripts"), as one table: for each tag the sizes of the numbers in its body, and the call that they make.
+-- The format of a script's fields (document 01, "Scripts"; 06, 16 and 30 to 35, document 02), as one table: for each tag the sizes of the numbers in its body, and the call that they make.
 use Prim.Native.Nat.{ℕ, zero, suc, _+_, _*_, _/_, _%_}
 use mathlib.Core.Bool.{Bool, true, not, cond, _&&_, _||_}
 use mathlib.Core.List.{List, [], _∷_, _++_}
@@ -9,8 +9,9 @@ use Rattle.vpic.specs.Pair.{isRule, ruleIn}
 use Rattle.script_format.specs.declared.IoCall.the-variants as io
 use Rattle.script_format.specs.declared.PicCall.the-variants as pic
 use Rattle.script_format.specs.declared.ApicCall.the-variants as apic
+use Rattle.script_format.specs.declared.BoardCall.the-variants as board
 use Rattle.script_format.specs.declared.Call.{Call}
-use Rattle.script_format.specs.declared.Call.the-variants.{Io, IoVersion, Pic, PicRule, Apic}
+use Rattle.script_format.specs.declared.Call.the-variants.{Io, IoVersion, Pic, PicRule, Apic, Board}
 use Rattle.script_format.specs.declared.Body.{Body}
 use Rattle.script_format.specs.declared.Body.the-variants.{Says, Malformed}
 
@@ -98,8 +99,19 @@ apicFormats =
     ∷ format 0x24 anything (1 ∷ 1 ∷ 1 ∷ 8 ∷ []) (λ n. Apic (apic.Setup (nonzero (n 0)) (record { 0 = n 1 }) (n 2) (n 3)))  -- x2APIC mode, id, count, active
     ∷ []
 
+-- the board's
+abbrev pub boardFormats : List Format
+boardFormats =
+    format 0x30 anything (1 ∷ 1 ∷ []) (λ n. Board (board.SetGsiLevel (record { 0 = n 0 }) (nonzero (n 1))))  -- GSI, up
+    ∷ format 0x31 anything [] (λ n. Board board.AcceptInterrupt)
+    ∷ format 0x32 anything [] (λ n. Board board.HandleEoi)
+    ∷ format 0x33 anything (1 ∷ []) (λ n. Board (board.WriteTpr (n 0)))  -- value
+    ∷ format 0x34 isWidth (1 ∷ 8 ∷ 8 ∷ []) (λ n. Board (board.HandleWrite (n 1) (n 0) (n 2)))  -- width, address, value
+    ∷ format 0x35 anything (1 ∷ 1 ∷ []) (λ n. Board (board.Receive (record { 0 = n 0 }) (nonzero (n 1))))  -- vector, level
+    ∷ []
+
 abbrev pub formats : List Format
-formats = ioFormats ++ (picFormats ++ apicFormats)
+formats = ioFormats ++ (picFormats ++ (apicFormats ++ boardFormats))
 
 -- ---- a body
 

@@ -2,7 +2,7 @@
 
 ghost use mathlib.Core.Path.{_≡_};
 ghost use Prim.Native.Nat.{_+_, _<_, _^_};
-ghost use Rattle.script_format.specs.Format.{numberAt, isWidth, checked, ioFormats, picFormats, apicFormats, decodedIn, decoded};
+ghost use Rattle.script_format.specs.Format.{numberAt, isWidth, checked, ioFormats, picFormats, apicFormats, boardFormats, decodedIn, decoded};
 ghost use Rattle.script_format.specs.Chips.{chipOf, isChoice};
 ghost use Rattle.script_format.specs.Fields.{fieldOf, fieldAt};
 use types::Gsi;
@@ -50,6 +50,16 @@ pub enum ApicCall {
     },
 }
 
+// Calls of the board.
+pub enum BoardCall {
+    SetGsiLevel(Gsi, bool),
+    AcceptInterrupt,
+    HandleEoi,
+    WriteTpr(u8),
+    HandleWrite { addr: u64, width: u8, value: u64 },
+    Receive(Vector, bool),
+}
+
 // A call of a chip, or a choice, which makes a new one: of the I/O APIC's version, of the pair's rule.
 pub enum Call {
     Io(IoCall),
@@ -57,13 +67,15 @@ pub enum Call {
     Pic(PicCall),
     PicRule(PicRule),
     Apic(ApicCall),
+    Board(BoardCall),
 }
 
-// The three chips.
+// The three chips, and the board, which has chips of its own.
 pub enum Chip {
     IoApic,
     Pic,
     LocalApic,
+    Board,
 }
 
 impl Call {
@@ -77,6 +89,7 @@ impl Call {
             Call::Pic(_) => Chip::Pic,
             Call::PicRule(_) => Chip::Pic,
             Call::Apic(_) => Chip::LocalApic,
+            Call::Board(_) => Chip::Board,
         }
     }
 
@@ -90,6 +103,7 @@ impl Call {
             Call::Pic(_) => false,
             Call::PicRule(_) => true,
             Call::Apic(_) => false,
+            Call::Board(_) => false,
         }
     }
 }
@@ -305,6 +319,44 @@ fn decode_apic(tag: u8, body: &[u8]) -> Body
     }
 }
 
+// Of the board's.
+fn decode_board(tag: u8, body: &[u8]) -> Body
+    ensures { λ r. ⌜ r ≡ decodedIn boardFormats tag (now (body .entry)) ⌝ }
+{
+    match tag {
+        0x30 => {
+            let call = BoardCall::SetGsiLevel(Gsi(byte(body, 0) as usize), byte(body, 1) != 0);
+            checked(body, 2, true, Call::Board(call))
+        }
+        0x31 => {
+            let call = BoardCall::AcceptInterrupt;
+            checked(body, 0, true, Call::Board(call))
+        }
+        0x32 => {
+            let call = BoardCall::HandleEoi;
+            checked(body, 0, true, Call::Board(call))
+        }
+        0x33 => {
+            let call = BoardCall::WriteTpr(byte(body, 0));
+            checked(body, 1, true, Call::Board(call))
+        }
+        0x34 => {
+            let width = byte(body, 0);
+            let call = BoardCall::HandleWrite {
+                addr: eight_bytes(body, 1),
+                width,
+                value: eight_bytes(body, 9),
+            };
+            checked(body, 17, is_width(width), Call::Board(call))
+        }
+        0x35 => {
+            let call = BoardCall::Receive(Vector(byte(body, 0)), byte(body, 1) != 0);
+            checked(body, 2, true, Call::Board(call))
+        }
+        _ => Body::Malformed,
+    }
+}
+
 // A body by its tag.
 pub fn decode(tag: u8, body: &[u8]) -> Body
     ensures { λ r. ⌜ r ≡ decoded tag (now (body .entry)) ⌝ }
@@ -315,7 +367,10 @@ pub fn decode(tag: u8, body: &[u8]) -> Body
     if tag < 0x20 {
         return decode_pic(tag, body);
     }
-    decode_apic(tag, body)
+    if tag < 0x30 {
+        return decode_apic(tag, body);
+    }
+    decode_board(tag, body)
 }
 
 // ---- a field

@@ -1,3 +1,4 @@
+pub mod Board
 pub mod Chips
 pub mod Late
 pub mod Local

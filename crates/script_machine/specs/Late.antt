@@ -4,7 +4,7 @@ use Prim.Native.Nat.{ℕ}
 use mathlib.Core.Bool.{Bool, true, false, cond, _&&_}
 use mathlib.Core.List.{List}
 use Rattle.script_format.specs.declared.Chip.{Chip}
-use Rattle.script_format.specs.declared.Chip.the-variants.{IoApic, Pic, LocalApic}
+use Rattle.script_format.specs.declared.Chip.the-variants.{IoApic, Pic, LocalApic, Board}
 use Rattle.script_format.specs.declared.Call.{Call}
 use Rattle.script_format.specs.declared.Field.{Field}
 use Rattle.script_format.specs.declared.Field.the-variants.{Good, Bad, End}
@@ -12,16 +12,18 @@ use Rattle.script_format.specs.Chips.{chipOf, isChoice}
 use Rattle.script_format.specs.Fields.{fieldAt}
 use Rattle.script_machine.specs.declared.Used.{Used}
 
--- of the local APIC nothing is chosen, and nothing remembered
+-- of the local APIC and of the board nothing is chosen, and nothing remembered
 abbrev pub wasUsed : Used → Chip → Bool
 wasUsed used IoApic = used .io
 wasUsed used Pic = used .pic
 wasUsed used LocalApic = false
+wasUsed used Board = false
 
 abbrev pub nowUsed : Used → Chip → Used
 nowUsed used IoApic = record { io = true; pic = used .pic }
 nowUsed used Pic = record { io = used .io; pic = true }
 nowUsed used LocalApic = used
+nowUsed used Board = used
 
 -- the flags after a call
 abbrev pub usedAfter : Used → Call → Used

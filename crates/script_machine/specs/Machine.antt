@@ -1,4 +1,5 @@
--- The machine of the three controllers, and one call on it (document 01, "Scripts"): each call is one of a chip's public calls, and changes that chip alone.
+-- The machine of the three controllers, with a board apart from them (document 02, T-07), and one call on it (document 01, "Scripts"): each call is one of a chip's public
+-- calls, and changes that chip alone.
 use Prim.Native.Nat.{ℕ}
 use mathlib.Core.Bool.{Bool, true, false, cond, _||_}
 use mathlib.Core.List.{List}
@@ -22,14 +23,18 @@ use Rattle.vlapic.specs.Priority.{acceptInterrupt, handleEoi}
 use Rattle.vlapic.specs.Registers as registers
 use Rattle.vlapic.specs.Calls as vlapic
 use Rattle.vlapic_words.specs.Words as apic-words
+use Rattle.board.specs.Board.{Board as BoardState, boardIn, newBoard}
+use Rattle.board.specs.Calls as board
 use Rattle.script_format.specs.declared.IoCall.{IoCall}
 use Rattle.script_format.specs.declared.IoCall.the-variants as io
 use Rattle.script_format.specs.declared.PicCall.{PicCall}
 use Rattle.script_format.specs.declared.PicCall.the-variants as pair
 use Rattle.script_format.specs.declared.ApicCall.{ApicCall}
 use Rattle.script_format.specs.declared.ApicCall.the-variants as local
+use Rattle.script_format.specs.declared.BoardCall.{BoardCall}
+use Rattle.script_format.specs.declared.BoardCall.the-variants as whole
 use Rattle.script_format.specs.declared.Call.{Call}
-use Rattle.script_format.specs.declared.Call.the-variants.{Io, IoVersion, Pic, PicRule, Apic}
+use Rattle.script_format.specs.declared.Call.the-variants.{Io, IoVersion, Pic, PicRule, Apic, Board}
 use Rattle.script_machine.specs.declared.Used.{Used}
 use Rattle.script_machine.specs.declared.Vm.{Vm}
 use Rattle.script_machine.specs.declared.Machine as declared
@@ -49,48 +54,54 @@ pub record Machine : Type 0 where
   pub ioapic : IoApicState
   pub pic : PicState
   pub local : Local
+  pub board : BoardState
   pub used : Used
 
 -- m with another part
 abbrev pub withIoapic : Machine → IoApicState → Machine
-withIoapic m x = record { ioapic = x; pic = m .pic; local = m .local; used = m .used }
+withIoapic m x = record { ioapic = x; pic = m .pic; local = m .local; board = m .board; used = m .used }
 
 abbrev pub withPic : Machine → PicState → Machine
-withPic m x = record { ioapic = m .ioapic; pic = x; local = m .local; used = m .used }
+withPic m x = record { ioapic = m .ioapic; pic = x; local = m .local; board = m .board; used = m .used }
 
 abbrev pub withLocal : Machine → Local → Machine
-withLocal m x = record { ioapic = m .ioapic; pic = m .pic; local = x; used = m .used }
+withLocal m x = record { ioapic = m .ioapic; pic = m .pic; local = x; board = m .board; used = m .used }
+
+abbrev pub withBoard : Machine → BoardState → Machine
+withBoard m x = record { ioapic = m .ioapic; pic = m .pic; local = m .local; board = x; used = m .used }
 
 abbrev pub withUsed : Machine → Used → Machine
-withUsed m x = record { ioapic = m .ioapic; pic = m .pic; local = m .local; used = x }
+withUsed m x = record { ioapic = m .ioapic; pic = m .pic; local = m .local; board = m .board; used = x }
 
 -- the local APIC of such words in a VM
 abbrev pub localIn : List ℕ → Vm → Local
 localIn l vm = record { apic = apic-words.view l; «vcpu_num» = vm .«vcpu_num»; «active_vcpus» = vm .«active_vcpus» }
 
 -- the machine that the words of its chips and the rest of it stand for
-unfoldable pub machineIn : List ℕ → List ℕ → List ℕ → Vm → Machine
-machineIn io pair l vm = record {
+unfoldable pub machineIn : List ℕ → List ℕ → List ℕ → List ℕ → List ℕ → Vm → Machine
+machineIn io pair l bio bl vm = record {
   ioapic = io-words.view io;
   pic = pic-words.view pair;
   local = localIn l vm;
+  board = boardIn bio bl;
   used = vm .used;
 }
 
 -- and by value
 abbrev pub machineOf : declared.Machine → Machine
-machineOf m = machineIn (m .ioapic) (m .pic) (m .apic) (m .vm)
+machineOf m = machineIn (m .ioapic) (m .pic) (m .apic) (m .«board_ioapic») (m .«board_apic») (m .vm)
 
 -- no chip was used
 abbrev pub unused : Used
 unused = record { io = false; pic = false }
 
--- the I/O APIC at 0xfec00000, size 0x1000; the local APIC in xAPIC mode with id 0; one vCPU, and it is active
+-- the I/O APIC at 0xfec00000, size 0x1000; the local APIC in xAPIC mode with id 0; one vCPU, and it is active; a new board
 unfoldable pub newMachine : Machine
 newMachine = record {
   ioapic = newDefault;
   pic = vpic.newState Latch;
   local = record { apic = start false 0; «vcpu_num» = 1; «active_vcpus» = 1 };
+  board = newBoard;
   used = unused;
 }
 
@@ -134,6 +145,15 @@ localOutcome l local.HandleEoi = inVm l (handleEoi (l .apic))
 localOutcome l (local.HandleRead offset) = inVm l (outcomeOf (l .apic) (registers.handleRead (l .apic) offset))
 localOutcome l (local.Setup x2apic id num active) = setUpBy l (vlapic.setup (l .apic) x2apic id num) num active
 
+-- a script's call of the board as one of its public calls
+abbrev pub boardCall : BoardCall → board.Call
+boardCall (whole.SetGsiLevel gsi up) = board.SetGsiLevel gsi up
+boardCall whole.AcceptInterrupt = board.AcceptInterrupt
+boardCall whole.HandleEoi = board.HandleEoi
+boardCall (whole.WriteTpr value) = board.WriteTpr value
+boardCall (whole.HandleWrite addr width value) = board.HandleWrite addr width value
+boardCall (whole.Receive vector level) = board.Receive vector level
+
 -- a chip's outcome as the machine's
 abbrev pub inMachine : {S : Type 0} → (S → Machine) → Outcome S → Outcome Machine
 inMachine put o = record { state = put (o .state); reply = o .reply }
@@ -145,6 +165,7 @@ applied m (IoVersion version) = outcomeOf (withIoapic m (chosen version)) Nothin
 applied m (Pic c) = inMachine (withPic m) (picOutcome (m .pic) c)
 applied m (PicRule rule) = outcomeOf (withPic m (vpic.newState rule)) Nothing
 applied m (Apic c) = inMachine (withLocal m) (localOutcome (m .local) c)
+applied m (Board c) = inMachine (withBoard m) (board.outcome (m .board) (boardCall c))
 
 -- what a machine has beside its chips, after a call
 abbrev pub remembering : Vm → Call → Vm

@@ -39,8 +39,8 @@ unfoldable pub stepOf : List ℕ → Machine → ℕ → Step
 stepOf s m at = stepBy m at (fieldFor s (m .used) at)
 
 -- the step that words after it and its end stand for
-abbrev pub stepIn : List ℕ → List ℕ → List ℕ → Stepped → Step
-stepIn io pair apic r = record { machine = machineIn io pair apic (r .vm); next = r .next; said = r .said }
+abbrev pub stepIn : List ℕ → List ℕ → List ℕ → List ℕ → List ℕ → Stepped → Step
+stepIn io pair apic bio bl r = record { machine = machineIn io pair apic bio bl (r .vm); next = r .next; said = r .said }
 
 -- ---- a run
 
@@ -108,8 +108,8 @@ abbrev pub runOutcome : List ℕ → Machine → ℕ → ℕ → Outcome Run
 runOutcome s m at n = ended (runOf s m at n)
 
 -- the run that words after it and its end stand for
-abbrev pub runIn : List ℕ → List ℕ → List ℕ → Ended → Run
-runIn io pair apic e = record { machine = machineIn io pair apic (e .vm); done = e .done; next = e .next; stop = e .stop }
+abbrev pub runIn : List ℕ → List ℕ → List ℕ → List ℕ → List ℕ → Ended → Run
+runIn io pair apic bio bl e = record { machine = machineIn io pair apic bio bl (e .vm); done = e .done; next = e .next; stop = e .stop }
 
 abbrev pub machineRun : MachineRun → Run
 machineRun r = record { machine = machineOf (r .machine); done = r .done; next = r .next; stop = r .stop }

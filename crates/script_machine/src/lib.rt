@@ -1,15 +1,18 @@
-// A machine of the three interrupt controllers, in place over the words of each, and runs of scripts on it (document 01, "Scripts"). Not in the Rust crate.
+// A machine of the three interrupt controllers, and a board apart from them, in place over the words of each, and runs of scripts on it (document 01, "Scripts"). Not in the Rust crate.
 
 ghost use mathlib.Core.Path.{_≡_};
 ghost use Rattle.types.specs.Reply.{outcomeOf};
 ghost use Rattle.vioapic.specs.State as io-words;
 ghost use Rattle.vioapic.specs.Calls.{outcome};
 ghost use Rattle.vpic.specs.Words as pic-words;
+ghost use Rattle.board.specs.Board.{boardIn};
+ghost use Rattle.board.specs.Calls as board;
 ghost use Rattle.script_format.specs.declared.ApicCall.the-variants as local;
-ghost use Rattle.script_machine.specs.Machine.{machineIn, machineOf, newMachine, ioCall, picOutcome, localIn, localOutcome, remembering, performed};
+ghost use Rattle.script_machine.specs.Machine.{machineIn, machineOf, newMachine, ioCall, boardCall, picOutcome, localIn, localOutcome, remembering, performed};
 ghost use Rattle.script_machine.specs.Late.{wasUsed, nowUsed, isLate, taken, fieldFor};
 ghost use Rattle.script_machine.specs.Run.{stepOf, stepIn, stopReply, runOutcome, ended, runIn, machineRun};
 use script_format::ApicCall;
+use script_format::BoardCall;
 use script_format::Call;
 use script_format::Chip;
 use script_format::Cursor;
@@ -36,6 +39,7 @@ impl Used {
             Chip::IoApic => self.io,
             Chip::Pic => self.pic,
             Chip::LocalApic => false,
+            Chip::Board => false,
         }
     }
 
@@ -52,6 +56,7 @@ impl Used {
                 pic: true,
             },
             Chip::LocalApic => self,
+            Chip::Board => self,
         }
     }
 }
@@ -219,15 +224,52 @@ fn call_apic(apic: &mut [u64; 48], vm: Vm, call: ApicCall) -> Performed
     }
 }
 
+fn call_board(ioapic: &mut [u64; 32], apic: &mut [u64; 48], call: BoardCall) -> Reply
+    ensures { λ r. ⌜ outcomeOf (boardIn (now (ioapic .exit)) (now (apic .exit))) r ≡ board.outcome (boardIn (now (ioapic .entry)) (now (apic .entry))) (boardCall call) ⌝ }
+{
+    match call {
+        BoardCall::SetGsiLevel(gsi, up) => board::set_gsi_level(
+            &mut *ioapic,
+            &mut *apic,
+            gsi,
+            up,
+        ).reply(),
+        BoardCall::AcceptInterrupt => board::accept_interrupt(&mut *apic).reply(),
+        BoardCall::HandleEoi => board::handle_eoi(&mut *ioapic, &mut *apic).reply(),
+        BoardCall::WriteTpr(value) => {
+            board::write_tpr(&mut *apic, value as u32);
+            Reply::Nothing
+        }
+        BoardCall::HandleWrite { addr, width, value } => board::handle_write(
+            &mut *ioapic,
+            &mut *apic,
+            addr,
+            width as u64,
+            value,
+        ).reply(),
+        BoardCall::Receive(vector, level) => {
+            board::receive(&mut *apic, vector, level);
+            Reply::Nothing
+        }
+    }
+}
+
 // ---- one call on the machine
 
-// A new machine in these words: the I/O APIC at its usual address; the local APIC of vCPU 0, the only one, in xAPIC mode.
-pub fn new(ioapic: &mut [u64; 32], pic: &mut [u64; 4], apic: &mut [u64; 48]) -> Vm
-    ensures { λ r. ⌜ machineIn (now (ioapic .exit)) (now (pic .exit)) (now (apic .exit)) r ≡ newMachine ⌝ }
+// A new machine in these words: the I/O APIC at its usual address; the local APIC of vCPU 0, the only one, in xAPIC mode; a new board.
+pub fn new(
+    ioapic: &mut [u64; 32],
+    pic: &mut [u64; 4],
+    apic: &mut [u64; 48],
+    board_ioapic: &mut [u64; 32],
+    board_apic: &mut [u64; 48],
+) -> Vm
+    ensures { λ r. ⌜ machineIn (now (ioapic .exit)) (now (pic .exit)) (now (apic .exit)) (now («board_ioapic» .exit)) (now («board_apic» .exit)) r ≡ newMachine ⌝ }
 {
     vioapic::new_default(&mut *ioapic);
     vpic::new(&mut *pic);
     vlapic_words::new(&mut *apic);
+    board::new(&mut *board_ioapic, &mut *board_apic);
     Vm {
         vcpu_num: 1,
         active_vcpus: 1,
@@ -254,10 +296,12 @@ pub fn perform(
     ioapic: &mut [u64; 32],
     pic: &mut [u64; 4],
     apic: &mut [u64; 48],
+    board_ioapic: &mut [u64; 32],
+    board_apic: &mut [u64; 48],
     vm: Vm,
     call: Call,
 ) -> Performed
-    ensures { λ r. ⌜ outcomeOf (machineIn (now (ioapic .exit)) (now (pic .exit)) (now (apic .exit)) (r .vm)) (r .reply) ≡ performed (machineIn (now (ioapic .entry)) (now (pic .entry)) (now (apic .entry)) vm) call ⌝ }
+    ensures { λ r. ⌜ outcomeOf (machineIn (now (ioapic .exit)) (now (pic .exit)) (now (apic .exit)) (now («board_ioapic» .exit)) (now («board_apic» .exit)) (r .vm)) (r .reply) ≡ performed (machineIn (now (ioapic .entry)) (now (pic .entry)) (now (apic .entry)) (now («board_ioapic» .entry)) (now («board_apic» .entry)) vm) call ⌝ }
 {
     let vm = remember(vm, call);
     match call {
@@ -286,6 +330,10 @@ pub fn perform(
             }
         }
         Call::Apic(c) => call_apic(&mut *apic, vm, c),
+        Call::Board(c) => {
+            let reply = call_board(&mut *board_ioapic, &mut *board_apic, c);
+            Performed { vm, reply }
+        }
     }
 }
 
@@ -331,16 +379,26 @@ pub fn step(
     ioapic: &mut [u64; 32],
     pic: &mut [u64; 4],
     apic: &mut [u64; 48],
+    board_ioapic: &mut [u64; 32],
+    board_apic: &mut [u64; 48],
     vm: Vm,
     script: &[u8],
     from: Cursor,
 ) -> Stepped
-    ensures { λ r. ⌜ stepIn (now (ioapic .exit)) (now (pic .exit)) (now (apic .exit)) r ≡ stepOf (now (script .entry)) (machineIn (now (ioapic .entry)) (now (pic .entry)) (now (apic .entry)) vm) (from .at) ⌝ }
+    ensures { λ r. ⌜ stepIn (now (ioapic .exit)) (now (pic .exit)) (now (apic .exit)) (now («board_ioapic» .exit)) (now («board_apic» .exit)) r ≡ stepOf (now (script .entry)) (machineIn (now (ioapic .entry)) (now (pic .entry)) (now (apic .entry)) (now («board_ioapic» .entry)) (now («board_apic» .entry)) vm) (from .at) ⌝ }
 {
     let field = next_field(script, vm.used, from);
     match field {
         Field::Good { tag, call, next } => {
-            let performed = perform(&mut *ioapic, &mut *pic, &mut *apic, vm, call);
+            let performed = perform(
+                &mut *ioapic,
+                &mut *pic,
+                &mut *apic,
+                &mut *board_ioapic,
+                &mut *board_apic,
+                vm,
+                call,
+            );
             let changed = performed.vm;
             let reply = performed.reply;
             Stepped {
@@ -367,18 +425,29 @@ pub fn run(
     ioapic: &mut [u64; 32],
     pic: &mut [u64; 4],
     apic: &mut [u64; 48],
+    board_ioapic: &mut [u64; 32],
+    board_apic: &mut [u64; 48],
     vm: Vm,
     script: &[u8],
     from: Cursor,
     allowance: usize,
 ) -> Ended
-    ensures { λ r. ⌜ ended (runIn (now (ioapic .exit)) (now (pic .exit)) (now (apic .exit)) r) ≡ runOutcome (now (script .entry)) (machineIn (now (ioapic .entry)) (now (pic .entry)) (now (apic .entry)) vm) (from .at) allowance ⌝ }
+    ensures { λ r. ⌜ ended (runIn (now (ioapic .exit)) (now (pic .exit)) (now (apic .exit)) (now («board_ioapic» .exit)) (now («board_apic» .exit)) r) ≡ runOutcome (now (script .entry)) (machineIn (now (ioapic .entry)) (now (pic .entry)) (now (apic .entry)) (now («board_ioapic» .entry)) (now («board_apic» .entry)) vm) (from .at) allowance ⌝ }
 {
     let mut after = vm;
     let mut next = from;
     let mut done: usize = 0;
     while done < allowance {
-        let stepped = step(&mut *ioapic, &mut *pic, &mut *apic, after, script, next);
+        let stepped = step(
+            &mut *ioapic,
+            &mut *pic,
+            &mut *apic,
+            &mut *board_ioapic,
+            &mut *board_apic,
+            after,
+            script,
+            next,
+        );
         let changed = stepped.vm;
         let behind = stepped.next;
         let said = stepped.said;
@@ -407,11 +476,13 @@ pub fn run(
 
 // ---- The same by value.
 
-// The words of the three chips, and the rest of the machine.
+// The words of the three chips and of the board's two, and the rest of the machine.
 pub struct Machine {
     pub ioapic: [u64; 32],
     pub pic: [u64; 4],
     pub apic: [u64; 48],
+    pub board_ioapic: [u64; 32],
+    pub board_apic: [u64; 48],
     pub vm: Vm,
 }
 
@@ -434,11 +505,21 @@ impl Machine {
         let mut ioapic = [0; 32];
         let mut pic = [0; 4];
         let mut apic = [0; 48];
-        let vm = new(&mut ioapic, &mut pic, &mut apic);
+        let mut board_ioapic = [0; 32];
+        let mut board_apic = [0; 48];
+        let vm = new(
+            &mut ioapic,
+            &mut pic,
+            &mut apic,
+            &mut board_ioapic,
+            &mut board_apic,
+        );
         Machine {
             ioapic,
             pic,
             apic,
+            board_ioapic,
+            board_apic,
             vm,
         }
     }
@@ -449,7 +530,17 @@ impl Machine {
         let mut ioapic = self.ioapic;
         let mut pic = self.pic;
         let mut apic = self.apic;
-        let performed = perform(&mut ioapic, &mut pic, &mut apic, self.vm, call);
+        let mut board_ioapic = self.board_ioapic;
+        let mut board_apic = self.board_apic;
+        let performed = perform(
+            &mut ioapic,
+            &mut pic,
+            &mut apic,
+            &mut board_ioapic,
+            &mut board_apic,
+            self.vm,
+            call,
+        );
         let vm = performed.vm;
         let reply = performed.reply;
         MachinePerformed {
@@ -457,6 +548,8 @@ impl Machine {
                 ioapic,
                 pic,
                 apic,
+                board_ioapic,
+                board_apic,
                 vm,
             },
             reply,
@@ -469,10 +562,14 @@ impl Machine {
         let mut ioapic = self.ioapic;
         let mut pic = self.pic;
         let mut apic = self.apic;
+        let mut board_ioapic = self.board_ioapic;
+        let mut board_apic = self.board_apic;
         let ended = run(
             &mut ioapic,
             &mut pic,
             &mut apic,
+            &mut board_ioapic,
+            &mut board_apic,
             self.vm,
             script,
             from,
@@ -486,6 +583,8 @@ impl Machine {
                 ioapic,
                 pic,
                 apic,
+                board_ioapic,
+                board_apic,
                 vm,
             },
             done: ended.done,

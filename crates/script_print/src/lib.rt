@@ -35,11 +35,28 @@ fn put_lines(script: &[u8], out: &mut [u8]) -> usize
     let mut ioapic = [0u64; 32];
     let mut pic = [0u64; 4];
     let mut apic = [0u64; 48];
-    let mut vm = script_machine::new(&mut ioapic, &mut pic, &mut apic);
+    let mut board_ioapic = [0u64; 32];
+    let mut board_apic = [0u64; 48];
+    let mut vm = script_machine::new(
+        &mut ioapic,
+        &mut pic,
+        &mut apic,
+        &mut board_ioapic,
+        &mut board_apic,
+    );
     let mut next = Cursor { at: 0 };
     let mut end: usize = 0;
     loop {
-        let stepped = script_machine::step(&mut ioapic, &mut pic, &mut apic, vm, script, next);
+        let stepped = script_machine::step(
+            &mut ioapic,
+            &mut pic,
+            &mut apic,
+            &mut board_ioapic,
+            &mut board_apic,
+            vm,
+            script,
+            next,
+        );
         let after = stepped.vm;
         let behind = stepped.next;
         let said = stepped.said;

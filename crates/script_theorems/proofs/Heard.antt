@@ -16,7 +16,7 @@ use Rattle.vioapic.specs.IoApic.{versionNumber}
 use Rattle.vioapic_theorems.specs.Rules.{ChipRules}
 use Rattle.vioapic.specs.Calls.{outcome, run}
 use Rattle.script_format.specs.declared.Call.{Call}
-use Rattle.script_format.specs.declared.Call.the-variants.{Io, IoVersion, Pic, PicRule, Apic}
+use Rattle.script_format.specs.declared.Call.the-variants.{Io, IoVersion, Pic, PicRule, Apic, Board}
 use Rattle.script_format.specs.declared.IoCall.the-variants.{SetGsiLevel}
 use mathlib.Core.Bool.{true, not, _&&_}
 use Rattle.script_machine.specs.declared.Used.{Used}
@@ -37,6 +37,7 @@ no-choice used chip (IoVersion v ∷ cs) u h = let p : not true && inTime (usedA
 no-choice used chip (Pic c ∷ cs) u h = no-choice (usedAfter used (Pic c)) chip cs u (later used (Pic c) cs h)
 no-choice used chip (PicRule rule ∷ cs) u h = no-choice (usedAfter used (PicRule rule)) chip cs u (later used (PicRule rule) cs h)
 no-choice used chip (Apic c ∷ cs) u h = no-choice (usedAfter used (Apic c)) chip cs u (later used (Apic c) cs h)
+no-choice used chip (Board c ∷ cs) u h = no-choice (usedAfter used (Board c)) chip cs u (later used (Board c) cs h)
 
 pub io-apic-runs : IoApicRuns
 unfolding afterCalls ioCalls startOf inTime run performed
@@ -47,6 +48,7 @@ io-apic-runs used m (IoVersion v ∷ cs) h =
 io-apic-runs used m (Pic c ∷ cs) h = io-apic-runs (usedAfter used (Pic c)) (performed m (Pic c) .state) cs (later used (Pic c) cs h)
 io-apic-runs used m (PicRule rule ∷ cs) h = io-apic-runs (usedAfter used (PicRule rule)) (performed m (PicRule rule) .state) cs (later used (PicRule rule) cs h)
 io-apic-runs used m (Apic c ∷ cs) h = io-apic-runs (usedAfter used (Apic c)) (performed m (Apic c) .state) cs (later used (Apic c) cs h)
+io-apic-runs used m (Board c ∷ cs) h = io-apic-runs (usedAfter used (Board c)) (performed m (Board c) .state) cs (later used (Board c) cs h)
 
 pub io-apic-answers : IoApicAnswers
 unfolding ioReplies ioCalls startOf inTime answers performed
@@ -60,6 +62,7 @@ io-apic-answers used m (IoVersion v ∷ cs) h =
 io-apic-answers used m (Pic c ∷ cs) h = io-apic-answers (usedAfter used (Pic c)) (performed m (Pic c) .state) cs (later used (Pic c) cs h)
 io-apic-answers used m (PicRule rule ∷ cs) h = io-apic-answers (usedAfter used (PicRule rule)) (performed m (PicRule rule) .state) cs (later used (PicRule rule) cs h)
 io-apic-answers used m (Apic c ∷ cs) h = io-apic-answers (usedAfter used (Apic c)) (performed m (Apic c) .state) cs (later used (Apic c) cs h)
+io-apic-answers used m (Board c ∷ cs) h = io-apic-answers (usedAfter used (Board c)) (performed m (Board c) .state) cs (later used (Board c) cs h)
 
 pub io-apic-sends : IoApicSends
 unfolding scriptSends ioCalls startOf inTime sends performed
@@ -73,6 +76,7 @@ io-apic-sends used g m (IoVersion v ∷ cs) h =
 io-apic-sends used g m (Pic c ∷ cs) h = zero-add _ ∙ io-apic-sends (usedAfter used (Pic c)) g (performed m (Pic c) .state) cs (later used (Pic c) cs h)
 io-apic-sends used g m (PicRule rule ∷ cs) h = zero-add _ ∙ io-apic-sends (usedAfter used (PicRule rule)) g (performed m (PicRule rule) .state) cs (later used (PicRule rule) cs h)
 io-apic-sends used g m (Apic c ∷ cs) h = zero-add _ ∙ io-apic-sends (usedAfter used (Apic c)) g (performed m (Apic c) .state) cs (later used (Apic c) cs h)
+io-apic-sends used g m (Board c ∷ cs) h = zero-add _ ∙ io-apic-sends (usedAfter used (Board c)) g (performed m (Board c) .state) cs (later used (Board c) cs h)
 
 -- ---- the rules
 
@@ -90,6 +94,7 @@ one-keeps m (IoVersion v) k = record { rules = new-keeps-rules (versionNumber v)
 one-keeps m (Pic c) k = record { rules = k .rules; place = k .place }
 one-keeps m (PicRule rule) k = record { rules = k .rules; place = k .place }
 one-keeps m (Apic c) k = record { rules = k .rules; place = k .place }
+one-keeps m (Board c) k = record { rules = k .rules; place = k .place }
 
 all-keep : (m : Machine) (cs : List Call) → MachineRules m → MachineRules (afterCalls m cs)
 unfolding afterCalls

@@ -10,7 +10,7 @@ use Rattle.vpic.specs.declared.PicRule.the-variants.{Latch}
 use Rattle.vpic.specs.Pair.{newState, Keeps}
 use Rattle.vpic_theorems.proofs.Rule.{new-keeps, calls-keep, calls-keep-number, slave-heard}
 use Rattle.script_format.specs.declared.Call.{Call}
-use Rattle.script_format.specs.declared.Call.the-variants.{Io, IoVersion, Pic, PicRule, Apic}
+use Rattle.script_format.specs.declared.Call.the-variants.{Io, IoVersion, Pic, PicRule, Apic, Board}
 use Rattle.script_format.specs.declared.PicCall.{PicCall}
 use Rattle.script_machine.specs.declared.Used.{Used}
 use Rattle.script_machine.specs.Late.{usedAfter}
@@ -34,6 +34,7 @@ no-rule used rule (IoVersion v ∷ cs) u h = no-rule (usedAfter used (IoVersion 
 no-rule used rule (Pic c ∷ cs) u h = refl
 no-rule used rule (PicRule n ∷ cs) u h = let p : not true && inTime (usedAfter used (PicRule n)) cs ≡ true = rw u at h in let z : _≡_ {A = ℕ} 0 1 = cc in absurd (omega arith)
 no-rule used rule (Apic c ∷ cs) u h = no-rule (usedAfter used (Apic c)) rule cs u (later used (Apic c) cs h)
+no-rule used rule (Board c ∷ cs) u h = no-rule (usedAfter used (Board c)) rule cs u (later used (Board c) cs h)
 
 pub pair-rule : PairRule
 unfolding afterCalls ruleChosen performed newState
@@ -49,6 +50,8 @@ pair-rule used m (PicRule n ∷ cs) h =
     ∙ no-rule (usedAfter used (PicRule n)) (performed m (PicRule n) .state .pic .rule) cs refl (later used (PicRule n) cs h)
 pair-rule used m (Apic c ∷ cs) h =
     pair-rule (usedAfter used (Apic c)) (performed m (Apic c) .state) cs (later used (Apic c) cs h)
+pair-rule used m (Board c ∷ cs) h =
+    pair-rule (usedAfter used (Board c)) (performed m (Board c) .state) cs (later used (Board c) cs h)
 
 -- ---- the rule kept
 
@@ -59,6 +62,7 @@ one-keeps m (IoVersion v) k = k
 one-keeps m (Pic c) k = rw (as-call (m .pic) c) (calls-keep (m .pic) (picCall c) k)
 one-keeps m (PicRule rule) k = new-keeps rule
 one-keeps m (Apic c) k = k
+one-keeps m (Board c) k = k
 
 all-keep : (m : Machine) (cs : List Call) → Keeps (m .pic) → Keeps (afterCalls m cs .pic)
 unfolding afterCalls

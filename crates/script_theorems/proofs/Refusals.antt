@@ -1,4 +1,4 @@
--- A refused call hands back the machine, but for a command's words: by the theorems of the three chips. Assumes nothing.
+-- A refused call hands back the machine, but for a command's words: by the theorems of the three chips and of the board. Assumes nothing.
 use Prim.Native.Nat.{ℕ}
 use mathlib.Core.Bool.{Bool, true, false, cond}
 use mathlib.Core.Path.{_≡_, refl, sym, ap, _∙_, subst}
@@ -18,13 +18,14 @@ use Rattle.vlapic.specs.Answers.{done}
 use Rattle.vlapic.specs.Calls as vlapic
 use Rattle.vlapic_theorems.specs.Numbers.{isSetup5}
 use Rattle.vlapic_theorems.proofs.Numbers.{setups-numbered, setups-leave, refused-writes}
+use Rattle.board_theorems.proofs.Rules as board
 use Rattle.script_format.specs.declared.PicCall.{PicCall}
 use Rattle.script_format.specs.declared.ApicCall.{ApicCall}
 use Rattle.script_format.specs.declared.ApicCall.the-variants as local
 use Rattle.script_format.specs.declared.Call.{Call}
-use Rattle.script_format.specs.declared.Call.the-variants.{Io, IoVersion, Pic, PicRule, Apic}
+use Rattle.script_format.specs.declared.Call.the-variants.{Io, IoVersion, Pic, PicRule, Apic, Board}
 use Rattle.script_machine.specs.Late.{usedAfter}
-use Rattle.script_machine.specs.Machine.{Machine, Local, withApic, withIoapic, withPic, withLocal, withUsed, inVm, ioCall, picOutcome, localOutcome, setUpBy, performed}
+use Rattle.script_machine.specs.Machine.{Machine, Local, withApic, withIoapic, withPic, withLocal, withBoard, withUsed, inVm, ioCall, boardCall, picOutcome, localOutcome, setUpBy, performed}
 use Rattle.script_theorems.proofs.Calls.{picCall, as-call}
 use Rattle.script_theorems.specs.Refusals.{storing, RefusedUnchanged}
 
@@ -88,3 +89,4 @@ machine-unchanged m (IoVersion version) n = absurd (n refl)
 machine-unchanged m (Pic c) n = ap (put-pic m (Pic c)) (pair-kept (m .pic) c n)
 machine-unchanged m (PicRule rule) n = absurd (n refl)
 machine-unchanged m (Apic c) n = ap (withLocal m) (local-kept (m .local) c n)
+machine-unchanged m (Board c) n = ap (withBoard m) (board.refused-keeps (m .board) (boardCall c) n)

@@ -15,7 +15,7 @@ use Rattle.types.specs.declared.Reply.{Reply}
 use Rattle.script_format.specs.declared.Call.{Call}
 use Rattle.script_format.specs.declared.Call.the-variants as call
 use Rattle.script_format.specs.declared.Chip.{Chip}
-use Rattle.script_format.specs.declared.Chip.the-variants.{IoApic, Pic, LocalApic}
+use Rattle.script_format.specs.declared.Chip.the-variants.{IoApic, Pic, LocalApic, Board}
 use Rattle.script_format.specs.Chips.{chipOf, same}
 use Rattle.script_format.specs.declared.Body.{Body}
 use Rattle.script_format.specs.declared.Body.the-variants.{Says, Malformed}
@@ -91,11 +91,13 @@ used-io : (used : Used) (chip : Chip) → wasUsed (nowUsed used chip) IoApic ≡
 used-io used IoApic = refl
 used-io used Pic = refl
 used-io used LocalApic = refl
+used-io used Board = refl
 
 used-pic : (used : Used) (chip : Chip) → wasUsed (nowUsed used chip) Pic ≡ same chip Pic || wasUsed used Pic
 used-pic used IoApic = refl
 used-pic used Pic = refl
 used-pic used LocalApic = refl
+used-pic used Board = refl
 
 late-after : (used : Used) (c d : Call) → isLate (usedAfter used c) d ≡ bars c d || isLate used d
 late-after used c (call.Io d) = refl
@@ -103,6 +105,7 @@ late-after used c (call.IoVersion version) = used-io used (chipOf c)
 late-after used c (call.Pic d) = refl
 late-after used c (call.PicRule rule) = used-pic used (chipOf c)
 late-after used c (call.Apic d) = refl
+late-after used c (call.Board d) = refl
 
 pub remembered : Remembered
 unfolding afterCalls barred
@@ -121,6 +124,7 @@ never-late (call.IoVersion version) = refl
 never-late (call.Pic d) = refl
 never-late (call.PicRule rule) = refl
 never-late (call.Apic d) = refl
+never-late (call.Board d) = refl
 
 pub late-is-bad : LateIsBad
 unfolding fieldFor

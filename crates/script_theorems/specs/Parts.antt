@@ -4,7 +4,7 @@ use Rattle.vioapic.specs.declared.IoApicVersion.{IoApicVersion}
 use Rattle.vpic.specs.declared.PicRule.{PicRule as Rule}
 use Rattle.script_format.specs.declared.PicCall.{PicCall}
 use Rattle.script_format.specs.declared.Call.{Call}
-use Rattle.script_format.specs.declared.Call.the-variants.{Io, IoVersion, Pic, PicRule, Apic}
+use Rattle.script_format.specs.declared.Call.the-variants.{Io, IoVersion, Pic, PicRule, Apic, Board}
 use Rattle.script_machine.specs.Machine.{ioCall}
 
 pub data Part (A B : Type 0) : Type 0 where
@@ -23,6 +23,7 @@ ioPart (IoVersion version) = made version
 ioPart (Pic c) = elsewhere
 ioPart (PicRule rule) = elsewhere
 ioPart (Apic c) = elsewhere
+ioPart (Board c) = elsewhere
 
 abbrev pub picPart : Call → Part PicCall Rule
 picPart (Io c) = elsewhere
@@ -30,3 +31,4 @@ picPart (IoVersion version) = elsewhere
 picPart (Pic c) = asked c
 picPart (PicRule rule) = made rule
 picPart (Apic c) = elsewhere
+picPart (Board c) = elsewhere

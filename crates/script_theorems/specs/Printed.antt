@@ -14,6 +14,11 @@ use Rattle.vioapic.specs.Calls as ioapic
 use Rattle.vpic_priority.specs.Ring as ring
 use Rattle.vpic_chip.specs.Chip as chip
 use Rattle.vpic.specs.Pair as pair
+use Rattle.vlapic_regs.specs.Register as register
+use Rattle.vlapic_regs.specs.Vectors as vectors
+use Rattle.vlapic_requests.specs.Requests as requests
+use Rattle.board.specs.Board as whole
+use Rattle.board.specs.Calls as board
 use Rattle.reply_text.specs.Text.{decimalIn, replyText, line, badLine}
 use Rattle.script_format.specs.Format.{numberAt, decoded}
 use Rattle.script_format.specs.Fields.{fieldAt}
@@ -119,6 +124,54 @@ springText =
 pub spring-prints : printed spring ≡ springText
 unfolding ring.firstRank ring.firstBy ring.above set.with set.without set.outside set.lowest set.highest set.lastSet32 redirection.sendEntry redirection.raiseEntry redirection.lowerEntry redirection.endEntry redirection.writeLow redirection.writeHigh table.interruptForEntry table.setLevel table.firstAwaiting table.endOfEntry table.endOf table.vectorFor window.readFixed window.readWord window.readSelected window.writeWord window.writeSelected window.readAt window.writeAt vioapic.assertGsi vioapic.setGsiLevel vioapic.endOfInterrupt vioapic.vectorForGsi vioapic.addressRange vioapic.handleRead vioapic.handleWrite ioapic.outcome ioapic.run newMachine machine.picOutcome machine.localOutcome performed numberAt decoded fieldAt fieldFor stepOf stepsText linesFrom printed line replyText decimalIn
 spring-prints = refl
+
+-- one interrupt from its line to its EOI on the board (examples/board.txt): a line whose vector is of TPR's class waits until TPR is lowered; the acceptance of an edge-triggered message of a
+-- higher class comes before its EOI, which is told to nobody; the line's EOI ends the entry in flight, and sends it again while it is up; a message below vector 16 is dropped
+abbrev pub boardScript : List ℕ
+boardScript =
+    0x34 ∷ 0x11 ∷ 0x00 ∷ 0x04 ∷ 0x00 ∷ 0x00 ∷ 0xc0 ∷ 0xfe ∷ 0x00 ∷ 0x00 ∷ 0x00 ∷ 0x00 ∷ 0x16 ∷ 0x00 ∷ 0x00 ∷ 0x00 ∷ 0x00 ∷ 0x00 ∷ 0x00 ∷ 0x00
+    ∷ 0x34 ∷ 0x11 ∷ 0x00 ∷ 0x04 ∷ 0x10 ∷ 0x00 ∷ 0xc0 ∷ 0xfe ∷ 0x00 ∷ 0x00 ∷ 0x00 ∷ 0x00 ∷ 0x41 ∷ 0x80 ∷ 0x00 ∷ 0x00 ∷ 0x00 ∷ 0x00 ∷ 0x00 ∷ 0x00
+    ∷ 0x33 ∷ 0x01 ∷ 0x00 ∷ 0x4f
+    ∷ 0x30 ∷ 0x02 ∷ 0x00 ∷ 0x03 ∷ 0x01
+    ∷ 0x31 ∷ 0x00 ∷ 0x00
+    ∷ 0x33 ∷ 0x01 ∷ 0x00 ∷ 0x30
+    ∷ 0x31 ∷ 0x00 ∷ 0x00
+    ∷ 0x35 ∷ 0x02 ∷ 0x00 ∷ 0x51 ∷ 0x00
+    ∷ 0x35 ∷ 0x02 ∷ 0x00 ∷ 0x0f ∷ 0x00
+    ∷ 0x31 ∷ 0x00 ∷ 0x00
+    ∷ 0x32 ∷ 0x00 ∷ 0x00
+    ∷ 0x32 ∷ 0x00 ∷ 0x00
+    ∷ 0x31 ∷ 0x00 ∷ 0x00
+    ∷ 0x30 ∷ 0x02 ∷ 0x00 ∷ 0x03 ∷ 0x00
+    ∷ 0x32 ∷ 0x00 ∷ 0x00
+    ∷ 0x32 ∷ 0x00 ∷ 0x00
+    ∷ 0x31 ∷ 0x00 ∷ 0x00
+    ∷ []
+
+abbrev pub boardText : List ℕ
+boardText =
+    51 ∷ 52 ∷ 32 ∷ 48 ∷ 32 ∷ 45 ∷ 10  -- 34 0 -
+    ∷ 51 ∷ 52 ∷ 32 ∷ 48 ∷ 32 ∷ 45 ∷ 10  -- 34 0 -
+    ∷ 51 ∷ 51 ∷ 32 ∷ 48 ∷ 32 ∷ 45 ∷ 10  -- 33 0 -
+    ∷ 51 ∷ 48 ∷ 32 ∷ 48 ∷ 32 ∷ 54 ∷ 53 ∷ 44 ∷ 49 ∷ 10  -- 30 0 65,1
+    ∷ 51 ∷ 49 ∷ 32 ∷ 48 ∷ 32 ∷ 45 ∷ 10  -- 31 0 -
+    ∷ 51 ∷ 51 ∷ 32 ∷ 48 ∷ 32 ∷ 45 ∷ 10  -- 33 0 -
+    ∷ 51 ∷ 49 ∷ 32 ∷ 48 ∷ 32 ∷ 54 ∷ 53 ∷ 10  -- 31 0 65
+    ∷ 51 ∷ 53 ∷ 32 ∷ 48 ∷ 32 ∷ 45 ∷ 10  -- 35 0 -
+    ∷ 51 ∷ 53 ∷ 32 ∷ 48 ∷ 32 ∷ 45 ∷ 10  -- 35 0 -
+    ∷ 51 ∷ 49 ∷ 32 ∷ 48 ∷ 32 ∷ 56 ∷ 49 ∷ 10  -- 31 0 81
+    ∷ 51 ∷ 50 ∷ 32 ∷ 48 ∷ 32 ∷ 45 ∷ 10  -- 32 0 -
+    ∷ 51 ∷ 50 ∷ 32 ∷ 48 ∷ 32 ∷ 56 ∷ 44 ∷ 56 ∷ 10  -- 32 0 8,8
+    ∷ 51 ∷ 49 ∷ 32 ∷ 48 ∷ 32 ∷ 54 ∷ 53 ∷ 10  -- 31 0 65
+    ∷ 51 ∷ 48 ∷ 32 ∷ 48 ∷ 32 ∷ 45 ∷ 10  -- 30 0 -
+    ∷ 51 ∷ 50 ∷ 32 ∷ 48 ∷ 32 ∷ 56 ∷ 44 ∷ 48 ∷ 10  -- 32 0 8,0
+    ∷ 51 ∷ 50 ∷ 32 ∷ 48 ∷ 32 ∷ 45 ∷ 10  -- 32 0 -
+    ∷ 51 ∷ 49 ∷ 32 ∷ 48 ∷ 32 ∷ 45 ∷ 10  -- 31 0 -
+    ∷ []
+
+pub board-prints : printed boardScript ≡ boardText
+unfolding set.with set.without set.outside set.lowest set.highest set.lastSet32 redirection.sendEntry redirection.raiseEntry redirection.lowerEntry redirection.endEntry20 redirection.writeLow redirection.storeLow20 redirection.writeLow20 redirection.writeHigh table.setLevel table.endOfEvery table.endOf window.writeWord window.writeSelected window.writeAt whole.newBoard whole.setGsiLevel whole.acceptInterrupt whole.handleEoi whole.writeTpr whole.handleWrite whole.receive board.outcome requests.ranked requests.request requests.receive requests.accept requests.endHighest requests.writeTpr register.priority vectors.highestFrom newMachine performed numberAt decoded fieldAt fieldFor stepOf stepsText linesFrom printed line replyText decimalIn
+board-prints = refl
 
 -- an empty script prints nothing, and one byte is a bad field
 pub nothing-prints : printed [] ≡ []

@@ -7,7 +7,7 @@ use Rattle.types.specs.Reply.{replyNumber}
 use Rattle.vlapic_theorems.specs.Sending.{isStoring}
 use Rattle.vlapic_theorems.specs.Numbers.{commanded}
 use Rattle.script_format.specs.declared.Call.{Call}
-use Rattle.script_format.specs.declared.Call.the-variants.{Io, IoVersion, Pic, PicRule, Apic}
+use Rattle.script_format.specs.declared.Call.the-variants.{Io, IoVersion, Pic, PicRule, Apic, Board}
 use Rattle.script_format.specs.declared.ApicCall.{ApicCall}
 use Rattle.script_format.specs.declared.ApicCall.the-variants as local
 use Rattle.script_machine.specs.Late.{usedAfter}
@@ -22,13 +22,15 @@ storing l local.HandleEoi = l
 storing l (local.HandleRead offset) = l
 storing l (local.Setup x2apic id num active) = l
 
--- the machine after a refused call: its local APIC with a command's words, all else as it was; and it remembers the call (one of the local APIC leaves nothing to remember)
+-- the machine after a refused call: its local APIC with a command's words, all else as it was; and it remembers the call (one of the local APIC or of the board leaves nothing
+-- to remember)
 abbrev pub refusedBy : Machine → Call → Machine
 refusedBy m (Io c) = m
 refusedBy m (IoVersion version) = m
 refusedBy m (Pic c) = m
 refusedBy m (PicRule rule) = m
 refusedBy m (Apic c) = withLocal m (storing (m .local) c)
+refusedBy m (Board c) = m
 
 abbrev pub RefusedUnchanged : Type 0
 RefusedUnchanged =

@@ -1,3 +1,4 @@
+pub mod Same
 pub mod Search
 pub mod View
 pub mod Ways

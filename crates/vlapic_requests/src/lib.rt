@@ -11,7 +11,8 @@ ghost use Rattle.vlapic_words.specs.Steps.{markedIn};
 ghost use Rattle.vlapic.specs.declared.EoiAnswer.{EoiAnswer};
 ghost use Rattle.vlapic_requests.specs.declared.Acceptance.{Acceptance};
 ghost use Rattle.vlapic_requests.specs.Requests.{highest, receivedIllegal, request, receive, accept, endHighest, writeTpr};
-ghost use Rattle.vlapic_requests.specs.Promise.{Becomes, Answers, rankedWords};
+ghost use Rattle.vlapic_requests.specs.Promise.{acceptanceReply, Becomes, Answers, rankedWords};
+use types::Reply;
 use types::Vector;
 use utils::seen;
 use vlapic::EoiAnswer;
@@ -44,6 +45,17 @@ const RECEIVE_ILLEGAL_VECTOR: u32 = 6;
 pub enum Acceptance {
     NotAccepted,
     Accepted(Vector),
+}
+
+impl Acceptance {
+    pub fn reply(self) -> Reply
+        ensures { λ r. ⌜ r ≡ acceptanceReply self ⌝ }
+    {
+        match self {
+            Acceptance::NotAccepted => Reply::Nothing,
+            Acceptance::Accepted(vector) => Reply::One(vector.0 as u64),
+        }
+    }
 }
 
 fn word(words: &[u64; 48], k: usize) -> u32

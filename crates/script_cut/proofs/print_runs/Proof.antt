@@ -4,10 +4,10 @@ use Rattle.script_cut.proofs.print_runs.Statement.{statement}
 use Rattle.script_cut.proofs.print_runs.Tie as tie
 
 abbrev Inv-loop : tie.InvT-loop
-Inv-loop script allowance runs ioapic₀ pic₀ apic₀ vm₀ next₀ k₀ ioapic pic apic vm next k = Unit
+Inv-loop script allowance runs ioapic₀ pic₀ apic₀ bio₀ bl₀ vm₀ next₀ k₀ ioapic pic apic bio bl vm next k = Unit
 
 abbrev μ-loop : tie.MeasureT-loop
-μ-loop script allowance runs ioapic₀ pic₀ apic₀ vm₀ next₀ k₀ ioapic pic apic vm next k = runs - k
+μ-loop script allowance runs ioapic₀ pic₀ apic₀ bio₀ bl₀ vm₀ next₀ k₀ ioapic pic apic bio bl vm next k = runs - k
 
 new-requires : tie.Need-new-requires Inv-loop μ-loop
 new-requires c κs = search needs

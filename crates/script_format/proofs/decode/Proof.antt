@@ -1,5 +1,5 @@
 use borrow.Author.Needs.{needs}
-use Rattle.script_format.proofs.Rows.{decoded-io, decoded-pic, decoded-apic}
+use Rattle.script_format.proofs.Rows.{decoded-io, decoded-pic, decoded-apic, decoded-board}
 use Rattle.script_format.proofs.decode.Statement.{statement}
 use Rattle.script_format.proofs.decode.Tie as tie
 
@@ -21,6 +21,21 @@ decode-apic-requires c κs = search needs
 returns-3 : tie.Need-returns-3
 returns-3 c = search decoded-apic
 
+decode-board-requires : tie.Need-decode-board-requires
+decode-board-requires c κs = search needs
+
+returns-4 : tie.Need-returns-4
+returns-4 c = search decoded-board
+
 pub decode-spec : {M : Type 1} → statement M
 decode-spec =
-    tie.close (tie.spec decode-io-requires returns decode-pic-requires returns-2 decode-apic-requires returns-3)
+    tie.close
+    (tie.spec
+    decode-io-requires
+    returns
+    decode-pic-requires
+    returns-2
+    decode-apic-requires
+    returns-3
+    decode-board-requires
+    returns-4)

@@ -12,8 +12,11 @@ new-requires c κs = search needs
 new-requires-2 : tie.Need-new-requires-2
 new-requires-2 c κs = search needs
 
+new-requires-3 : tie.Need-new-requires-3
+new-requires-3 c κs = search needs
+
 returns : tie.Need-returns
-returns c = new-machine _ _ _ _ _ _ _ (c .before .before .before .before .new-default .ensures) (c .before .before .new .ensures) (c .new2 .ensures)
+returns c = new-machine _ _ _ _ _ _ _ _ _ (c .before .before .before .before .before .before .before .new-default .ensures) (c .before .before .before .before .before .new .ensures) (c .before .before .before .new2 .ensures) (c .new3 .ensures)
 
 pub new-spec : {M : Type 1} → statement M
-new-spec = tie.close (tie.spec new-default-requires new-requires new-requires-2 returns)
+new-spec = tie.close (tie.spec new-default-requires new-requires new-requires-2 new-requires-3 returns)

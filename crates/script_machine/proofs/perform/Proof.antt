@@ -1,4 +1,4 @@
-use Rattle.script_machine.proofs.Chips.{perform-io, perform-version, perform-pic, perform-rule, perform-local}
+use Rattle.script_machine.proofs.Chips.{perform-io, perform-version, perform-pic, perform-rule, perform-local, perform-board}
 use Rattle.script_machine.proofs.Outcomes.{replied}
 use Rattle.types.specs.declared.Reply.the-variants as reply
 use borrow.Author.Needs.{needs}
@@ -41,20 +41,29 @@ enum-known-call-5 c = search needs
 call-apic-requires : tie.Need-call-apic-requires
 call-apic-requires c κs = search needs
 
+enum-known-call-6 : tie.Need-enum-known-call-6
+enum-known-call-6 c = search needs
+
+call-board-requires : tie.Need-call-board-requires
+call-board-requires c κs = search needs
+
 returns : tie.Need-returns
-returns c = perform-io _ _ _ _ _ (c .before .before .before .before .before .before .args .call) _ (c .before .before .before .before .before .remember .ensures) _ _ (c .before .before .before .call .given .1) (c .call-ioapic .ensures)
+returns c = perform-io _ _ _ _ _ _ _ (c .before .before .before .before .before .before .args .call) _ (c .before .before .before .before .before .remember .ensures) _ _ (c .before .before .before .call .given .1) (c .call-ioapic .ensures)
 
 returns-2 : tie.Need-returns-2
-returns-2 c = perform-version _ _ _ _ _ (c .before .before .before .before .before .before .before .args .call) _ (c .before .before .before .before .before .before .remember .ensures) _ _ (c .before .before .before .before .call2 .given .1) (replied _ _ _ _ (c .reply .ensures) (c .before .new-version .ensures .outcome))
+returns-2 c = perform-version _ _ _ _ _ _ _ (c .before .before .before .before .before .before .before .args .call) _ (c .before .before .before .before .before .before .remember .ensures) _ _ (c .before .before .before .before .call2 .given .1) (replied _ _ _ _ (c .reply .ensures) (c .before .new-version .ensures .outcome))
 
 returns-3 : tie.Need-returns-3
-returns-3 c = perform-pic _ _ _ _ _ (c .before .before .before .before .before .before .args .call) _ (c .before .before .before .before .before .remember .ensures) _ _ (c .before .before .before .call3 .given .1) (c .call-pic .ensures)
+returns-3 c = perform-pic _ _ _ _ _ _ _ (c .before .before .before .before .before .before .args .call) _ (c .before .before .before .before .before .remember .ensures) _ _ (c .before .before .before .call3 .given .1) (c .call-pic .ensures)
 
 returns-4 : tie.Need-returns-4
-returns-4 c = perform-rule _ _ _ _ _ (c .before .before .before .before .before .before .args .call) reply.Nothing (c .before .before .before .before .before .remember .ensures) _ _ (c .before .before .before .call4 .given .1) (c .new-rule .ensures)
+returns-4 c = perform-rule _ _ _ _ _ _ _ (c .before .before .before .before .before .before .args .call) reply.Nothing (c .before .before .before .before .before .remember .ensures) _ _ (c .before .before .before .call4 .given .1) (c .new-rule .ensures)
 
 returns-5 : tie.Need-returns-5
-returns-5 c = perform-local _ _ _ _ _ (c .before .before .before .before .before .before .args .call) _ (c .before .before .before .before .before .remember .ensures) _ _ _ (c .before .before .before .call5 .given .1) (c .call-apic .ensures .1) (c .call-apic .ensures .0)
+returns-5 c = perform-local _ _ _ _ _ _ _ (c .before .before .before .before .before .before .args .call) _ (c .before .before .before .before .before .remember .ensures) _ _ _ (c .before .before .before .call5 .given .1) (c .call-apic .ensures .1) (c .call-apic .ensures .0)
+
+returns-6 : tie.Need-returns-6
+returns-6 c = perform-board _ _ _ _ _ _ _ (c .before .before .before .before .before .before .before .args .call) _ (c .before .before .before .before .before .before .remember .ensures) _ _ _ (c .before .before .before .before .call6 .given .1) (c .call-board .ensures)
 
 pub perform-spec : {M : Type 1} → statement M
 perform-spec =
@@ -72,8 +81,11 @@ perform-spec =
     new-rule-requires
     enum-known-call-5
     call-apic-requires
+    enum-known-call-6
+    call-board-requires
     returns
     returns-2
     returns-3
     returns-4
-    returns-5)
+    returns-5
+    returns-6)

@@ -22,7 +22,7 @@ enum-told-2 c = search needs
 
 returns : tie.Need-returns
 unfolding machineIn
-returns c = step-did _ _ _ _ _ _ _ _ (sym (c .before .before .before .before .before .before .before .before .next-field .ensures) ∙ c .before .before .before .before .before .before .field .given .1) (c .before .perform .ensures)
+returns c = step-did _ _ _ _ _ _ _ _ (sym (c .before .before .before .before .before .before .before .before .before .before .next-field .ensures) ∙ c .before .before .before .before .before .before .before .before .field .given .1) (c .before .perform .ensures)
 
 returns-2 : tie.Need-returns-2
 unfolding machineIn
