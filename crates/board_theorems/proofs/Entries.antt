@@ -48,6 +48,15 @@ put-awaits v m h f g a l k w = go (ℕ-discrete g h)
     go (yes e) = rw e (k (sym (ap (awaits v) (put-same m h f (a .table) l)) ∙ (rw e at w)))
     go (no e) = sym (ap (awaits v) (put-other m h f g e)) ∙ w
 
+-- and it stays in flight where the one that replaces it is
+pub put-stays : (v : Vector) (m : IoApicState) (h : ℕ) (f : Entry) (g : ℕ) → Agrees m → h < 24
+    → (g ≡ h → awaits v f ≡ true) → awaits v (entryAt m g) ≡ true → awaits v (entryAt (put m h f) g) ≡ true
+put-stays v m h f g a l k w = go (ℕ-discrete g h)
+  where
+    go : Dec (g ≡ h) → awaits v (entryAt (put m h f) g) ≡ true
+    go (yes e) = rw e (ap (awaits v) (put-same m h f (a .table) l) ∙ k e)
+    go (no e) = ap (awaits v) (put-other m h f g e) ∙ w
+
 -- ---- a line
 
 pub line-awaits : (v : Vector) (m : IoApicState) (gsi : Gsi) (up : Bool) (x : Routing) (g : ℕ) → Agrees m → Routes m gsi (λ e. moveLine e up) x
@@ -61,15 +70,14 @@ line-awaits v m gsi up x g a (Routes.miss l) n w = w
 -- an entry in flight stays so, whatever its line does
 pub line-stays : (v : Vector) (m : IoApicState) (gsi : Gsi) (up : Bool) (x : Routing) (g : ℕ) → Agrees m → Routes m gsi (λ e. moveLine e up) x
     → awaits v (entryAt m g) ≡ true → awaits v (entryAt (x .state) g) ≡ true
-line-stays v m gsi up x g a (Routes.hit l) w = go (ℕ-discrete g (gsi .0))
+line-stays v m gsi up x g a (Routes.hit l) w = put-stays v m (gsi .0) (moveLine (entryAt m (gsi .0)) up .entry) g a l own w
   where
-    go : Dec (g ≡ gsi .0) → awaits v (entryAt (put m (gsi .0) (moveLine (entryAt m (gsi .0)) up .entry)) g) ≡ true
-    go (yes e) =
+    own : g ≡ gsi .0 → awaits v (moveLine (entryAt m (gsi .0)) up .entry) ≡ true
+    own e =
         let w′ : awaits v (entryAt m (gsi .0)) ≡ true = rw e at w in
         let t = awaiting v (entryAt m (gsi .0)) w′ in
         let f = move-flying (entryAt m (gsi .0)) up (moveLine (entryAt m (gsi .0)) up) (moved-view (entryAt m (gsi .0)) up) (t .level) (t .flight) in
-        rw e (ap (awaits v) (put-same m (gsi .0) (moveLine (entryAt m (gsi .0)) up .entry) (a .table) l) ∙ ap (λ (n : ℕ). hasVector n v && isLevel n && remoteIrr n) (f .0) ∙ w′)
-    go (no e) = ap (awaits v) (put-other m (gsi .0) (moveLine (entryAt m (gsi .0)) up .entry) g e) ∙ w
+        ap (λ (n : ℕ). hasVector n v && isLevel n && remoteIrr n) (f .0) ∙ w′
 line-stays v m gsi up x g a (Routes.miss l) w = w
 
 -- ---- an EOI of u
@@ -184,3 +192,9 @@ unfolding writeHigh
 high-awaits v m h x g a l w =
     put-awaits v m h (withWord (entryAt m h) (replaceHigh (entryAt m h .word) x)) g a l
     (λ q. sym (awaits-alike v (withWord (entryAt m h) (replaceHigh (entryAt m h .word) x)) (entryAt m h) (alike-high (entryAt m h .word) x) (irr-high (entryAt m h .word) x)) ∙ q) w
+
+pub high-stays : (v : Vector) (m : IoApicState) (h x g : ℕ) → Agrees m → h < 24 → awaits v (entryAt m g) ≡ true → awaits v (entryAt (put m h (writeHigh (entryAt m h) x)) g) ≡ true
+unfolding writeHigh
+high-stays v m h x g a l w =
+    put-stays v m h (withWord (entryAt m h) (replaceHigh (entryAt m h .word) x)) g a l
+    (λ e. awaits-alike v (withWord (entryAt m h) (replaceHigh (entryAt m h .word) x)) (entryAt m h) (alike-high (entryAt m h .word) x) (irr-high (entryAt m h .word) x) ∙ (rw e at w)) w

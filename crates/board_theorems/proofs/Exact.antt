@@ -1,7 +1,7 @@
 -- What is lost is exact, and a held line is never forgotten. Assumes nothing.
 use Prim.Native.Nat.{ℕ, zero, suc, _%_, _^_, _<_}
 use native.Mathlib.Omega.{arith}
-use mathlib.Core.Bool.{Bool, true, false, not, cond, _&&_, _||_}
+use mathlib.Core.Bool.{Bool, true, false, not, cond, _&&_}
 use mathlib.Core.List.{List, [], _∷_}
 use mathlib.Core.Path.{_≡_, refl, sym, ap, _∙_}
 use borrow.Author.Tests.{eqb-true, eqb-false, ltb-true, eq-eqb}
@@ -17,7 +17,7 @@ use Rattle.vioapic_entry.specs.declared.Routed.{Routed}
 use Rattle.vioapic_entry.specs.declared.Routed.the-variants.{NotRouted, Interrupt}
 use Rattle.vioapic.specs.State.{IoApicState}
 use Rattle.vioapic.specs.Table.{Ending, newEntry, noEntry, isVersion20, entryAt, setLevel, ends, sentBy, endOfEvery, endOf}
-use Rattle.vioapic.specs.Registers.{Writing, writtenSend, writtenBy, entryOf}
+use Rattle.vioapic.specs.Registers.{Writing, writtenSend, writtenBy, entryOf, eoiWritten}
 use Rattle.vioapic.specs.IoApic.{handleWriting}
 use Rattle.vioapic.specs.declared.Eoi.{Eoi}
 use Rattle.vioapic.specs.declared.Eoi.the-variants as eoi
@@ -39,15 +39,15 @@ use Rattle.vlapic_requests.specs.Requests as apic
 use Rattle.board.specs.Board.{Board, newBoard, requested, resent, requestedByEoi, requestedByWrite, toldTo, setGsiLevel, acceptInterrupt, handleEoi, writeTpr, handleWrite, receive}
 use Rattle.board.specs.Calls.{Call, SetGsiLevel, AcceptInterrupt, HandleEoi, WriteTpr, HandleWrite, Receive, outcome, next, run}
 use Rattle.board_theorems.specs.Rules.{LocalRules, BoardRules, Tells}
-use Rattle.board_theorems.specs.Traced.{trace, Traced, Asked, Nobody, Asks, askedBy, askedAgain, askedByEoi, askedByWrite, askedByTold, asked, isLevelOf, isEdgeOf, isLowWord, renames, puts, lostAfter, lostOver, Exact, NewTraced, CallsKeepTraced, spares, sparesOver, RunsTraced, CallsExact, RunsExact, Heals, LostStays, NeverForgotten}
+use Rattle.board_theorems.specs.Traced.{trace, Traced, Asked, Nobody, Asks, askedBy, askedAgain, askedByEoi, askedByWrite, askedByTold, asked, isLevelOf, isEdgeOf, isLowWord, renames, puts, lostAfter, lostOver, Exact, NewTraced, CallsKeepTraced, spares, sparesOver, RunsTraced, CallsExact, RunsExact, NeverForgotten}
 use Rattle.board_theorems.proofs.Sent.{Serves, serves-view}
 use Rattle.board_theorems.proofs.Rules.{highest-in, highest-legal, ended-keeps, chip-keeps, calls-keep-rules, new-keeps-rules, calls-keep-svr}
 use Rattle.board_theorems.proofs.Trace.{applied, taken-trace, ended-other, ended-edge, asked-trace}
-use Rattle.board_theorems.proofs.Entries.{line-awaits, line-stays, endOf-new, every-awaits, every-stays, low-awaits, high-awaits}
+use Rattle.board_theorems.proofs.Entries.{line-awaits, every-awaits, low-awaits, high-awaits}
 
 -- ---- what a call requests, as `asked` says
 
-requested-is : (s : VirtualApicRegs) (r : Routed) → requested s r ≡ applied s (askedBy r)
+pub requested-is : (s : VirtualApicRegs) (r : Routed) → requested s r ≡ applied s (askedBy r)
 requested-is s NotRouted = refl
 requested-is s (Interrupt i) = refl
 
@@ -63,22 +63,38 @@ eoi-is s v eoi.NotEnded = refl
 eoi-is s v (eoi.Ended e) = requested-is s (e .pending)
 eoi-is s v (eoi.EndedAll e) = resent-is s v (e .sent)
 
-write-is : (s : VirtualApicRegs) (x : ℕ) (a : Written) → requestedByWrite s x a ≡ applied s (askedByWrite x a)
+pub write-is : (s : VirtualApicRegs) (x : ℕ) (a : Written) → requestedByWrite s x a ≡ applied s (askedByWrite x a)
 write-is s x written.Done = refl
 write-is s x (written.Sent i) = refl
 write-is s x (written.EndedAll e) = resent-is s (record { 0 = x % 2 ^ 8 }) (e .sent)
 write-is s x (written.NotWritten why) = refl
 
-told-is : (m : IoApicState) (s : VirtualApicRegs) (a : EoiAnswer) → toldTo m s a .board .apic ≡ applied s (askedByTold m a)
+pub told-is : (m : IoApicState) (s : VirtualApicRegs) (a : EoiAnswer) → toldTo m s a .board .apic ≡ applied s (askedByTold m a)
 told-is m s local.Nothing = refl
 told-is m s (local.Broadcast v) = eoi-is s v (endOf m v .answer)
+
+-- what a write of the EOI register asks for is what that EOI does
+pub eoi-asked : (v : Vector) (m : IoApicState) (y : ℕ) → isLevelOf v (askedByWrite y (eoiWritten (endOfEvery m (record { 0 = y % 2 ^ 32 % 2 ^ 8 })) .answer))
+    ≡ isLevelOf v (askedByEoi (record { 0 = y % 2 ^ 32 % 2 ^ 8 }) (endOfEvery m (record { 0 = y % 2 ^ 32 % 2 ^ 8 }) .answer))
+unfolding endOfEvery
+eoi-asked v m y = same (eqb (setOf 24 (ends (record { 0 = y % 2 ^ 32 % 2 ^ 8 }) m)) 0)
+  where
+    vector : _≡_ {A = Vector} (record { 0 = y % 2 ^ 8 }) (record { 0 = y % 2 ^ 32 % 2 ^ 8 })
+    vector = let e : y % 2 ^ 8 ≡ y % 2 ^ 32 % 2 ^ 8 = omega arith in ap (λ (z : ℕ). record { 0 = z }) e
+
+    answer : Bool → Eoi
+    answer c = cond c eoi.NotEnded (eoi.EndedAll (record { cleared = setOf 24 (ends (record { 0 = y % 2 ^ 32 % 2 ^ 8 }) m); sent = setOf 24 (sentBy (record { 0 = y % 2 ^ 32 % 2 ^ 8 }) m) }))
+
+    same : (c : Bool) → isLevelOf v (askedByWrite y (writtenBy (answer c))) ≡ isLevelOf v (askedByEoi (record { 0 = y % 2 ^ 32 % 2 ^ 8 }) (answer c))
+    same true = refl
+    same false = ap (λ (z : Vector). isLevelOf v (askedAgain z (setOf 24 (sentBy (record { 0 = y % 2 ^ 32 % 2 ^ 8 }) m)))) vector
 
 -- ---- one call
 
 byte : (v : Vector) (e : Entry) → awaits v e ≡ true → v .0 < 256
 byte v e w = omega (arith, eqb-true (e .word % 256) (v .0) (awaiting v e w .vector))
 
-twice : (b : Bool) → not (not b) ≡ b
+pub twice : (b : Bool) → not (not b) ≡ b
 twice true = refl
 twice false = refl
 
@@ -168,29 +184,17 @@ module _ (v : Vector) (b : Board) (lost : Bool) (k : BoardRules b) (x : Exact v 
 
     write-awaits : (w : Writing) → Serves (b .ioapic) addr width y w → isLevelOf v (askedByWrite y (w .answer)) ≡ false → putting ≡ false
         → awaits v (entryAt (w .state) g) ≡ true → awaits v (entryAt (b .ioapic) g) ≡ true
-    unfolding endOfEvery
-    write-awaits w (Serves.refused why) n p q = q
-    write-awaits w (Serves.selected z) n p q = q
-    write-awaits w (Serves.low h r j i f s) n p q =
+    write-awaits w (Serves.refused why o u) n p q = q
+    write-awaits w (Serves.selected z o u) n p q = q
+    write-awaits w (Serves.low h r j i f o s) n p q =
         low-awaits v (b .ioapic) h (y % 2 ^ 32) r g (k .chip) j s (sym (same (r .answer)) ∙ n) (rw i (rw f at p)) q
       where
         same : (a : Routed) → isLevelOf v (askedByWrite y (writtenSend a)) ≡ isLevelOf v (askedBy a)
         same NotRouted = refl
         same (Interrupt a) = refl
-    write-awaits w (Serves.high h j f) n p q = high-awaits v (b .ioapic) h (y % 2 ^ 32) g (k .chip .agrees) j q
-    write-awaits w (Serves.eoi f) n p q =
-        every-awaits (b .ioapic) (k .chip .agrees) (record { 0 = y % 2 ^ 32 % 2 ^ 8 }) v g l
-        (sym (same (eqb (setOf 24 (ends (record { 0 = y % 2 ^ 32 % 2 ^ 8 }) (b .ioapic))) 0)) ∙ n) q .0
-      where
-        vector : _≡_ {A = Vector} (record { 0 = y % 2 ^ 8 }) (record { 0 = y % 2 ^ 32 % 2 ^ 8 })
-        vector = let e : y % 2 ^ 8 ≡ y % 2 ^ 32 % 2 ^ 8 = omega arith in ap (λ (z : ℕ). record { 0 = z }) e
-
-        answer : Bool → Eoi
-        answer c = cond c eoi.NotEnded (eoi.EndedAll (record { cleared = setOf 24 (ends (record { 0 = y % 2 ^ 32 % 2 ^ 8 }) (b .ioapic)); sent = setOf 24 (sentBy (record { 0 = y % 2 ^ 32 % 2 ^ 8 }) (b .ioapic)) }))
-
-        same : (c : Bool) → isLevelOf v (askedByWrite y (writtenBy (answer c))) ≡ isLevelOf v (askedByEoi (record { 0 = y % 2 ^ 32 % 2 ^ 8 }) (answer c))
-        same true = refl
-        same false = ap (λ (z : Vector). isLevelOf v (askedAgain z (setOf 24 (sentBy (record { 0 = y % 2 ^ 32 % 2 ^ 8 }) (b .ioapic))))) vector
+    write-awaits w (Serves.high h j f o) n p q = high-awaits v (b .ioapic) h (y % 2 ^ 32) g (k .chip .agrees) j q
+    write-awaits w (Serves.eoi f o) n p q =
+        every-awaits (b .ioapic) (k .chip .agrees) (record { 0 = y % 2 ^ 32 % 2 ^ 8 }) v g l (sym (eoi-asked v (b .ioapic) y) ∙ n) q .0
 
     write-exact : (w : Writing) → Serves (b .ioapic) addr width y w → awaits v (entryAt (w .state) g) ≡ true
         → trace v (requestedByWrite (b .apic) y (w .answer)) ≡ not (lostBy (askedByWrite y (w .answer)) (cond putting (not (trace v (b .apic))) lost))
@@ -225,9 +229,10 @@ calls-keep-traced v b c k t x e p g l w =
     none true = refl
     none false = refl
 
--- with v lost
-pub heals : Heals
-heals v b c g k t e l w = calls-exact v b c true k t (λ h i j. e) g l w ∙ rw e (found (isLevelOf v (asked b c)) (isEdgeOf v (asked b c)) (puts v b c))
+-- with v lost, and an entry of v in flight after the call: v has a trace then exactly if the call asks for it, level-triggered
+pub asked-for : (v : Vector) (b : Board) (c : Call) (g : ℕ) → BoardRules b → Tells b → trace v (b .apic) ≡ false → g < 24 → awaits v (entryAt (next b c .ioapic) g) ≡ true
+    → trace v (next b c .apic) ≡ isLevelOf v (asked b c)
+asked-for v b c g k t e l w = calls-exact v b c true k t (λ h i j. e) g l w ∙ rw e (found (isLevelOf v (asked b c)) (isEdgeOf v (asked b c)) (puts v b c))
   where
     found : (a d p : Bool) → not (cond a false (cond d true (cond p true true))) ≡ a
     found true d p = refl
@@ -235,54 +240,9 @@ heals v b c g k t e l w = calls-exact v b c true k t (λ h i j. e) g l w ∙ rw 
     found false false true = refl
     found false false false = refl
 
--- what is told has a trace, so that a lost vector's end is told to nobody
-told-traced : (s : VirtualApicRegs) (v : Vector) → (highest (s .isr) ≡ 0 → ⊥) → broadcasts s (highest (s .isr)) ≡ true → highest (s .isr) ≡ v .0 → trace v s ≡ true
-told-traced s v h q e =
-    let p = and-true (inWords (s .tmr) (highest (s .isr))) (not (bit (s .svr) 12)) q in
-    let i : inWords (s .isr) (v .0) ≡ true = rw (← e) (highest-in (s .isr) h) in
-    let j : inWords (s .tmr) (v .0) ≡ true = rw (← e) (p .0) in
-    rw (i, j) (either-true (inWords (s .irr) (v .0)))
-  where
-    either-true : (a : Bool) → ((a || true) && true) ≡ true
-    either-true true = refl
-    either-true false = refl
-
-module _ (v : Vector) (b : Board) (k : BoardRules b) (e : trace v (b .apic) ≡ false) (g : ℕ) (l : g < 24) (w : awaits v (entryAt (b .ioapic) g) ≡ true) where
-  abbrev Stays : VirtualApicRegs → EoiAnswer → Type 0
-  Stays s a = awaits v (entryAt (toldTo (b .ioapic) s a .board .ioapic) g) ≡ true
-
-  eoi-stays : Stays (apic.endHighest (b .apic) .state) (apic.endHighest (b .apic) .answer)
-  unfolding apic.endHighest
-  eoi-stays = go (eqb (highest (b .apic .isr)) 0) refl
-    where
-      other : (u : Vector) → (u .0 ≡ v .0 → ⊥) → awaits v (entryAt (endOf (b .ioapic) u .state) g) ≡ true
-      other u n = ap (λ (o : Ending). awaits v (entryAt (o .state) g)) (is-every u) ∙ every-stays (b .ioapic) (k .chip .agrees) u v g n w
-        where
-          is-every : (z : Vector) → endOf (b .ioapic) z ≡ endOfEvery (b .ioapic) z
-          is-every z = endOf-new (b .ioapic) z (k .version)
-
-      told : (highest (b .apic .isr) ≡ 0 → ⊥) → (c : Bool) → broadcasts (b .apic) (highest (b .apic .isr)) ≡ c
-          → Stays (ended (b .apic) (highest (b .apic .isr))) (cond c (local.Broadcast (record { 0 = highest (b .apic .isr) })) local.Nothing)
-      told h true q = other (record { 0 = highest (b .apic .isr) }) (λ i. never (told-traced (b .apic) v h q i) e)
-      told h false q = w
-
-      go : (c : Bool) → eqb (highest (b .apic .isr)) 0 ≡ c
-          → Stays (cond c (apic.after (b .apic) local.Nothing) (apic.ending (b .apic) (highest (b .apic .isr))) .state) (cond c (apic.after (b .apic) local.Nothing) (apic.ending (b .apic) (highest (b .apic .isr))) .answer)
-      go true q = w
-      go false q = told (eqb-false (highest (b .apic .isr)) 0 q) (broadcasts (b .apic) (highest (b .apic .isr))) refl
-
-pub lost-stays : LostStays
-unfolding outcome setGsiLevel acceptInterrupt handleEoi writeTpr receive
-lost-stays v b (SetGsiLevel gsi up) g k e n l w = line-stays v (b .ioapic) gsi up (setLevel (b .ioapic) gsi up) g (k .chip .agrees) (level-view (b .ioapic) gsi up) w
-lost-stays v b AcceptInterrupt g k e n l w = w
-lost-stays v b HandleEoi g k e n l w = eoi-stays v b k e g l w
-lost-stays v b (WriteTpr y) g k e n l w = w
-lost-stays v b (HandleWrite addr width y) g k e n l w = never refl n
-lost-stays v b (Receive u level) g k e n l w = w
-
 -- ---- over a run
 
-tells-next : (b : Board) (c : Call) → Tells b → Tells (next b c)
+pub tells-next : (b : Board) (c : Call) → Tells b → Tells (next b c)
 tells-next b c t = rw (calls-keep-svr b c) t
 
 runs-exact-from : (v : Vector) (b : Board) (cs : List Call) (lost : Bool) → BoardRules b → Tells b → Exact v b lost → Exact v (run b cs) (lostOver v b cs lost)
@@ -303,7 +263,7 @@ new-exact v g l w = never w (new-rests v 24 g)
 pub new-traced : NewTraced
 new-traced v = new-exact v
 
-new-tells : Tells newBoard
+pub new-tells : Tells newBoard
 unfolding newBoard
 new-tells = refl
 

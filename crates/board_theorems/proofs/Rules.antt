@@ -153,7 +153,7 @@ module _ (s : VirtualApicRegs) (k : LocalRules s) where
   -- what the I/O APIC sends becomes a request
   requested-keeps : (r : Routed) → Legal r → LocalRules (requested s r)
   requested-keeps NotRouted h = k
-  requested-keeps (Interrupt i) h = request-keeps (i .vector) (i .«level_triggered») h
+  requested-keeps (Interrupt i) h = request-keeps (i .vector) (i .«level_triggered») (h .0)
 
   resent-keeps : (v : Vector) (sent : ℕ) → ((sent ≡ 0 → ⊥) → 16 ≤ v .0) → LocalRules (resent s v sent)
   resent-keeps v sent h = go (eqb sent 0) refl
@@ -177,15 +177,15 @@ module _ (s : VirtualApicRegs) (k : LocalRules s) where
 
   write-keeps : (m : IoApicState) (addr width x : ℕ) (w : Writing) → isVersion20 m ≡ true → Serves m addr width x w → LocalRules (requestedByWrite s x (w .answer))
   unfolding endOfEvery
-  write-keeps m addr width x w n (Serves.refused why) = k
-  write-keeps m addr width x w n (Serves.selected y) = k
-  write-keeps m addr width x w n (Serves.low g r l e f v) = sent (r .answer) (stored-legal (entryAt m g) (x % 2 ^ 32) r v)
+  write-keeps m addr width x w n (Serves.refused why p q) = k
+  write-keeps m addr width x w n (Serves.selected y p q) = k
+  write-keeps m addr width x w n (Serves.low g r l e f q v) = sent (r .answer) (stored-legal (entryAt m g) (x % 2 ^ 32) r v)
     where
       sent : (a : Routed) → Legal a → LocalRules (requestedByWrite s x (writtenSend a))
       sent NotRouted h = k
-      sent (Interrupt i) h = request-keeps (i .vector) (i .«level_triggered») h
-  write-keeps m addr width x w n (Serves.high g l f) = k
-  write-keeps m addr width x w n (Serves.eoi f) = every (eqb (setOf 24 (ends u m)) 0)
+      sent (Interrupt i) h = request-keeps (i .vector) (i .«level_triggered») (h .0)
+  write-keeps m addr width x w n (Serves.high g l f q) = k
+  write-keeps m addr width x w n (Serves.eoi f q) = every (eqb (setOf 24 (ends u m)) 0)
     where
       u : Vector
       u = record { 0 = x % 2 ^ 32 % 2 ^ 8 }

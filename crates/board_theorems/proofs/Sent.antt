@@ -3,7 +3,7 @@ use Prim.Native.Nat.{ℕ, zero, suc, _+_, _-_, _%_, _^_, _≤_, _<_}
 use native.Mathlib.Omega.{arith}
 use mathlib.Core.Bool.{Bool, true, false, not, cond, _&&_}
 use mathlib.Core.Path.{_≡_, refl, ap, _∙_}
-use borrow.Author.Tests.{eq-eqb, ne-eqb, eqb-true, leb-true, leb-false}
+use borrow.Author.Tests.{eq-eqb, ne-eqb, eqb-true, eqb-false, leb-true, leb-false}
 use lib.Dec.{eqb, leb}
 use Rattle.utils.specs.Set.{bit, setOf}
 use Rattle.utils.proofs.Bools.{never, and-true, and-false}
@@ -27,16 +27,16 @@ use Rattle.types.specs.declared.Refusal.the-variants.{Unsupported, InvalidAddre
 use Rattle.vioapic_theorems.proofs.Steps.{awaiting}
 use Rattle.vioapic_theorems.proofs.Views.{Sent, Raised, Moved, moved-view, Over, over-view20, Stored, stored-view, Routes}
 use Rattle.board_theorems.specs.Rules.{ResentAre}
-use Rattle.board_theorems.specs.Traced.{isLowWord}
+use Rattle.board_theorems.specs.Traced.{isLowWord, isEoiWord}
 
--- ---- legal
+-- ---- legal: from 16 to 255
 
 abbrev pub Legal : Routed → Type 0
 Legal NotRouted = Unit
-Legal (Interrupt i) = 16 ≤ i .vector .0
+Legal (Interrupt i) = (16 ≤ i .vector .0) × (i .vector .0 < 256)
 
-pub fit-legal : (w : ℕ) → isFit w ≡ true → 16 ≤ w % 256
-fit-legal w h = leb-true 16 (w % 256) (and-true (not (isMasked w) && isFixed w) (isDeliverable w) h .1)
+pub fit-legal : (w : ℕ) → isFit w ≡ true → (16 ≤ w % 256) × (w % 256 < 256)
+fit-legal w h = (leb-true 16 (w % 256) (and-true (not (isMasked w) && isFixed w) (isDeliverable w) h .1), omega arith)
 
 pub sent-legal : (e : Entry) (r : EntryStep) → Sent e r → Legal (r .answer)
 sent-legal e r (Sent.unfit p) = tt
@@ -75,7 +75,7 @@ again-legal : (v : Vector) (e : Entry) (r : EntryStep) → Over e r → awaits v
 again-legal v e r (Over.resent b a c s) w h =
     let f = sent-legal (withDeferred (withWord e (withoutRemoteIrr (e .word))) b) r s in
     let g = again-is v e r (Over.resent b a c s) w h in
-    rw g at f
+    (rw g at f) .0
 again-legal v e r (Over.rested a) w h = never h refl
 
 pub resent-are : ResentAre
@@ -115,11 +115,12 @@ stored-legal e x r (Stored.unowed h) = tt
 
 -- the cases of a write in version 0x20, with what is known of the call in each
 pub data Serves (m : IoApicState) (addr width x : ℕ) : Writing → Type 0 where
-  refused : (why : Refusal) → Serves m addr width x (writing m (NotWritten why))
-  selected : (y : ℕ) → Serves m addr width x (done (withSelector m y))
-  low : (g : ℕ) (r : EntryStep) → g < 24 → g ≡ entryOf (m .selector) → isLowWord m addr width ≡ true → Stored (entryAt m g) (x % 2 ^ 32) r → Serves m addr width x (entryWritten m g r)
-  high : (g : ℕ) → g < 24 → isLowWord m addr width ≡ false → Serves m addr width x (entryWritten m g (quietly (writeHigh (entryAt m g) (x % 2 ^ 32))))
-  eoi : isLowWord m addr width ≡ false → Serves m addr width x (eoiWritten (endOfEvery m (record { 0 = x % 2 ^ 32 % 2 ^ 8 })))
+  refused : (why : Refusal) → isLowWord m addr width ≡ false → isEoiWord m addr width ≡ false → Serves m addr width x (writing m (NotWritten why))
+  selected : (y : ℕ) → isLowWord m addr width ≡ false → isEoiWord m addr width ≡ false → Serves m addr width x (done (withSelector m y))
+  low : (g : ℕ) (r : EntryStep) → g < 24 → g ≡ entryOf (m .selector) → isLowWord m addr width ≡ true → isEoiWord m addr width ≡ false → Stored (entryAt m g) (x % 2 ^ 32) r
+      → Serves m addr width x (entryWritten m g r)
+  high : (g : ℕ) → g < 24 → isLowWord m addr width ≡ false → isEoiWord m addr width ≡ false → Serves m addr width x (entryWritten m g (quietly (writeHigh (entryAt m g) (x % 2 ^ 32))))
+  eoi : isLowWord m addr width ≡ false → isEoiWord m addr width ≡ true → Serves m addr width x (eoiWritten (endOfEvery m (record { 0 = x % 2 ^ 32 % 2 ^ 8 })))
 
 pub serves-view : (m : IoApicState) (addr width x : ℕ) → isVersion20 m ≡ true → Serves m addr width x (handleWriting m addr width x)
 unfolding writeAt writeSelected writeEoi writeWord
@@ -128,29 +129,47 @@ serves-view m addr width x n = go (goodWidth width) (leb (m .base) addr) refl re
     y : ℕ
     y = x % 2 ^ 32
 
-    at : goodWidth width ≡ true → m .base ≤ addr → (a b c d e : Bool) → eqb (addr - m .base) 0x10 ≡ b → eqb (addr - m .base) 0x40 ≡ c → isEntryWord (m .selector) ≡ d → isLow (m .selector) ≡ e
+    no-low : (addr ≡ m .base + 0x10 → ⊥) → isLowWord m addr width ≡ false
+    no-low h = rw (ne-eqb addr (m .base + 0x10) h, and-false (goodWidth width))
+
+    no-eoi : (addr ≡ m .base + 0x40 → ⊥) → isEoiWord m addr width ≡ false
+    no-eoi h = rw (ne-eqb addr (m .base + 0x40) h) (and-false (goodWidth width))
+
+    at : goodWidth width ≡ true → m .base ≤ addr → (a b c d e : Bool) → eqb (addr - m .base) 0 ≡ a → eqb (addr - m .base) 0x10 ≡ b → eqb (addr - m .base) 0x40 ≡ c
+        → isEntryWord (m .selector) ≡ d → isLow (m .selector) ≡ e
         → Serves m addr width x
         (cond a (done (withSelector m y))
         (cond b (cond d (entryWritten m (entryOf (m .selector)) (cond e (cond (isVersion20 m) (writeLow20 (entryAt m (entryOf (m .selector))) y) (quietly (writeLow (entryAt m (entryOf (m .selector))) y))) (quietly (writeHigh (entryAt m (entryOf (m .selector))) y)))) (done m))
         (cond c (cond (isVersion20 m) (eoiWritten (endOfEvery m (record { 0 = y % 2 ^ 8 }))) (done m))
         (done m))))
-    at g l true b c d e p q r t = selected y
-    at g l false true c false e p q r t = selected (m .selector)
-    at g l false true c true true p q r t =
+    at g l true b c d e o p q r t =
+        let z : addr - m .base ≡ 0 = eqb-true (addr - m .base) 0 o in
+        selected y (no-low (λ i. omega arith)) (no-eoi (λ i. omega arith))
+    at g l false true c false e o p q r t =
+        let z : addr - m .base ≡ 0x10 = eqb-true (addr - m .base) 0x10 p in
+        selected (m .selector) (rw (r, and-false (goodWidth width && eqb addr (m .base + 0x10)))) (no-eoi (λ i. omega arith))
+    at g l false true c true true o p q r t =
         let z = entry-word-range (m .selector) r in
-        let h : addr ≡ m .base + 0x10 = omega (arith, eqb-true (addr - m .base) 0x10 p) in
-        rw n (low (entryOf (m .selector)) (writeLow20 (entryAt m (entryOf (m .selector))) y) (omega arith) refl (rw (g, eq-eqb addr (m .base + 0x10) h, r, t)) (stored-view (entryAt m (entryOf (m .selector))) y))
-    at g l false true c true false p q r t =
+        let k : addr - m .base ≡ 0x10 = eqb-true (addr - m .base) 0x10 p in
+        let h : addr ≡ m .base + 0x10 = omega arith in
+        rw n (low (entryOf (m .selector)) (writeLow20 (entryAt m (entryOf (m .selector))) y) (omega arith) refl (rw (g, eq-eqb addr (m .base + 0x10) h, r, t)) (no-eoi (λ i. omega arith)) (stored-view (entryAt m (entryOf (m .selector))) y))
+    at g l false true c true false o p q r t =
         let z = entry-word-range (m .selector) r in
-        high (entryOf (m .selector)) (omega arith) (rw t (and-false (goodWidth width && eqb addr (m .base + 0x10) && isEntryWord (m .selector))))
-    at g l false false false d e p q r t = selected (m .selector)
-    at g l false false true d e p q r t =
-        let h : addr ≡ m .base + 0x10 → ⊥ = λ z. omega (arith, eqb-true (addr - m .base) 0x40 q, z) in
-        rw n (eoi (rw (g, ne-eqb addr (m .base + 0x10) h)))
+        let k : addr - m .base ≡ 0x10 = eqb-true (addr - m .base) 0x10 p in
+        high (entryOf (m .selector)) (omega arith) (rw t (and-false (goodWidth width && eqb addr (m .base + 0x10) && isEntryWord (m .selector)))) (no-eoi (λ i. omega arith))
+    at g l false false false d e o p q r t =
+        let j : addr - m .base ≡ 0x10 → ⊥ = eqb-false (addr - m .base) 0x10 p in
+        let k : addr - m .base ≡ 0x40 → ⊥ = eqb-false (addr - m .base) 0x40 q in
+        selected (m .selector) (no-low (λ i. j (omega arith))) (no-eoi (λ i. k (omega arith)))
+    at g l false false true d e o p q r t =
+        let k : addr - m .base ≡ 0x40 = eqb-true (addr - m .base) 0x40 q in
+        rw n (eoi (no-low (λ i. omega arith)) (rw (g, eq-eqb addr (m .base + 0x40) (omega arith))))
 
     go : (a b : Bool) → goodWidth width ≡ a → leb (m .base) addr ≡ b
         → Serves m addr width x (cond a (cond b (writeAt m (addr - m .base) y) (writing m (NotWritten InvalidAddress))) (writing m (NotWritten Unsupported)))
-    go false b p q = refused Unsupported
-    go true false p q = refused InvalidAddress
+    go false b p q = refused Unsupported (rw p) (rw p)
+    go true false p q =
+        let l : addr < m .base = leb-false (m .base) addr q in
+        refused InvalidAddress (no-low (λ i. omega arith)) (no-eoi (λ i. omega arith))
     go true true p q =
-        at p (leb-true (m .base) addr q) (eqb (addr - m .base) 0) (eqb (addr - m .base) 0x10) (eqb (addr - m .base) 0x40) (isEntryWord (m .selector)) (isLow (m .selector)) refl refl refl refl
+        at p (leb-true (m .base) addr q) (eqb (addr - m .base) 0) (eqb (addr - m .base) 0x10) (eqb (addr - m .base) 0x40) (isEntryWord (m .selector)) (isLow (m .selector)) refl refl refl refl refl

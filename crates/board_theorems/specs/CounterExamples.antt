@@ -51,14 +51,17 @@ broken = ((refl, refl), (refl, refl), (refl, refl), (refl, refl))
 abbrev pub lost : List Call
 lost = raised ++ (message 0x41 false ∷ [])
 
--- the line falls and rises, and nothing is asked for; healed by the EOI register, by a level message, and by an edge word, which ends the flight
+-- the line falls and rises, and nothing is asked for; healed by the EOI register, by a level message, by an edge word, which ends the flight, and by a level word with a
+-- vector that has a trace. One with a vector that has none heals nothing
 pub healed :
     Stands (lost ++ (line 0 false ∷ line 0 true ∷ [])) 0x41 true false
     × Stands (lost ++ (writeEoiOf 0x41 ∷ [])) 0x41 true true
     × Stands (lost ++ (message 0x41 true ∷ [])) 0x41 true true
     × Stands (lost ++ (write 0x41 ∷ [])) 0x41 false false
+    × Stands (lost ++ (message 0x51 true ∷ write 0x8051 ∷ [])) 0x51 true true
+    × Stands (lost ++ (write 0x8051 ∷ [])) 0x51 true false
 unfolding run outcome newBoard with without setGsiLevel handleWrite receive setLevel endOfEvery writeWord writeSelected writeEoi writeAt sendEntry raiseEntry lowerEntry endEntry20 writeLow writeHigh storeLow20 writeLow20 apic.receive apic.request
-healed = ((refl, refl), (refl, refl), (refl, refl), (refl, refl))
+healed = ((refl, refl), (refl, refl), (refl, refl), (refl, refl), (refl, refl), (refl, refl))
 
 -- accepted and ended it isn't: the guest's EOI is told to nobody
 pub ended-lost : Stands (lost ++ (AcceptInterrupt ∷ HandleEoi ∷ [])) 0x41 true false

@@ -1,3 +1,4 @@
 pub mod Rules
+pub mod Highest
 pub mod Traced
 pub mod CounterExamples

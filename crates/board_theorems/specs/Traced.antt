@@ -8,6 +8,7 @@ use mathlib.Core.Path.{_≡_}
 use lib.Dec.{eqb, ltb}
 use Rattle.types.specs.declared.Vector.{Vector}
 use Rattle.vioapic_entry.specs.Redirection.{vectorOf, remoteIrr, isLevel, isFit, hasVector, awaits}
+use Rattle.vioapic_entry.specs.declared.Entry.{Entry}
 use Rattle.vioapic_entry.specs.declared.Routed.{Routed}
 use Rattle.vioapic_entry.specs.declared.Routed.the-variants.{NotRouted, Interrupt}
 use Rattle.vioapic.specs.State.{IoApicState}
@@ -88,6 +89,10 @@ isEdgeOf v (Asks u level) = eqb (u .0) (v .0) && not level
 abbrev pub isLowWord : IoApicState → ℕ → ℕ → Bool
 isLowWord m addr width = goodWidth width && eqb addr (m .base + 0x10) && isEntryWord (m .selector) && isLow (m .selector)
 
+-- the write goes to the EOI register
+abbrev pub isEoiWord : IoApicState → ℕ → ℕ → Bool
+isEoiWord m addr width = goodWidth width && eqb addr (m .base + 0x40)
+
 abbrev pub renames : Vector → ℕ → ℕ → Bool
 renames v w x = isLevel x && hasVector x v && remoteIrr w && not (hasVector w v)
 
@@ -153,35 +158,54 @@ CallsExact = (v : Vector) (b : Board) (c : Call) (lost : Bool) → BoardRules b 
 abbrev pub RunsExact : Type 0
 RunsExact = (v : Vector) (cs : List Call) → Exact v (run newBoard cs) (lostOver v newBoard cs false)
 
--- where v is in flight without a trace, it has one after a call exactly if the call asks for it, level-triggered
-abbrev pub Heals : Type 0
-Heals =
-    (v : Vector) (b : Board) (c : Call) (g : ℕ)
-    → BoardRules b
-    → Tells b
-    → trace v (b .apic) ≡ false
-    → g < 24
-    → awaits v (entryAt (next b c .ioapic) g) ≡ true
-    → trace v (next b c .apic) ≡ isLevelOf v (asked b c)
+-- ---- what heals a lost line
 
--- and it stays in flight through every call but a write to the I/O APIC: the line may fall and rise, the guest may accept and end what it will
-abbrev pub isWrite : Call → Bool
-isWrite (HandleWrite addr width x) = true
-isWrite (SetGsiLevel gsi up) = false
-isWrite AcceptInterrupt = false
-isWrite HandleEoi = false
-isWrite (WriteTpr x) = false
-isWrite (Receive u level) = false
+-- line g is lost: its entry is level and in flight, and the vector that the entry has now has no trace
+abbrev pub lostEntry : Entry → VirtualApicRegs → Bool
+lostEntry e s = isLevel (e .word) && remoteIrr (e .word) && not (trace (vectorOf (e .word)) s)
 
-abbrev pub LostStays : Type 0
-LostStays =
-    (v : Vector) (b : Board) (c : Call) (g : ℕ)
-    → BoardRules b
-    → trace v (b .apic) ≡ false
-    → isWrite c ≡ false
+abbrev pub isLost : ℕ → Board → Bool
+isLost g b = lostEntry (entryAt (b .ioapic) g) (b .apic)
+
+-- over any calls on a new board: a line is lost exactly if its entry is in flight and its vector was lost, by one of the two, and not found since
+abbrev pub LostExactly : Type 0
+LostExactly =
+    (cs : List Call) (g : ℕ)
     → g < 24
-    → awaits v (entryAt (b .ioapic) g) ≡ true
-    → awaits v (entryAt (next b c .ioapic) g) ≡ true
+    → isLost g (run newBoard cs)
+    ≡ (isLevel (entryAt (run newBoard cs .ioapic) g .word)
+    && remoteIrr (entryAt (run newBoard cs .ioapic) g .word)
+    && lostOver (vectorOf (entryAt (run newBoard cs .ioapic) g .word)) newBoard cs false)
+
+-- of the guest's writes: the EOI register's, with the entry's vector v; and of the entry's own low word an edge word, and a level word with a vector that has a trace
+unfoldable pub mends : ℕ → Vector → Board → Call → Bool
+mends g v b (HandleWrite addr width x) =
+    (isEoiWord (b .ioapic) addr width && eqb (x % 2 ^ 8) (v .0))
+    || (isLowWord (b .ioapic) addr width && eqb (entryOf (b .ioapic .selector)) g && (not (isLevel (x % 2 ^ 32)) || trace (vectorOf (x % 2 ^ 32)) (b .apic)))
+mends g v b (SetGsiLevel gsi up) = false
+mends g v b AcceptInterrupt = false
+mends g v b HandleEoi = false
+mends g v b (WriteTpr x) = false
+mends g v b (Receive u level) = false
+
+-- those, and a level request of the vector, whoever asks for it
+abbrev pub heals : ℕ → Board → Call → Bool
+heals g b c =
+    isLevelOf (vectorOf (entryAt (b .ioapic) g .word)) (asked b c) || mends g (vectorOf (entryAt (b .ioapic) g .word)) b c
+
+-- a call heals a lost line if it is one of these, and no other call does: the line may fall and rise, the guest may accept and end what it will
+abbrev pub HealedExactly : Type 0
+HealedExactly = (b : Board) (c : Call) (g : ℕ) → BoardRules b → Tells b → g < 24 → isLost g b ≡ true → isLost g (next b c) ≡ not (heals g b c)
+
+-- so it stays lost over any calls of which none is
+unfoldable pub healedOver : ℕ → Board → List Call → Bool
+healedOver g b [] = false
+healedOver g b (c ∷ cs) = heals g b c || healedOver g (next b c) cs
+
+abbrev pub StaysLost : Type 0
+StaysLost = (b : Board) (cs : List Call) (g : ℕ) → BoardRules b → Tells b → g < 24 → isLost g b ≡ true → healedOver g b cs ≡ false → isLost g (run b cs) ≡ true
+
+-- ---- the whole way
 
 -- a held line is never forgotten between its device and the guest: after any calls on a new board, an entry that is level, fit to be sent and has its line up is in
 -- flight, and its vector is requested or in service with its trigger bit set, unless it was lost by one of the two
