@@ -1,0 +1,4 @@
+pub mod Trace
+pub mod Bound
+pub mod CounterExamples
+pub mod Forever
