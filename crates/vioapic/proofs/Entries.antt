@@ -1,27 +1,27 @@
 -- What the code does to an entry in place, part by part, is the entry's rule: l are the words before, w those after. Assumes nothing.
-use Prim.Native.Nat.{ℕ, _%_, _^_, _<_}
+use Prim.Native.Nat.{ℕ, zero, suc, _%_, _^_, _<_}
 use native.Mathlib.Omega.{arith}
 use mathlib.Core.Bool.{Bool, true, false, not, cond, _&&_, _||_}
-use mathlib.Core.List.{List}
-use mathlib.Core.Path.{_≡_, refl, sym, _∙_, ap, ap₂}
+use mathlib.Core.List.{List, [], _∷_}
+use mathlib.Core.Path.{_≡_, refl, sym, _∙_, ap, ap₂, subst}
 use borrow.Author.Tests.{eqb-true, not-true, not-false}
 use lib.Dec.{eqb}
 use lib.ListN.{length, getD, set, length-set}
-use lib.Seq.{getD-set-same, set-getD, set-set}
+use lib.Seq.{getD-set-same, getD-set-other, set-getD, set-set}
 use Rattle.utils.specs.Set.{bit, marked}
-use Rattle.utils.proofs.Laws.{bit-above}
+use Rattle.utils.proofs.Laws.{bit-above, bit-cut}
 use Rattle.utils.proofs.Bools.{never, both, and-true, and-one}
 use Rattle.utils.specs.Cases.{and-yes, and-left-no, and-right-no, or-left-yes, or-right-yes, or-no}
 use Rattle.vioapic_entry.specs.Redirection.{EntryStep, vectorOf, isFit, isLevel, isMasked, remoteIrr, sameLow, withRemoteIrr, withoutRemoteIrr, replaceLow, replaceHigh, withWord, withDeferred, withInput, quietly, sending, sendEntry, raiseEntry, lowerEntry, moveLine, endEntry, endEntry20, writeLow, writeHigh, withoutStatus, replaceLow20, keepsDeferred, storeLow20, isOwed, writeLow20}
-use Rattle.vioapic_entry.proofs.EntryLaws.{send-unfit, send-edge, send-later, send-level, raise-again, raise-new, lower-is, end-up, end-deferred, end-quiet, end20-asks, end20-quiet, resend-fit, resend-unfit, low-masked, low-same, low-changed, low20-owed, low20-quiet, low20-resting, low20-flying, owed-level, high-is}
+use Rattle.vioapic_entry.proofs.EntryLaws.{send-unfit, send-edge, send-later, send-level, raise-again, raise-new, lower-is, end-up, end-deferred, end-quiet, end20-asks, end20-quiet, resend-fit, resend-unfit, low-masked, low-same, low-changed, low20-owed, low20-quiet, low20-resting, low20-flying, owed-level, flight-level, flight-edge, flight-still, high-is}
 use Rattle.vioapic_entry.proofs.Fields.{alike-with, alike-low20, same-level, irr-with, irr-without, irr-low, irr-low20, irr-high}
 use Rattle.vioapic_entry.specs.declared.Entry.{Entry}
 use Rattle.vioapic_entry.specs.declared.Routed.{Routed}
 use Rattle.vioapic_entry.specs.declared.Routed.the-variants.{NotRouted, Interrupt}
 use Rattle.vioapic.specs.State.{IoApicState, view}
 use Rattle.vioapic.specs.Table.{noEntry, routing, withFlight, noted, put, routeAt, entryAt}
-use Rattle.vioapic.specs.Inside.{Keeps, putFlag, parts, NoneDeferred, Quiet, forgetting, StoredLow}
-use Rattle.vioapic.proofs.Words.{view-long, word-at, deferred-at, word-is, deferred-is, input-is, flight-is, still, then, so-that}
+use Rattle.vioapic.specs.Inside.{Keeps, putFlag, parts, NoneDeferred, Quiet, forgetting}
+use Rattle.vioapic.proofs.Words.{view-long, word-at, deferred-at, input-at, word-is, deferred-is, input-is, flight-is, still, then, so-that}
 
 -- ---- an entry that is put
 
@@ -59,6 +59,14 @@ module _ (s : IoApicState) (g : ℕ) (f : Entry) where
         let t = set-set (s .entries) g f e in
         λ j. record { base = s .base; size = s .size; version = s .version; selector = s .selector; «in_flight» = i j; entries = t j }
 
+    -- and another one after it, which is in flight as it is
+    put-then : (e : Entry) → remoteIrr (e .word) ≡ remoteIrr (f .word) → put (put s g f) g e ≡ put s g e
+    put-then e h =
+        let i : noted (noted (s .«in_flight») g (remoteIrr (entryAt s g .word)) (remoteIrr (f .word))) g (remoteIrr (entryAt (put s g f) g .word)) (remoteIrr (e .word)) ≡ noted (s .«in_flight») g (remoteIrr (entryAt s g .word)) (remoteIrr (e .word)) =
+        rw (at-put, h) (noted-same (noted (s .«in_flight») g (remoteIrr (entryAt s g .word)) (remoteIrr (f .word))) g (remoteIrr (f .word))) in
+        let t = set-set (s .entries) g f e in
+        λ j. record { base = s .base; size = s .size; version = s .version; selector = s .selector; «in_flight» = i j; entries = t j }
+
 -- a step that leaves the words as they are; one that puts the entry; and one on words in which a flag was moved
 stays : (l : List ℕ) (g : ℕ) (a : Routed) (x : EntryStep) → x ≡ record { entry = entryAt (view l) g; answer = a } → Keeps l l (routing (view l) a ≡ routeAt (view l) g x)
 stays l g a x q = still l (rw q (ap (λ (s : IoApicState). routing s a) (sym (put-back (view l) g (entryAt (view l) g) refl))))
@@ -85,6 +93,14 @@ level-of x y q h = rw q h
 
 -- ---- part by part
 
+-- two places
+set-swap : (l : List ℕ) (i j a b : ℕ) → (i ≡ j → ⊥) → set (set l i a) j b ≡ set (set l j b) i a
+set-swap [] i j a b h = refl
+set-swap (x ∷ xs) zero zero a b h = absurd (h refl)
+set-swap (x ∷ xs) zero (suc j) a b h = refl
+set-swap (x ∷ xs) (suc i) zero a b h = refl
+set-swap (x ∷ xs) (suc i) (suc j) a b h = ap (λ (t : List ℕ). x ∷ t) (set-swap xs i j a b (λ e. h (ap suc e)))
+
 module _ (l w : List ℕ) (g : ℕ) (long : length l ≡ 32) (here : g < 24) where
   pub set-deferred-is : (b : Bool) → w ≡ putFlag l 24 g b → Keeps l w (view w ≡ put (view l) g (withDeferred (entryAt (view l) g) b))
   set-deferred-is b q = rw q (so-that (deferred-is l g long here b) (λ p. p ∙ put-same (view l) g (withDeferred (entryAt (view l) g) b) refl))
@@ -99,9 +115,15 @@ module _ (l w : List ℕ) (g : ℕ) (long : length l ≡ 32) (here : g < 24) whe
       (λ p r. r ∙ ap (λ (s : IoApicState). withFlight s (marked (s .«in_flight») g b)) p)
 
   module _ (word x : ℕ) (at : word ≡ entryAt (view l) g .word) where
-    pub fly-is : remoteIrr word ≡ false → x ≡ withRemoteIrr word → w ≡ putFlag (set l g x) 30 g true → Keeps l w (view w ≡ put (view l) g (withWord (entryAt (view l) g) (withRemoteIrr word)))
-    fly-is h q r =
-        rw (← q) (so-that (register x true r) (λ p. p ∙ put-up (view l) g (withWord (entryAt (view l) g) x) (rw (← at) h) (rw q (irr-with word))))
+    pub fly-is : (u : List ℕ) → remoteIrr word ≡ false → u ≡ putFlag l 30 g true → x ≡ withRemoteIrr (getD u g 0) → w ≡ set u g x
+        → Keeps l w (view w ≡ put (view l) g (withWord (entryAt (view l) g) (withRemoteIrr word)))
+    fly-is u h f p r =
+        let m : ℕ = marked (getD l 30 0) g true in
+        let v : getD u g 0 ≡ word = ap (λ (t : List ℕ). getD t g 0) f ∙ getD-set-other l 30 g m 0 (omega arith) ∙ word-at l g here ∙ sym at in
+        let q : x ≡ withRemoteIrr word = p ∙ ap withRemoteIrr v in
+        let t : w ≡ putFlag (set l g x) 30 g true =
+        r ∙ ap (λ (t : List ℕ). set t g x) f ∙ set-swap l 30 g m x (omega arith) ∙ ap (λ (n : ℕ). set (set l g x) 30 (marked n g true)) (sym (getD-set-other l g 30 x 0 (omega arith))) in
+        rw (← q) (so-that (register x true t) (λ p. p ∙ put-up (view l) g (withWord (entryAt (view l) g) x) (rw (← at) h) (rw q (irr-with word))))
 
     pub rest-is : remoteIrr word ≡ true → x ≡ withoutRemoteIrr word → w ≡ putFlag (set l g x) 30 g false → Keeps l w (view w ≡ put (view l) g (withWord (entryAt (view l) g) (withoutRemoteIrr word)))
     rest-is h q r =
@@ -288,6 +310,23 @@ module _ (l : List ℕ) (g word x : ℕ) (at : word ≡ entryAt (view l) g .word
       (λ p r. r ∙ ap (λ (s : IoApicState). put s g (withWord (entryAt (view u) g) y)) p ∙ put-put (view l) g f (view-long l) h (withWord (entryAt (view u) g) y) refl
       ∙ ap (put (view l) g) (ap₂ (λ (z : Entry) (n : ℕ). withWord z n) e (q ∙ ap (λ (n : ℕ). replaceLow n x) at) ∙ sym (low-changed (entryAt (view l) g) x (sames false (not-true a d)))))
 
+  -- where nothing is deferred, nothing is forgotten
+  module _ (b : Bool) (here : g < 24) (none : b ≡ true → NoneDeferred (view l)) (yes : b ≡ true) where
+    pub low-anew-none : (w : List ℕ) (y : ℕ) → not a ≡ true → y ≡ replaceLow word x → Keeps l w (view w ≡ put (view l) g (withWord (entryAt (view l) g) y))
+        → Keeps l w (view w ≡ put (view l) g (writeLow (entryAt (view l) g) x))
+    low-anew-none w y d q k =
+        let e : Entry = entryAt (view l) g in
+        let f : withWord e y ≡ withDeferred (withWord e (replaceLow (e .word) x)) false =
+        ap₂ (λ (n : ℕ) (c : Bool). withDeferred (withWord e n) c) (q ∙ ap (λ (n : ℕ). replaceLow n x) at) (none yes g here) in
+        so-that k (λ p. p ∙ ap (put (view l) g) (f ∙ sym (low-changed e x (sames false (not-true a d)))))
+
+    pub low-same-none : not a ≡ false → Keeps l l (view l ≡ put (view l) g (writeLow (entryAt (view l) g) x))
+    low-same-none d = still l (sym (put-back (view l) g (writeLow (entryAt (view l) g) x) (go (isMasked (entryAt (view l) g .word)) refl)))
+      where
+        go : (m : Bool) → isMasked (entryAt (view l) g .word) ≡ m → writeLow (entryAt (view l) g) x ≡ entryAt (view l) g
+        go true h = low-masked (entryAt (view l) g) x (sames true (not-false a d)) h ∙ ap (withDeferred (entryAt (view l) g)) (sym (none yes g here))
+        go false h = low-same (entryAt (view l) g) x (sames true (not-false a d)) h
+
   module _ (b : Bool) (is : not a ≡ false) (masked : b ≡ isMasked word) where
     masks : (c : Bool) → b ≡ c → isMasked (entryAt (view l) g .word) ≡ c
     masks c h = ap isMasked (sym at) ∙ sym masked ∙ h
@@ -300,56 +339,43 @@ module _ (l : List ℕ) (g word x : ℕ) (at : word ≡ entryAt (view l) g .word
 
 -- ---- the guest's writes, version 0x20
 
-module _ (l : List ℕ) (g word x : ℕ) (at : word ≡ entryAt (view l) g .word) where
-  pub forgot-none : (b : Bool) → g < 24 → (b ≡ true → NoneDeferred (view l)) → b ≡ true → Keeps l l (view l ≡ put (view l) g (forgetting (entryAt (view l) g) x))
+-- the register takes a low word
+module _ (l w : List ℕ) (g word x y : ℕ) (a : Bool) (long : length l ≡ 32) (here : g < 24) (at : word ≡ entryAt (view l) g .word) (flies : a ≡ remoteIrr word) where
+  module _ (new : y ≡ replaceLow word (withoutStatus x)) where
+    pub laid-level : (b : Bool) (z : ℕ) → a ≡ true → b ≡ isLevel x → b ≡ true → z ≡ cond (remoteIrr word) (withRemoteIrr (replaceLow word (withoutStatus x))) (replaceLow word (withoutStatus x))
+        → w ≡ set (set l g y) g z → Keeps l w (view w ≡ put (view l) g (withWord (entryAt (view l) g) (replaceLow20 word x)))
+    laid-level b z f v h q r =
+        let k : isLevel x ≡ true = sym v ∙ h in
+        let n : z ≡ replaceLow20 word x = q ∙ flight-level word x k in
+        let i : remoteIrr z ≡ remoteIrr word = ap remoteIrr n ∙ irr-low20 word x ∙ ap (λ (c : Bool). c && remoteIrr word) k in
+        rw (r ∙ set-set l g y z, ← n) (so-that (word-is l g long here z) (λ p. p ∙ put-same (view l) g (withWord (entryAt (view l) g) z) (i ∙ ap remoteIrr at)))
+
+    pub laid-edge : (b : Bool) → a ≡ true → b ≡ isLevel x → b ≡ false → w ≡ putFlag (set l g y) 30 g false → Keeps l w (view w ≡ put (view l) g (withWord (entryAt (view l) g) (replaceLow20 word x)))
+    laid-edge b f v h r =
+        so-that (ground-flying l w g long here word y at (sym flies ∙ f) (irr-low-of y word (withoutStatus x) new) r)
+        (λ p. p ∙ ap (λ (n : ℕ). put (view l) g (withWord (entryAt (view l) g) n)) (new ∙ flight-edge word x (sym v ∙ h)))
+
+    pub laid-still : a ≡ false → w ≡ set l g y → Keeps l w (view w ≡ put (view l) g (withWord (entryAt (view l) g) (replaceLow20 word x)))
+    laid-still f r =
+        so-that (ground-still l w g long here word y at (sym flies ∙ f) (irr-low-of y word (withoutStatus x) new) r)
+        (λ p. p ∙ ap (λ (n : ℕ). put (view l) g (withWord (entryAt (view l) g) n)) (new ∙ flight-still word x (sym flies ∙ f)))
+
+-- and what was deferred is forgotten
+module _ (l : List ℕ) (g word x : ℕ) where
+  pub forgot-none : (b : Bool) → g < 24 → (b ≡ true → NoneDeferred (view l)) → b ≡ true → Keeps l l (view l ≡ put (view l) g (forgetting word (entryAt (view l) g) x))
   forgot-none b i none h =
       let e : Entry = entryAt (view l) g in
-      still l (sym (put-back (view l) g (forgetting e x) (both (λ (z : Entry). z ≡ e) (keepsDeferred (e .word) x) e (withDeferred e false) refl (ap (withDeferred e) (sym (none h g i))))))
+      still l (sym (put-back (view l) g (forgetting word e x) (both (λ (z : Entry). z ≡ e) (keepsDeferred word x) e (withDeferred e false) refl (ap (withDeferred e) (sym (none h g i))))))
 
   module _ (a : Bool) (is : a ≡ keepsDeferred word x) where
-    forgets : (b : Bool) → a ≡ b → forgetting (entryAt (view l) g) x ≡ cond b (entryAt (view l) g) (withDeferred (entryAt (view l) g) false)
-    forgets b h = ap (λ (c : Bool). cond c (entryAt (view l) g) (withDeferred (entryAt (view l) g) false)) (ap (λ (n : ℕ). keepsDeferred n x) (sym at) ∙ sym is ∙ h)
+    forgets : (b : Bool) → a ≡ b → forgetting word (entryAt (view l) g) x ≡ cond b (entryAt (view l) g) (withDeferred (entryAt (view l) g) false)
+    forgets b h = ap (λ (c : Bool). cond c (entryAt (view l) g) (withDeferred (entryAt (view l) g) false)) (sym is ∙ h)
 
-    pub forgot-nothing : a ≡ true → Keeps l l (view l ≡ put (view l) g (forgetting (entryAt (view l) g) x))
-    forgot-nothing h = still l (sym (put-back (view l) g (forgetting (entryAt (view l) g) x) (forgets true h)))
+    pub forgot-nothing : a ≡ true → Keeps l l (view l ≡ put (view l) g (forgetting word (entryAt (view l) g) x))
+    forgot-nothing h = still l (sym (put-back (view l) g (forgetting word (entryAt (view l) g) x) (forgets true h)))
 
-    pub forgot : (w : List ℕ) → a ≡ false → Keeps l w (view w ≡ put (view l) g (withDeferred (entryAt (view l) g) false)) → Keeps l w (view w ≡ put (view l) g (forgetting (entryAt (view l) g) x))
+    pub forgot : (w : List ℕ) → a ≡ false → Keeps l w (view w ≡ put (view l) g (withDeferred (entryAt (view l) g) false)) → Keeps l w (view w ≡ put (view l) g (forgetting word (entryAt (view l) g) x))
     forgot w h k = so-that k (λ p. p ∙ ap (put (view l) g) (sym (forgets false h)))
-
-  -- the register is stored after that
-  module _ (u : List ℕ) (y : ℕ) (here : g < 24) (new : y ≡ replaceLow20 word x) (left : Keeps l u (view u ≡ put (view l) g (forgetting (entryAt (view l) g) x))) where
-    forgot-word : forgetting (entryAt (view l) g) x .word ≡ entryAt (view l) g .word
-    forgot-word = both (λ (e : Entry). e .word ≡ entryAt (view l) g .word) (keepsDeferred (entryAt (view l) g .word) x) (entryAt (view l) g) (withDeferred (entryAt (view l) g) false) refl refl
-
-    forgot-at : entryAt (view u) g ≡ forgetting (entryAt (view l) g) x
-    forgot-at = ap (λ (s : IoApicState). entryAt s g) (left .is) ∙ at-put (view l) g (forgetting (entryAt (view l) g) x) (view-long l) here
-
-    pub word-forgot : word ≡ entryAt (view u) g .word
-    word-forgot = at ∙ sym (ap (λ (e : Entry). e .word) forgot-at ∙ forgot-word)
-
-    pub stored20 : (w : List ℕ) → Keeps u w (view w ≡ put (view u) g (withWord (entryAt (view u) g) y))
-        → Keeps l w (StoredLow (view l) (view w) g x y)
-    unfolding storeLow20
-    stored20 w k =
-        let f : Entry = forgetting (entryAt (view l) g) x in
-        let q : y ≡ replaceLow20 (entryAt (view l) g .word) x = new ∙ ap (λ (n : ℕ). replaceLow20 n x) at in
-        then left k
-        (λ p r. record {
-          state =
-              r ∙ ap (λ (s : IoApicState). put s g (withWord (entryAt (view u) g) y)) p ∙ put-put (view l) g f (view-long l) here (withWord (entryAt (view u) g) y) (ap remoteIrr forgot-word)
-              ∙ ap (put (view l) g) (ap₂ (λ (z : Entry) (n : ℕ). withWord z n) forgot-at q);
-          register = sym (ap (λ (s : IoApicState). entryAt s g .word) r ∙ ap (λ (e : Entry). e .word) (at-put (view u) g (withWord (entryAt (view u) g) y) (view-long u) here));
-        })
-
--- a low word flies only if it flew
-pub flew : (word x y : ℕ) → y ≡ replaceLow20 word x → remoteIrr y ≡ true → remoteIrr word ≡ true
-flew word x y q h = and-true (isLevel x) (remoteIrr word) (sym (irr-low20 word x) ∙ ap remoteIrr (sym q) ∙ h) .1
-
-pub replaced-flying : (l w : List ℕ) (g word y : ℕ) (b : Bool) → length l ≡ 32 → g < 24 → word ≡ entryAt (view l) g .word → (remoteIrr y ≡ true → remoteIrr word ≡ true) → b ≡ remoteIrr y → b ≡ true → w ≡ set l g y
-    → Keeps l w (view w ≡ put (view l) g (withWord (entryAt (view l) g) y))
-replaced-flying l w g word y b long here at f is h q =
-    let i : remoteIrr y ≡ true = sym is ∙ h in
-    rw q (so-that (word-is l g long here y) (λ p. p ∙ put-same (view l) g (withWord (entryAt (view l) g) y) (i ∙ sym (ap remoteIrr (sym at) ∙ f i))))
 
 -- nothing is deferred
 pub none-deferred : (l : List ℕ) → eqb (getD l 24 0) 0 ≡ true → NoneDeferred (view l)
@@ -361,16 +387,9 @@ none-deferred l h g i =
 pub not-quiet : (e : Entry) → false ≡ true → Quiet e
 not-quiet e h = never h refl
 
-pub quiet : (l : List ℕ) (g : ℕ) (b c : Bool) → g < 24 → (b ≡ true → NoneDeferred (view l)) → not b ≡ false → c ≡ entryAt (view l) g .«input_level» → not c ≡ true → Quiet (entryAt (view l) g)
-quiet l g b c i none n line d = record { undeferred = none (not-false b n) g i; down = sym line ∙ not-true c d }
-
-pub low20-rested : (l w : List ℕ) (g word x y : ℕ) (a b : Bool) → word ≡ entryAt (view l) g .word → a ≡ remoteIrr word → a ≡ false → (b ≡ true → Quiet (entryAt (view l) g)) → b ≡ true → y ≡ replaceLow word (withoutStatus x)
-    → Keeps l w (view w ≡ put (view l) g (withWord (entryAt (view l) g) y)) → Keeps l w (routing (view w) NotRouted ≡ routeAt (view l) g (writeLow20 (entryAt (view l) g) x))
-low20-rested l w g word x y a b at flies f is h q k =
-    let e : Entry = entryAt (view l) g in
-    let r : Quiet e = is h in
-    steps l w g (withWord e y) NotRouted (writeLow20 e x) k
-    (low20-resting e x (ap remoteIrr (sym at) ∙ sym flies ∙ f) (r .undeferred) (r .down) ∙ ap (λ (n : ℕ). quietly (withWord e n)) (sym (q ∙ ap (λ (n : ℕ). replaceLow n (withoutStatus x)) at)))
+pub quiet : (l : List ℕ) (g : ℕ) (b c : Bool) → g < 24 → (b ≡ true → NoneDeferred (view l)) → not b ≡ false → c ≡ bit (getD l 25 0 % 4294967296) g → not c ≡ true → Quiet (entryAt (view l) g)
+quiet l g b c i none n line d =
+    record { undeferred = none (not-false b n) g i; down = sym (input-at l g c i (line ∙ bit-cut (getD l 25 0) 32 g (omega arith))) ∙ not-true c d }
 
 -- what is owed
 module _ (l : List ℕ) (g word : ℕ) (at : word ≡ entryAt (view l) g .word) (c : Bool) (line : c ≡ entryAt (view l) g .«input_level») where
@@ -390,38 +409,69 @@ module _ (l : List ℕ) (g word : ℕ) (at : word ≡ entryAt (view l) g .word) 
         let r : remoteIrr (entryAt (view l) g .word) ≡ b = ap remoteIrr (sym at) ∙ sym q in
         rw (p, i, r) (sym (and-one (not b)))
 
--- the entry as it is stored, and what it is owed
-module _ (l u : List ℕ) (g x word : ℕ) (here : g < 24) (stored : Keeps l u (StoredLow (view l) (view u) g x word)) where
-  stored-at : entryAt (view u) g ≡ storeLow20 (entryAt (view l) g) x
-  stored-at = ap (λ (s : IoApicState). entryAt s g) (stored .is .state) ∙ at-put (view l) g (storeLow20 (entryAt (view l) g) x) (view-long l) here
+-- the low word laid down, from the words l to u
+module _ (l u : List ℕ) (g x word : ℕ) (here : g < 24) (at : word ≡ entryAt (view l) g .word) (a : Bool) (flies : a ≡ remoteIrr word)
+    (laid : Keeps l u (view u ≡ put (view l) g (withWord (entryAt (view l) g) (replaceLow20 word x)))) where
+  laid-at : entryAt (view u) g ≡ withWord (entryAt (view l) g) (replaceLow20 word x)
+  laid-at = ap (λ (s : IoApicState). entryAt s g) (laid .is) ∙ at-put (view l) g (withWord (entryAt (view l) g) (replaceLow20 word x)) (view-long l) here
 
-  pub low20-flown : (before : ℕ) (b : Bool) → before ≡ entryAt (view l) g .word → b ≡ remoteIrr before → b ≡ true
-      → Keeps l u (routing (view u) NotRouted ≡ routeAt (view l) g (writeLow20 (entryAt (view l) g) x))
-  low20-flown before b at is h =
+  -- the line down and nothing deferred, at rest
+  pub low20-rested : (b : Bool) → a ≡ false → (b ≡ true → Quiet (entryAt (view u) g)) → b ≡ true → Keeps l u (routing (view u) NotRouted ≡ routeAt (view l) g (writeLow20 (entryAt (view l) g) x))
+  low20-rested b f is h =
       let e : Entry = entryAt (view l) g in
-      steps l u g (storeLow20 e x) NotRouted (writeLow20 e x) (so-that stored (λ p. p .state))
-      (low20-quiet e x (low20-flying e x (ap remoteIrr (sym at) ∙ sym is ∙ h)))
+      let q : Quiet (withWord e (replaceLow20 word x)) = subst Quiet laid-at (is h) in
+      let i : remoteIrr word ≡ false = sym flies ∙ f in
+      steps l u g (withWord e (replaceLow20 word x)) NotRouted (writeLow20 e x) laid
+      (low20-resting e x (ap remoteIrr (sym at) ∙ i) (q .undeferred) (q .down)
+      ∙ ap (λ (n : ℕ). quietly (withWord e n)) (ap (λ (n : ℕ). replaceLow n (withoutStatus x)) (sym at) ∙ flight-still word x i))
 
-  module _ (b : Bool) (is : b ≡ isOwed (entryAt (view u) g)) where
-    owing : (c : Bool) → b ≡ c → isOwed (storeLow20 (entryAt (view l) g) x) ≡ c
-    owing c h = ap isOwed (sym stored-at) ∙ sym is ∙ h
-
-    -- a level word flies as it did
-    as-before : b ≡ true → remoteIrr (storeLow20 (entryAt (view l) g) x .word) ≡ remoteIrr (entryAt (view l) g .word)
+  -- and what was deferred forgotten, up to the words w
+  module _ (w : List ℕ) (left : Keeps u w (view w ≡ put (view u) g (forgetting word (entryAt (view u) g) x))) where
+    stored : Keeps l w (view w ≡ put (view l) g (storeLow20 (entryAt (view l) g) x))
     unfolding storeLow20
-    as-before h =
-        let w : ℕ = entryAt (view l) g .word in
-        let p : isLevel (replaceLow20 w x) ≡ true = owed-level (storeLow20 (entryAt (view l) g) x) (owing true h) in
-        irr-low20 w x ∙ ap (λ (c : Bool). c && remoteIrr w) (sym (same-level (alike-low20 w x)) ∙ p)
+    stored =
+        let e : Entry = entryAt (view l) g in
+        let f : Entry = withWord e (replaceLow20 word x) in
+        let made : forgetting word f x ≡ storeLow20 e x = go (keepsDeferred word x) ∙ ap (λ (n : ℕ). withWord (cond (keepsDeferred n x) e (withDeferred e false)) (replaceLow20 n x)) at in
+        let n : remoteIrr (forgetting word f x .word) ≡ remoteIrr (f .word) = both (λ (z : Entry). remoteIrr (z .word) ≡ remoteIrr (f .word)) (keepsDeferred word x) f (withDeferred f false) refl refl in
+        then laid left
+        (λ p r. r ∙ ap₂ (λ (s : IoApicState) (z : Entry). put s g (forgetting word z x)) p laid-at ∙ put-then (view l) g f (view-long l) here (forgetting word f x) n ∙ ap (put (view l) g) made)
+      where
+        go : (b : Bool) → cond b (withWord (entryAt (view l) g) (replaceLow20 word x)) (withDeferred (withWord (entryAt (view l) g) (replaceLow20 word x)) false) ≡ withWord (cond b (entryAt (view l) g) (withDeferred (entryAt (view l) g) false)) (replaceLow20 word x)
+        go true = refl
+        go false = refl
 
-    pub low20-sent : (w : List ℕ) (r : Routed) → b ≡ true → Keeps u w (routing (view w) r ≡ routeAt (view u) g (sendEntry (entryAt (view u) g)))
-        → Keeps l w (routing (view w) r ≡ routeAt (view l) g (writeLow20 (entryAt (view l) g) x))
-    low20-sent w r h k =
-        moves l u w g (storeLow20 (entryAt (view l) g) x) r (writeLow20 (entryAt (view l) g) x) (sendEntry (entryAt (view u) g)) here (as-before h)
-        (so-that stored (λ p. p .state)) k
-        (low20-owed (entryAt (view l) g) x (owing true h) ∙ ap sendEntry (sym stored-at))
+    stored-at : entryAt (view w) g ≡ storeLow20 (entryAt (view l) g) x
+    stored-at = ap (λ (s : IoApicState). entryAt s g) (stored .is) ∙ at-put (view l) g (storeLow20 (entryAt (view l) g) x) (view-long l) here
 
-    pub low20-unsent : b ≡ false → Keeps l u (routing (view u) NotRouted ≡ routeAt (view l) g (writeLow20 (entryAt (view l) g) x))
-    low20-unsent h =
-        steps l u g (storeLow20 (entryAt (view l) g) x) NotRouted (writeLow20 (entryAt (view l) g) x) (so-that stored (λ p. p .state))
-        (low20-quiet (entryAt (view l) g) x (owing false h))
+    pub low20-flown : a ≡ true → Keeps l w (routing (view w) NotRouted ≡ routeAt (view l) g (writeLow20 (entryAt (view l) g) x))
+    low20-flown h =
+        let e : Entry = entryAt (view l) g in
+        steps l w g (storeLow20 e x) NotRouted (writeLow20 e x) stored (low20-quiet e x (low20-flying e x (ap remoteIrr (sym at) ∙ sym flies ∙ h)))
+
+    -- the register then, of an entry that was at rest
+    pub word-stored : (y : ℕ) → a ≡ false → y ≡ replaceLow word (withoutStatus x) → y ≡ entryAt (view w) g .word
+    unfolding storeLow20
+    word-stored y f q = q ∙ flight-still word x (sym flies ∙ f) ∙ ap (λ (n : ℕ). replaceLow20 n x) at ∙ sym (ap (λ (e : Entry). e .word) stored-at)
+
+    module _ (b : Bool) (is : b ≡ isOwed (entryAt (view w) g)) where
+      owing : (c : Bool) → b ≡ c → isOwed (storeLow20 (entryAt (view l) g) x) ≡ c
+      owing c h = ap isOwed (sym stored-at) ∙ sym is ∙ h
+
+      -- a level word flies as it did
+      as-before : b ≡ true → remoteIrr (storeLow20 (entryAt (view l) g) x .word) ≡ remoteIrr (entryAt (view l) g .word)
+      unfolding storeLow20
+      as-before h =
+          let n : ℕ = entryAt (view l) g .word in
+          let p : isLevel (replaceLow20 n x) ≡ true = owed-level (storeLow20 (entryAt (view l) g) x) (owing true h) in
+          irr-low20 n x ∙ ap (λ (c : Bool). c && remoteIrr n) (sym (same-level (alike-low20 n x)) ∙ p)
+
+      pub low20-sent : (v : List ℕ) (r : Routed) → b ≡ true → Keeps w v (routing (view v) r ≡ routeAt (view w) g (sendEntry (entryAt (view w) g)))
+          → Keeps l v (routing (view v) r ≡ routeAt (view l) g (writeLow20 (entryAt (view l) g) x))
+      low20-sent v r h k =
+          moves l w v g (storeLow20 (entryAt (view l) g) x) r (writeLow20 (entryAt (view l) g) x) (sendEntry (entryAt (view w) g)) here (as-before h) stored k
+          (low20-owed (entryAt (view l) g) x (owing true h) ∙ ap sendEntry (sym stored-at))
+
+      pub low20-unsent : b ≡ false → Keeps l w (routing (view w) NotRouted ≡ routeAt (view l) g (writeLow20 (entryAt (view l) g) x))
+      low20-unsent h =
+          steps l w g (storeLow20 (entryAt (view l) g) x) NotRouted (writeLow20 (entryAt (view l) g) x) stored (low20-quiet (entryAt (view l) g) x (owing false h))

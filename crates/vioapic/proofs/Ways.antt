@@ -1,5 +1,5 @@
 -- A law for each way out of the calls: l are the words before, w those after. Assumes nothing.
-use Prim.Native.Nat.{ℕ, _+_, _-_, _%_, _^_, _≤_, _<_}
+use Prim.Native.Nat.{ℕ, _+_, _-_, _/_, _%_, _^_, _≤_, _<_}
 use native.Mathlib.Omega.{arith}
 use mathlib.Core.Bool.{Bool, true, false, not, cond, _&&_, _||_}
 use mathlib.Core.List.{List}
@@ -7,7 +7,8 @@ use mathlib.Core.Path.{_≡_, refl, sym, _∙_, ap, subst, subst⁻¹}
 use borrow.Author.Tests.{lt-ltb, le-ltb, le-leb, lt-leb, leb-true, leb-false, eq-eqb, ne-eqb, eqb-true, not-true, not-false}
 use lib.Dec.{eqb, leb}
 use lib.ListN.{length, getD, set}
-use Rattle.utils.proofs.Bools.{and-true, never}
+use Rattle.utils.specs.Set.{bit}
+use Rattle.utils.proofs.Bools.{and-true, both, never}
 use Rattle.types.specs.Reply.{Outcome, Kept}
 use Rattle.types.specs.declared.Reply.{Reply}
 use Rattle.types.specs.declared.Reply.the-variants.{One, Two, Nothing, Refused}
@@ -17,6 +18,7 @@ use Rattle.types.specs.declared.Gsi.{Gsi}
 use Rattle.types.specs.declared.Vector.{Vector}
 use Rattle.vioapic_entry.specs.Answers.{routedReply}
 use Rattle.vioapic_entry.specs.Redirection.{EntryStep, vectorOf, isFit, withoutStatus, quietly, sendEntry, raiseEntry, lowerEntry, moveLine, endEntry, writeLow, writeHigh, writeLow20}
+use Rattle.vioapic_entry.proofs.Fields.{status-clear}
 use Rattle.vioapic_entry.specs.declared.Entry.{Entry}
 use Rattle.vioapic_entry.specs.declared.Routed.{Routed}
 use Rattle.vioapic_entry.specs.declared.Routed.the-variants.{NotRouted, Interrupt}
@@ -143,9 +145,14 @@ module _ (l : List ℕ) (sel : ℕ) (b : Bool) (is : sel ≡ view l .selector) (
   found : (c : Bool) → b ≡ c → isEntryWord (view l .selector) ≡ c
   found c h = sym (there ∙ ap isEntryWord is) ∙ h
 
-  pub read-entry : (g r : ℕ) (e : Entry) (n k : Bool) → b ≡ true → g ≡ entryOf sel → e ≡ entryAt (view l) g → n ≡ isVersion20 (view l) → n ≡ k → r ≡ readWord k sel e → r ≡ readSelected (view l)
-  unfolding readSelected
-  read-entry g r e n k h a c v y d = rw (found true h, ← is, ← a, ← c, ← v, y) d
+  module _ (g word : ℕ) (c : Bool) (yes : b ≡ true) (which : g ≡ entryOf sel) (at : word ≡ entryAt (view l) g .word) (low : c ≡ isLow sel) where
+    pub read-low-word : (r : ℕ) → c ≡ true → r ≡ readLow (isVersion20 (view l)) (word % 2 ^ 32) → r ≡ readSelected (view l)
+    unfolding readSelected readWord
+    read-low-word r h d = rw (found true yes, ← is, ← which, ← at, sym low ∙ h) d
+
+    pub read-high-word : c ≡ false → word / 2 ^ 32 ≡ readSelected (view l)
+    unfolding readSelected readWord
+    read-high-word h = rw (found true yes, ← is, ← which, ← at, sym low ∙ h)
 
   pub read-other : (r : ℕ) → b ≡ false → r ≡ readFixed (getD l 29 0) sel → r ≡ readSelected (view l)
   unfolding readSelected
@@ -182,8 +189,18 @@ module _ (l : List ℕ) (sel : ℕ) (b : Bool) (is : sel ≡ view l .selector) (
   unfolding writeSelected
   write-other x h = still l (rw (found false h))
 
-pub low-new : (n : Bool) (x r : ℕ) → n ≡ true → r ≡ withoutStatus x → r ≡ readLow n x
-low-new n x r h q = rw h q
+-- what a low word reads
+module _ (l : List ℕ) (x : ℕ) (s : Bool) (status : s ≡ bit x 12) where
+  pub low-clear : not s ≡ true → x ≡ readLow (isVersion20 (view l)) x
+  low-clear h =
+      sym (both (λ (n : ℕ). n ≡ x) (isVersion20 (view l)) (withoutStatus x) x (status-clear x (sym status ∙ not-true s h)) refl)
+
+  module _ (n : Bool) (is : n ≡ isVersion20 (view l)) where
+    pub low-new : (r : ℕ) → n ≡ true → r ≡ withoutStatus x → r ≡ readLow (isVersion20 (view l)) x
+    low-new r h q = rw (sym is ∙ h) q
+
+    pub low-old : n ≡ false → x ≡ readLow (isVersion20 (view l)) x
+    low-old h = rw (sym is ∙ h)
 
 -- the EOI register
 module _ (l : List ℕ) (x : ℕ) (b : Bool) (is : b ≡ isVersion20 (view l)) where
@@ -196,30 +213,24 @@ module _ (l : List ℕ) (x : ℕ) (b : Bool) (is : b ≡ isVersion20 (view l)) w
   unfolding writeEoi
   eoi-written w n r y h e k d = so-that e (λ q. rw (sym is ∙ not-false b h, ← q, d, k))
 
-module _ (l : List ℕ) (offset x : ℕ) where
-  pub at-select : (n : ℕ) → length l ≡ 32 → x < 2 ^ 32 → offset ≡ 0 → n ≡ withLow (getD l 26 0) x → Keeps l (set l 26 n) (done (view (set l 26 n)) ≡ writeAt (view l) offset x)
-  unfolding writeAt
-  at-select n h k e p = so-that (view-select l x n h k p) (λ q. rw (eq-eqb _ _ e) (ap done q))
+pub at-select : (l : List ℕ) (x n : ℕ) → length l ≡ 32 → x < 2 ^ 32 → n ≡ withLow (getD l 26 0) x → Keeps l (set l 26 n) (done (view (set l 26 n)) ≡ writeAt (view l) 0 x)
+unfolding writeAt
+at-select l x n h k p = so-that (view-select l x n h k p) (λ q. ap done q)
 
+module _ (l : List ℕ) (offset x : ℕ) (beyond : 0 < offset) where
   module _ (w : List ℕ) (y : Written) where
-    pub at-window : (offset ≡ 0 → ⊥) → offset ≡ 16 → Keeps l w (writing (view w) y ≡ writeSelected (view l) x) → Keeps l w (writing (view w) y ≡ writeAt (view l) offset x)
+    pub at-eoi : offset ≡ 64 → Keeps l w (writing (view w) y ≡ writeEoi (view l) x) → Keeps l w (writing (view w) y ≡ writeAt (view l) offset x)
     unfolding writeAt
-    at-window a b k = so-that k (λ q. rw (ne-eqb _ _ a, eq-eqb _ _ b) q)
+    at-eoi c k = so-that k (λ q. rw (ne-eqb offset 0 (λ e. omega arith), ne-eqb offset 16 (λ e. omega arith), eq-eqb _ _ c) q)
 
-    pub at-eoi : 16 < offset → offset ≡ 64 → Keeps l w (writing (view w) y ≡ writeEoi (view l) x) → Keeps l w (writing (view w) y ≡ writeAt (view l) offset x)
+    pub at-window : offset ≡ 16 → Keeps l w (writing (view w) y ≡ writeSelected (view l) x) → Keeps l w (writing (view w) y ≡ writeAt (view l) offset x)
     unfolding writeAt
-    at-eoi a c k = so-that k (λ q. rw (ne-eqb offset 0 (λ e. omega arith), ne-eqb offset 16 (λ e. omega arith), eq-eqb _ _ c) q)
+    at-window b k = so-that k (λ q. rw (ne-eqb offset 0 (λ e. omega arith), eq-eqb _ _ b) q)
 
-  -- at another offset, below the window and above it
-  ignored : (offset ≡ 0 → ⊥) → (offset ≡ 16 → ⊥) → (offset ≡ 64 → ⊥) → Keeps l l (done (view l) ≡ writeAt (view l) offset x)
+  -- at another offset
+  pub at-none : (offset ≡ 64 → ⊥) → (offset ≡ 16 → ⊥) → Keeps l l (done (view l) ≡ writeAt (view l) offset x)
   unfolding writeAt
-  ignored a b c = still l (rw (ne-eqb _ _ a, ne-eqb _ _ b, ne-eqb _ _ c))
-
-  pub at-below : offset ≤ 16 → (offset ≡ 0 → ⊥) → (offset ≡ 16 → ⊥) → Keeps l l (done (view l) ≡ writeAt (view l) offset x)
-  at-below h a b = ignored a b (λ e. omega arith)
-
-  pub at-above : 16 < offset → (offset ≡ 64 → ⊥) → Keeps l l (done (view l) ≡ writeAt (view l) offset x)
-  at-above h c = ignored (λ e. omega arith) (λ e. omega arith) c
+  at-none c b = still l (rw (ne-eqb offset 0 (λ e. omega arith), ne-eqb _ _ b, ne-eqb _ _ c))
 
 -- ---- base and size
 
@@ -289,21 +300,29 @@ served l w (written.Sent i) s = tt
 served l w (written.EndedAll e) s = tt
 served l w (written.NotWritten why) s = absurd s
 
-module _ (l : List ℕ) (addr width : ℕ) (b : Bool) (is : b ≡ goodWidth width) where
-  pub read-width : not b ≡ true → Refused Unsupported ≡ handleRead (view l) addr width
+-- a read of four bytes, and of eight, which is the same
+module _ (l : List ℕ) (addr base : ℕ) (e : base ≡ view l .base) where
+  pub read-below : addr < base → Refused InvalidAddress ≡ handleRead (view l) addr 4
   unfolding handleRead
-  read-width h = rw (sym is ∙ not-true b h)
+  read-below k = rw (← e, lt-leb _ _ k)
 
-  module _ (base : ℕ) (h : not b ≡ false) (e : base ≡ view l .base) where
-    pub read-below : addr < base → Refused InvalidAddress ≡ handleRead (view l) addr width
-    unfolding handleRead
-    read-below k = rw (sym is ∙ not-false b h, ← e, lt-leb _ _ k)
+  pub read-served : (r : ℕ) → base ≤ addr → r ≡ readAt (view l) (addr - base) → One r ≡ handleRead (view l) addr 4
+  unfolding handleRead
+  read-served r k q = rw (le-leb (view l .base) addr (subst (λ (n : ℕ). n ≤ addr) e k)) (ap One (q ∙ ap (λ (n : ℕ). readAt (view l) (addr - n)) e))
 
-    pub read-served : (r : ℕ) → base ≤ addr → r ≡ readAt (view l) (addr - base) → One r ≡ handleRead (view l) addr width
-    unfolding handleRead
-    read-served r k q =
-        rw (sym is ∙ not-false b h, le-leb (view l .base) addr (subst (λ (n : ℕ). n ≤ addr) e k)) (ap One (q ∙ ap (λ (n : ℕ). readAt (view l) (addr - n)) e))
+module _ (l : List ℕ) (addr width : ℕ) (r : Reply) where
+  pub read-eight : width ≡ 8 → r ≡ handleRead (view l) addr 4 → r ≡ handleRead (view l) addr width
+  unfolding handleRead
+  read-eight h q = rw h q
 
+  pub read-four : width ≡ 4 → r ≡ handleRead (view l) addr 4 → r ≡ handleRead (view l) addr width
+  read-four h q = rw h q
+
+pub read-width : (l : List ℕ) (addr width : ℕ) → (width ≡ 8 → ⊥) → (width ≡ 4 → ⊥) → Refused Unsupported ≡ handleRead (view l) addr width
+unfolding handleRead
+read-width l addr width a b = rw (ne-eqb _ _ b, ne-eqb _ _ a)
+
+module _ (l : List ℕ) (addr width : ℕ) (b : Bool) (is : b ≡ goodWidth width) where
   module _ (x : ℕ) where
     pub write-width : not b ≡ true → Wrote l l (written.NotWritten Unsupported) (handleWriting (view l) addr width x)
     write-width h = record { outcome = rw (sym is ∙ not-true b h); untouched = refl; kept = refl }
@@ -322,6 +341,10 @@ module _ (l : List ℕ) (addr width : ℕ) (b : Bool) (is : b ≡ goodWidth widt
             untouched = served l w r (subst⁻¹ (λ (z : Writing). Served (z .answer)) (q .is) (write-done (view l) (addr - base) (x % 2 ^ 32)));
             kept = q .kept;
           }
+
+      pub write-selects : (w : List ℕ) (r : Written) → addr ≡ base → Keeps l w (writing (view w) r ≡ writeAt (view l) 0 (x % 2 ^ 32))
+          → Wrote l w r (handleWriting (view l) addr width x)
+      write-selects w r k q = let o : addr - base ≡ 0 = omega arith in write-served w r (omega arith) (subst⁻¹ (λ (n : ℕ). Keeps l w (writing (view w) r ≡ writeAt (view l) n (x % 2 ^ 32))) o q)
 
 -- what such a write leaves, in document 01's numbers
 pub wrote-leaves : (l w : List ℕ) (r : Written) (addr width x : ℕ) → Wrote l w r (handleWriting (view l) addr width x) → Leaves l w (writtenReply r) (handleWrite (view l) addr width x)

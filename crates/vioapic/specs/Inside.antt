@@ -7,7 +7,7 @@ use lib.ListN.{getD, set}
 use Rattle.utils.specs.Set.{with, marked}
 use Rattle.types.specs.declared.Vector.{Vector}
 use Rattle.vioapic_entry.specs.Answers.{isRouted}
-use Rattle.vioapic_entry.specs.Redirection.{withDeferred, awaits, endEntry20, keepsDeferred, storeLow20}
+use Rattle.vioapic_entry.specs.Redirection.{withDeferred, awaits, endEntry20, keepsDeferred}
 use Rattle.vioapic_entry.specs.declared.Entry.{Entry}
 use Rattle.vioapic.specs.State.{IoApicState, spare}
 use Rattle.vioapic.specs.Table.{Ending, ending, entryAt, withEntries, put, everyAnswer}
@@ -39,14 +39,9 @@ pub record Quiet (e : Entry) : Type 0 where
   pub undeferred : e .«pending_level» ≡ false
   pub down : e .«input_level» ≡ false
 
--- the first half of a low word's write in version 0x20: what was deferred
-abbrev pub forgetting : Entry → ℕ → Entry
-forgetting e x = cond (keepsDeferred (e .word) x) e (withDeferred e false)
-
--- and the whole of it: entry g is as it is stored, and which register that is
-pub record StoredLow (before after : IoApicState) (g x word : ℕ) : Type 0 where
-  pub state : after ≡ put before g (storeLow20 (entryAt before g) x)
-  pub register : word ≡ entryAt after g .word
+-- what was deferred, after a low word was written over the register w
+abbrev pub forgetting : ℕ → Entry → ℕ → Entry
+forgetting w e x = cond (keepsDeferred w x) e (withDeferred e false)
 
 -- an EOI of version 0x20 that has come this far, in one number: the set of the GSIs that have ended, and of those sent again
 abbrev pub clearedIn : Ends → ℕ

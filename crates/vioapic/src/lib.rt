@@ -21,15 +21,15 @@ ghost use mathlib.Core.Path.{_≡_};
 ghost use mathlib.Core.Bool.{true, false};
 ghost use Prim.Native.Nat.{_<_, _%_, _^_};
 ghost use Rattle.vioapic_entry.specs.Answers.{routedReply};
-ghost use Rattle.vioapic_entry.specs.Redirection.{vectorOf, remoteIrr, isLevel, withRemoteIrr, withoutRemoteIrr, withWord, withDeferred, withInput, awaits, sendEntry, raiseEntry, lowerEntry, endEntry, endEntry20, writeLow, writeHigh, isOwed, writeLow20};
+ghost use Rattle.vioapic_entry.specs.Redirection.{vectorOf, remoteIrr, isLevel, withRemoteIrr, withoutRemoteIrr, withWord, withDeferred, withInput, awaits, sendEntry, raiseEntry, lowerEntry, endEntry, endEntry20, writeLow, writeHigh, isOwed, replaceLow20, writeLow20};
 ghost use Rattle.vioapic_entry.specs.declared.Routed.the-variants.{Interrupt};
 ghost use Rattle.vioapic.specs.Answers.{eoiReply, everyReply, gsiVectorReply, readReply, writtenReply, rangeReply, endedReply};
 ghost use Rattle.vioapic.specs.declared.IoApicVersion.the-variants.{V11};
 ghost use Rattle.vioapic.specs.State.{view, newWords};
 ghost use Rattle.vioapic.specs.Table.{isVersion20, entryAt, put, routing, routeAt, ending, firstAwaiting, endOfEntry, everyAnswer, endOfEvery, vectorOfEntry};
-ghost use Rattle.vioapic.specs.Registers.{isEntryWord, isLow, entryOf, versionWord, readFixed, readLow, readWord, readSelected, writing, writtenSend, writeSelected, readAt, writtenBy, writeEoi, writeAt};
+ghost use Rattle.vioapic.specs.Registers.{isEntryWord, isLow, entryOf, versionWord, readFixed, readLow, readSelected, writing, writtenSend, writeSelected, readAt, writtenBy, writeEoi, writeAt};
 ghost use Rattle.vioapic.specs.IoApic.{goodWidth, fits, versionNumber, versionOf, isVersion, chipAt, newDefault, Leaves, Wrote, Makes, createdVersion, vectorForGsi, addressRange, assertGsi, setGsiLevel, endOfInterrupt, handleRead, handleWriting};
-ghost use Rattle.vioapic.specs.Inside.{Keeps, putFlag, withLow, NoneDeferred, Quiet, forgetting, StoredLow, everyEnd, endNext, everyEnding, clearedIn, sentIn};
+ghost use Rattle.vioapic.specs.Inside.{Keeps, putFlag, withLow, NoneDeferred, Quiet, forgetting, everyEnd, endNext, everyEnding, clearedIn, sentIn};
 
 pub const IOAPIC_BASE: u64 = 0xfec0_0000;
 
@@ -346,8 +346,8 @@ fn fly(words: &mut [u64; 32], g: usize, word: u64)
     ensures { λ _. ⌜ Keeps (now (words .entry)) (now (words .exit)) (view (now (words .exit)) ≡ put (view (now (words .entry))) g (withWord (entryAt (view (now (words .entry))) g) (withRemoteIrr word))) ⌝ }
 {
     seen(&*words);
-    words[g] = vioapic_entry::with_remote_irr(word);
     set_flag(&mut *words, IN_FLIGHT, g, true);
+    words[g] = vioapic_entry::with_remote_irr(words[g]);
 }
 
 // It is clear, and the line isn't.
@@ -655,14 +655,26 @@ fn read_selected_register(words: &[u64; 32]) -> u64
 {
     let selected = selector(words);
     if is_entry_word(selected) {
-        let entry = entry_in(words, entry_of(selected));
-        // A road for each version is shorter than one for both.
-        if is_version_20(words) {
-            return read_word(true, selected, entry);
+        let word = word_at(words, entry_of(selected));
+        if is_low(selected) {
+            return read_low(words, word % 0x1_0000_0000);
         }
-        return read_word(false, selected, entry);
+        return word / 0x1_0000_0000;
     }
     read_fixed(words[VERSION], selected)
+}
+
+// The low word of an entry. The usual case first: Delivery Status is clear, so that the version doesn't matter.
+fn read_low(words: &[u64; 32], low: u64) -> u64
+    ensures { λ r. ⌜ r ≡ readLow (isVersion20 (view (now (words .entry)))) low ⌝ }
+{
+    if !vioapic_entry::has_status(low) {
+        return low;
+    }
+    if is_version_20(words) {
+        return vioapic_entry::without_status(low);
+    }
+    low
 }
 
 fn read_at(words: &[u64; 32], offset: u64) -> u64
@@ -677,18 +689,29 @@ fn read_at(words: &[u64; 32], offset: u64) -> u64
     0
 }
 
-// Handles an IO APIC MMIO read.
-pub fn handle_read(words: &[u64; 32], addr: u64, width: u64) -> Read
-    ensures { λ r. ⌜ readReply r ≡ handleRead (view (now (words .entry))) addr width ⌝ }
+// A read of a good width.
+fn read_within(words: &[u64; 32], addr: u64) -> Read
+    ensures { λ r. ⌜ readReply r ≡ handleRead (view (now (words .entry))) addr 4 ⌝ }
 {
-    if !good_width(width) {
-        return Read::NotRead(Refusal::Unsupported);
-    }
     let start = base(words);
     if addr < start {
         return Read::NotRead(Refusal::InvalidAddress);
     }
     Read::Value(read_at(words, addr - start))
+}
+
+// Handles an IO APIC MMIO read.
+pub fn handle_read(words: &[u64; 32], addr: u64, width: u64) -> Read
+    ensures { λ r. ⌜ readReply r ≡ handleRead (view (now (words .entry))) addr width ⌝ }
+{
+    // In two arms, of which the compiler asks the second first: the usual width.
+    if width == 8 {
+        return read_within(words, addr);
+    }
+    if width == 4 {
+        return read_within(words, addr);
+    }
+    Read::NotRead(Refusal::Unsupported)
 }
 
 // The register is `after`, which isn't in flight.
@@ -707,6 +730,19 @@ fn write_low(words: &mut [u64; 32], g: usize, value: u32)
     requires { ⌜ g < 24 ⌝ }
     ensures { λ _. ⌜ Keeps (now (words .entry)) (now (words .exit)) (view (now (words .exit)) ≡ put (view (now (words .entry))) g (writeLow (entryAt (view (now (words .entry))) g) value)) ⌝ }
 {
+    // As mostly, and found at once: nothing is there to be forgotten.
+    if none_deferred(&*words) {
+        let register = word_at(&*words, g);
+        if !vioapic_entry::same_low(register, value as u64) {
+            ground(
+                &mut *words,
+                g,
+                register,
+                vioapic_entry::replace_low(register, value),
+            );
+        }
+        return;
+    }
     let word = word_at(&*words, g);
     if !vioapic_entry::same_low(word, value as u64) {
         set_deferred(&mut *words, g, false);
@@ -723,10 +759,26 @@ fn write_low(words: &mut [u64; 32], g: usize, value: u32)
     }
 }
 
-// Version 0x20: what was deferred is forgotten, unless the low word that is there is written, unmasked.
-fn forget(words: &mut [u64; 32], g: usize, word: u64, value: u32)
+// Version 0x20: the register takes a low word. First as one that isn't in flight, whatever it was: so it is one store of the lower half.
+fn lay(words: &mut [u64; 32], g: usize, word: u64, value: u32)
     requires { ⌜ (g < 24) × (word ≡ entryAt (view (now words)) g .word) ⌝ }
-    ensures { λ _. ⌜ Keeps (now (words .entry)) (now (words .exit)) (view (now (words .exit)) ≡ put (view (now (words .entry))) g (forgetting (entryAt (view (now (words .entry))) g) value)) ⌝ }
+    ensures { λ _. ⌜ Keeps (now (words .entry)) (now (words .exit)) (view (now (words .exit)) ≡ put (view (now (words .entry))) g (withWord (entryAt (view (now (words .entry))) g) (replaceLow20 word value))) ⌝ }
+{
+    seen(&*words);
+    words[g] = vioapic_entry::replace_resting(word, value);
+    if vioapic_entry::remote_irr(word) {
+        if vioapic_entry::is_level(value as u64) {
+            words[g] = vioapic_entry::replace_level(word, value);
+            return;
+        }
+        set_flag(&mut *words, IN_FLIGHT, g, false);
+    }
+}
+
+// What was deferred is forgotten, unless the low word that was there is written, unmasked. `word` is the register before.
+fn forget(words: &mut [u64; 32], g: usize, word: u64, value: u32)
+    requires { ⌜ g < 24 ⌝ }
+    ensures { λ _. ⌜ Keeps (now (words .entry)) (now (words .exit)) (view (now (words .exit)) ≡ put (view (now (words .entry))) g (forgetting word (entryAt (view (now (words .entry))) g) value)) ⌝ }
 {
     // As mostly, and found at once.
     if none_deferred(&*words) {
@@ -736,31 +788,6 @@ fn forget(words: &mut [u64; 32], g: usize, word: u64, value: u32)
         return;
     }
     set_deferred(&mut *words, g, false);
-}
-
-// The register is `after`, which is in flight only if it was.
-fn replace(words: &mut [u64; 32], g: usize, word: u64, after: u64)
-    requires { ⌜ (g < 24) × (word ≡ entryAt (view (now words)) g .word) × (remoteIrr after ≡ true → remoteIrr word ≡ true) ⌝ }
-    ensures { λ _. ⌜ Keeps (now (words .entry)) (now (words .exit)) (view (now (words .exit)) ≡ put (view (now (words .entry))) g (withWord (entryAt (view (now (words .entry))) g) after)) ⌝ }
-{
-    if vioapic_entry::remote_irr(after) {
-        seen(&*words);
-        words[g] = after;
-        return;
-    }
-    ground(&mut *words, g, word, after);
-}
-
-// The low word is stored. Answers the register.
-fn store_low20(words: &mut [u64; 32], g: usize, value: u32) -> u64
-    requires { ⌜ g < 24 ⌝ }
-    ensures { λ r. ⌜ Keeps (now (words .entry)) (now (words .exit)) (StoredLow (view (now (words .entry))) (view (now (words .exit))) g value r) ⌝ }
-{
-    let word = word_at(&*words, g);
-    let after = vioapic_entry::replace_low20(word, value);
-    forget(&mut *words, g, word, value);
-    replace(&mut *words, g, word, after);
-    after
 }
 
 // A level entry, its line up, that isn't in flight. `word` is its register.
@@ -785,7 +812,8 @@ fn is_quiet(words: &[u64; 32], g: usize) -> bool
     if !none_deferred(words) {
         return false;
     }
-    !is_up(words, g)
+    // By the lower half of the word: the compiler then doesn't make the line's bit for what comes after.
+    !set32::has((words[INPUT] % 0x1_0000_0000) as u32, g as u32)
 }
 
 // And the entry is sent if it is owed that. One in flight isn't: with a level word it stays in flight, and an edge one isn't owed anything. Else the usual case first:
@@ -795,22 +823,18 @@ fn write_low20(words: &mut [u64; 32], g: usize, value: u32) -> Routed
     ensures { λ r. ⌜ Keeps (now (words .entry)) (now (words .exit)) (routing (view (now (words .exit))) r ≡ routeAt (view (now (words .entry))) g (writeLow20 (entryAt (view (now (words .entry))) g) value)) ⌝ }
 {
     let word = word_at(&*words, g);
+    lay(&mut *words, g, word, value);
     if vioapic_entry::remote_irr(word) {
-        store_low20(&mut *words, g, value);
+        forget(&mut *words, g, word, value);
         return Routed::NotRouted;
     }
     if is_quiet(&*words, g) {
-        ground(
-            &mut *words,
-            g,
-            word,
-            vioapic_entry::replace_resting(word, value),
-        );
         return Routed::NotRouted;
     }
-    let word = store_low20(&mut *words, g, value);
-    if is_owed(&*words, g, word) {
-        return interrupt_for_entry(&mut *words, g, word);
+    forget(&mut *words, g, word, value);
+    let after = vioapic_entry::replace_resting(word, value);
+    if is_owed(&*words, g, after) {
+        return interrupt_for_entry(&mut *words, g, after);
     }
     Routed::NotRouted
 }
@@ -871,22 +895,25 @@ fn with_low(word: u64, value: u32) -> u64
     word / 0x1_0000_0000 * 0x1_0000_0000 + value as u64
 }
 
+// IOREGSEL.
+fn select(words: &mut [u64; 32], value: u32) -> Written
+    ensures { λ r. ⌜ Keeps (now (words .entry)) (now (words .exit)) (writing (view (now (words .exit))) r ≡ writeAt (view (now (words .entry))) 0 value) ⌝ }
+{
+    seen(&*words);
+    words[SELECTOR] = with_low(words[SELECTOR], value);
+    Written::Done
+}
+
+// Any other offset. Of two tests in a row the compiler asks the second first: the window's.
 fn write_at(words: &mut [u64; 32], offset: u64, value: u32) -> Written
+    requires { ⌜ 0 < offset ⌝ }
     ensures { λ r. ⌜ Keeps (now (words .entry)) (now (words .exit)) (writing (view (now (words .exit))) r ≡ writeAt (view (now (words .entry))) offset value) ⌝ }
 {
-    if offset <= IOWIN {
-        if offset == IOREGSEL {
-            seen(&*words);
-            words[SELECTOR] = with_low(words[SELECTOR], value);
-            return Written::Done;
-        }
-        if offset == IOWIN {
-            return write_selected_register(&mut *words, value);
-        }
-        return Written::Done;
-    }
     if offset == IOEOI {
         return write_eoi(&mut *words, value);
+    }
+    if offset == IOWIN {
+        return write_selected_register(&mut *words, value);
     }
     Written::Done
 }
@@ -899,6 +926,9 @@ pub fn handle_write(words: &mut [u64; 32], addr: u64, width: u64, value: u64) ->
         return Written::NotWritten(Refusal::Unsupported);
     }
     let start = base(&*words);
+    if addr == start {
+        return select(&mut *words, (value % 0x1_0000_0000) as u32);
+    }
     if addr < start {
         return Written::NotWritten(Refusal::InvalidAddress);
     }
@@ -1038,24 +1068,6 @@ fn is_low(selector: u32) -> bool
     ensures { λ r. ⌜ r ≡ isLow selector ⌝ }
 {
     selector % 2 == 0
-}
-
-fn read_word(version20: bool, selector: u32, entry: Entry) -> u64
-    ensures { λ r. ⌜ r ≡ readWord version20 selector entry ⌝ }
-{
-    if is_low(selector) {
-        return read_low(version20, entry.word % 0x1_0000_0000);
-    }
-    entry.word / 0x1_0000_0000
-}
-
-fn read_low(version20: bool, word: u64) -> u64
-    ensures { λ r. ⌜ r ≡ readLow version20 word ⌝ }
-{
-    if version20 {
-        return vioapic_entry::without_status(word);
-    }
-    word
 }
 
 fn good_width(width: u64) -> bool

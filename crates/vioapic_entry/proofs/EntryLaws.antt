@@ -10,7 +10,7 @@ use Rattle.utils.specs.Cases.{and-right-no}
 use Rattle.utils.proofs.Bools.{both, and-true, not-is}
 use Rattle.vioapic_entry.specs.Redirection.{EntryStep, isFixed, isFit, isLevel, isMasked, remoteIrr, sameLow, withRemoteIrr, withoutRemoteIrr, replaceLow, replaceHigh, withWord, withDeferred, withInput, quietly, sending, settled, sendEntry, raiseEntry, lowerEntry, moveLine, endEntry, endEntry20, writeLow, writeHigh, withoutStatus, sameLow20, keepsFlight, replaceLow20, keepsDeferred, storeLow20, isOwed, writeLow20}
 use Rattle.vioapic_entry.specs.declared.Entry.{Entry}
-use Rattle.vioapic_entry.proofs.Fields.{same-fit, same-level, alike-without, alike-low20, irr-without, irr-low20}
+use Rattle.vioapic_entry.proofs.Fields.{same-fit, same-level, alike-without, alike-low20, level-low, irr-without, irr-low20}
 
 -- an entry whose line stands so already
 input-same : (e : Entry) (b : Bool) → e .«input_level» ≡ b → withInput e b ≡ e
@@ -145,21 +145,22 @@ module _ (e : Entry) where
 
 -- the ways out of version 0x20's functions
 module _ (w x : ℕ) where
-  pub flight-level : (a r : Bool) → a ≡ isLevel x → a ≡ true → r ≡ remoteIrr w → r ≡ keepsFlight w x
-  flight-level a r e h q = rw (sym e ∙ h) q
-
-  pub flight-edge : (a : Bool) → a ≡ isLevel x → a ≡ false → false ≡ keepsFlight w x
-  flight-edge a e h = rw (sym e ∙ h)
-
   pub low-resting : (r z : ℕ) → z ≡ withoutStatus x → r ≡ replaceLow w z → r ≡ replaceLow w (withoutStatus x)
   low-resting r z q p = p ∙ ap (replaceLow w) q
 
-  module _ (b : Bool) (y : ℕ) (is : b ≡ keepsFlight w x) (put : y ≡ replaceLow w (withoutStatus x)) where
-    pub low-flying : (r : ℕ) → b ≡ true → r ≡ withRemoteIrr y → r ≡ replaceLow20 w x
-    low-flying r h q = rw (sym is ∙ h) (q ∙ ap withRemoteIrr put)
+  pub low-level : (m n : ℕ) → m ≡ withoutStatus x → n ≡ withoutRemoteIrr m
+      → w / 4294967296 * 4294967296 + w / 16384 % 2 * 16384 + n ≡ cond (remoteIrr w) (withRemoteIrr (replaceLow w (withoutStatus x))) (replaceLow w (withoutStatus x))
+  low-level m n q p = ap (λ (z : ℕ). w / 4294967296 * 4294967296 + w / 16384 % 2 * 16384 + z) (p ∙ ap withoutRemoteIrr q) ∙ level-low w (withoutStatus x)
 
-    pub low-still : b ≡ false → y ≡ replaceLow20 w x
-    low-still h = rw (sym is ∙ h) put
+  -- a level word keeps Remote IRR; with an edge one it is clear, and where it was clear it stays so
+  pub flight-level : isLevel x ≡ true → cond (remoteIrr w) (withRemoteIrr (replaceLow w (withoutStatus x))) (replaceLow w (withoutStatus x)) ≡ replaceLow20 w x
+  flight-level h = rw h
+
+  pub flight-edge : isLevel x ≡ false → replaceLow w (withoutStatus x) ≡ replaceLow20 w x
+  flight-edge h = rw h
+
+  pub flight-still : remoteIrr w ≡ false → replaceLow w (withoutStatus x) ≡ replaceLow20 w x
+  flight-still h = rw (and-right-no (isLevel x) (remoteIrr w) h)
 
   module _ (a : Bool) (y z : ℕ) (before : y ≡ withoutStatus w) (after : z ≡ withoutStatus x) (is : a ≡ sameLow y z) where
     sames : (b : Bool) → a ≡ b → sameLow20 w x ≡ b

@@ -1,9 +1,10 @@
 -- What setting and clearing Remote IRR, and writing a half of the register, do to its fields. Assumes nothing.
-use Prim.Native.Nat.{ℕ, _+_, _*_, _/_, _%_, _<_}
+use Prim.Native.Nat.{ℕ, zero, suc, _+_, _*_, _/_, _%_, _<_}
 use native.Mathlib.Omega.{arith}
 use mathlib.Core.Bool.{Bool, true, false, cond}
 use mathlib.Core.Path.{_≡_, refl, sym, _∙_, ap}
-use borrow.Author.Tests.{eq-eqb, ne-eqb}
+use borrow.Author.Tests.{eq-eqb, ne-eqb, eqb-true, eqb-false}
+use Rattle.utils.specs.Set.{bit}
 use Rattle.types.specs.declared.Vector.{Vector}
 use Rattle.vioapic_entry.specs.Redirection.{remoteIrr, isLevel, isFit, hasVector, withRemoteIrr, withoutRemoteIrr, lowPart, replaceLow, replaceHigh, withoutStatus, keepsFlight, replaceLow20}
 
@@ -69,6 +70,26 @@ pub low-written : (w x : ℕ) → x < 4294967296 → lowPart (replaceLow w x) �
 low-written w x h = omega arith
 
 -- ---- version 0x20
+
+bit-down : (n : ℕ) → n < 2 → (n ≡ 1 → ⊥) → n ≡ 0
+bit-down zero h k = refl
+bit-down (suc zero) h k = absurd (k refl)
+bit-down (suc (suc n)) h k = absurd (omega arith)
+
+-- a level word: Remote IRR is taken over as it stands
+pub level-low : (w x : ℕ) → w / 4294967296 * 4294967296 + w / 16384 % 2 * 16384 + withoutRemoteIrr x ≡ cond (remoteIrr w) (withRemoteIrr (replaceLow w x)) (replaceLow w x)
+level-low w x = go (remoteIrr w) refl
+  where
+    go : (b : Bool) → remoteIrr w ≡ b → w / 4294967296 * 4294967296 + w / 16384 % 2 * 16384 + withoutRemoteIrr x ≡ cond b (withRemoteIrr (replaceLow w x)) (replaceLow w x)
+    go true h = let e : w / 16384 % 2 ≡ 1 = eqb-true (w / 16384 % 2) 1 h in omega (arith, e)
+    go false h =
+        let e : w / 16384 % 2 ≡ 0 = bit-down (w / 16384 % 2) (omega arith) (eqb-false (w / 16384 % 2) 1 h) in
+        omega (arith, e)
+
+pub status-clear : (w : ℕ) → bit w 12 ≡ false → withoutStatus w ≡ w
+status-clear w h =
+    let e : w / 4096 % 2 ≡ 0 = bit-down (w / 4096 % 2) (omega arith) (eqb-false (w / 4096 % 2) 1 h) in
+    omega (arith, e)
 
 alike-status : (x : ℕ) → Alike (withoutStatus x) x
 alike-status x =

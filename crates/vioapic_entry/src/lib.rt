@@ -7,8 +7,10 @@
 use types::Reply;
 use types::Vector;
 ghost use mathlib.Core.Path.{_≡_};
+ghost use mathlib.Core.Bool.{cond};
+ghost use Rattle.utils.specs.Set.{bit};
 ghost use Rattle.vioapic_entry.specs.Answers.{interruptReply, routedReply, isRouted};
-ghost use Rattle.vioapic_entry.specs.Redirection.{vectorOf, remoteIrr, isLevel, isMasked, withRemoteIrr, withoutRemoteIrr, isFit, sameLow, replaceLow, replaceHigh, withoutStatus, keepsFlight, replaceLow20, keepsDeferred, awaits};
+ghost use Rattle.vioapic_entry.specs.Redirection.{vectorOf, remoteIrr, isLevel, isMasked, withRemoteIrr, withoutRemoteIrr, isFit, sameLow, replaceLow, replaceHigh, withoutStatus, keepsDeferred, awaits};
 
 // A redirection entry: its register, whether a level interrupt was deferred, and the level of its input line.
 pub struct Entry {
@@ -127,19 +129,16 @@ pub fn replace_high(word: u64, value: u32) -> u64
 
 // Version 0x20, in which Delivery Status and Remote IRR are read-only.
 
+pub fn has_status(word: u64) -> bool
+    ensures { λ r. ⌜ r ≡ bit word 12 ⌝ }
+{
+    word / 0x1000 % 2 == 1
+}
+
 pub fn without_status(word: u64) -> u64
     ensures { λ r. ⌜ r ≡ withoutStatus word ⌝ }
 {
     word / 0x2000 * 0x2000 + word % 0x1000
-}
-
-fn keeps_flight(word: u64, value: u64) -> bool
-    ensures { λ r. ⌜ r ≡ keepsFlight word value ⌝ }
-{
-    if is_level(value) {
-        return remote_irr(word);
-    }
-    false
 }
 
 // The register of an entry that isn't in flight.
@@ -149,14 +148,13 @@ pub fn replace_resting(word: u64, value: u32) -> u64
     replace_low(word, without_status(value as u64) as u32)
 }
 
-pub fn replace_low20(word: u64, value: u32) -> u64
-    ensures { λ r. ⌜ r ≡ replaceLow20 word value ⌝ }
+// With a level word: Remote IRR stays as it is. By the word alone, and not by what `replace_resting` gives, so that nothing waits for that.
+pub fn replace_level(word: u64, value: u32) -> u64
+    ensures { λ r. ⌜ r ≡ cond (remoteIrr word) (withRemoteIrr (replaceLow word (withoutStatus value))) (replaceLow word (withoutStatus value)) ⌝ }
 {
-    let after = replace_resting(word, value);
-    if keeps_flight(word, value as u64) {
-        return with_remote_irr(after);
-    }
-    after
+    word / 0x1_0000_0000 * 0x1_0000_0000
+        + word / 0x4000 % 2 * 0x4000
+        + without_remote_irr(without_status(value as u64))
 }
 
 pub fn keeps_deferred(word: u64, value: u32) -> bool

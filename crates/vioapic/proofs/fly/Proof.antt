@@ -6,6 +6,15 @@ use Rattle.vioapic.proofs.fly.Tie as tie
 seen-requires : tie.Need-seen-requires
 seen-requires c κs = search needs
 
+set-flag-requires : tie.Need-set-flag-requires
+set-flag-requires c κs = search needs
+
+mul-with-remote-irr : tie.Need-mul-with-remote-irr
+mul-with-remote-irr c = search needs
+
+element-copy-out-with-remote-irr : tie.Need-element-copy-out-with-remote-irr
+element-copy-out-with-remote-irr c = search needs
+
 with-remote-irr-requires : tie.Need-with-remote-irr-requires
 with-remote-irr-requires c κs = search needs
 
@@ -15,9 +24,6 @@ mul-words c = search needs
 element-write-words : tie.Need-element-write-words
 element-write-words c = search needs
 
-set-flag-requires : tie.Need-set-flag-requires
-set-flag-requires c κs = search needs
-
 returns : tie.Need-returns
 returns c = search fly-is
 
@@ -26,8 +32,10 @@ fly-spec =
     tie.close
     (tie.spec
     seen-requires
+    set-flag-requires
+    mul-with-remote-irr
+    element-copy-out-with-remote-irr
     with-remote-irr-requires
     mul-words
     element-write-words
-    set-flag-requires
     returns)

@@ -1,4 +1,4 @@
-use Rattle.vioapic.proofs.Entries.{forgot-none, forgot-nothing, forgot}
+use Rattle.vioapic.proofs.Entries.{forgot, forgot-none, forgot-nothing}
 use borrow.Author.Needs.{needs}
 use Rattle.vioapic.proofs.forget.Statement.{statement}
 use Rattle.vioapic.proofs.forget.Tie as tie

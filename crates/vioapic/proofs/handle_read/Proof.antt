@@ -1,27 +1,23 @@
-use Rattle.vioapic.proofs.Ways.{read-width, read-below, read-served}
+use Rattle.vioapic.proofs.Ways.{read-eight, read-four, read-width}
 use borrow.Author.Needs.{needs}
 use Rattle.vioapic.proofs.handle_read.Statement.{statement}
 use Rattle.vioapic.proofs.handle_read.Tie as tie
 
-good-width-requires : tie.Need-good-width-requires
-good-width-requires c κs = search needs
+read-within-requires : tie.Need-read-within-requires
+read-within-requires c κs = search needs
 
 returns : tie.Need-returns
-returns c = search read-width
+returns c = search read-eight
 
-base-requires : tie.Need-base-requires
-base-requires c κs = search needs
+read-within-requires-2 : tie.Need-read-within-requires-2
+read-within-requires-2 c κs = search needs
 
 returns-2 : tie.Need-returns-2
-returns-2 c = search read-below
-
-read-at-requires : tie.Need-read-at-requires
-read-at-requires c κs = search needs
+returns-2 c = search read-four
 
 returns-3 : tie.Need-returns-3
-returns-3 c = search read-served
+returns-3 c = search read-width
 
 pub handle-read-spec : {M : Type 1} → statement M
 handle-read-spec =
-    tie.close
-    (tie.spec good-width-requires returns base-requires returns-2 read-at-requires returns-3)
+    tie.close (tie.spec read-within-requires returns read-within-requires-2 returns-2 returns-3)

@@ -1,5 +1,5 @@
 use Rattle.utils.specs.Cases.{cases}
-use Rattle.vioapic.proofs.Ways.{read-entry, read-other}
+use Rattle.vioapic.proofs.Ways.{read-high-word, read-low-word, read-other}
 use borrow.Author.Needs.{needs}
 use Rattle.vioapic.proofs.read_selected_register.Statement.{statement}
 use Rattle.vioapic.proofs.read_selected_register.Tie as tie
@@ -13,23 +13,20 @@ is-entry-word-requires c κs = search needs
 entry-of-requires : tie.Need-entry-of-requires
 entry-of-requires c κs = search cases
 
-entry-in-requires : tie.Need-entry-in-requires
-entry-in-requires c κs = search needs
+word-at-requires : tie.Need-word-at-requires
+word-at-requires c κs = search needs
 
-is-version-20-requires : tie.Need-is-version-20-requires
-is-version-20-requires c κs = search needs
+is-low-requires : tie.Need-is-low-requires
+is-low-requires c κs = search needs
 
-read-word-requires : tie.Need-read-word-requires
-read-word-requires c κs = search needs
+read-low-requires : tie.Need-read-low-requires
+read-low-requires c κs = search needs
 
 returns : tie.Need-returns
-returns c = search read-entry
-
-read-word-requires-2 : tie.Need-read-word-requires-2
-read-word-requires-2 c κs = search needs
+returns c = search read-low-word
 
 returns-2 : tie.Need-returns-2
-returns-2 c = search read-entry
+returns-2 c = search read-high-word
 
 element-copy-out-read-fixed : tie.Need-element-copy-out-read-fixed
 element-copy-out-read-fixed c = search needs
@@ -47,11 +44,10 @@ read-selected-register-spec =
     selector-requires
     is-entry-word-requires
     entry-of-requires
-    entry-in-requires
-    is-version-20-requires
-    read-word-requires
+    word-at-requires
+    is-low-requires
+    read-low-requires
     returns
-    read-word-requires-2
     returns-2
     element-copy-out-read-fixed
     read-fixed-requires

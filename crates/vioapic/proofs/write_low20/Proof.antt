@@ -1,4 +1,4 @@
-use Rattle.vioapic.proofs.Entries.{irr-low-of, low20-flown, low20-rested, low20-sent, low20-unsent}
+use Rattle.vioapic.proofs.Entries.{low20-flown, low20-rested, low20-sent, low20-unsent, word-stored}
 use borrow.Author.Needs.{needs}
 use Rattle.vioapic.proofs.write_low20.Statement.{statement}
 use Rattle.vioapic.proofs.write_low20.Tie as tie
@@ -6,11 +6,14 @@ use Rattle.vioapic.proofs.write_low20.Tie as tie
 word-at-requires : tie.Need-word-at-requires
 word-at-requires c κs = search needs
 
+lay-requires : tie.Need-lay-requires
+lay-requires c κs = search needs
+
 remote-irr-requires : tie.Need-remote-irr-requires
 remote-irr-requires c κs = search needs
 
-store-low20-requires : tie.Need-store-low20-requires
-store-low20-requires c κs = search needs
+forget-requires : tie.Need-forget-requires
+forget-requires c κs = search needs
 
 returns : tie.Need-returns
 returns c = search low20-flown
@@ -18,23 +21,20 @@ returns c = search low20-flown
 is-quiet-requires : tie.Need-is-quiet-requires
 is-quiet-requires c κs = search needs
 
-replace-resting-requires : tie.Need-replace-resting-requires
-replace-resting-requires c κs = search needs
-
-ground-requires : tie.Need-ground-requires
-ground-requires c κs = search (needs, irr-low-of)
-
 returns-2 : tie.Need-returns-2
 returns-2 c = search low20-rested
 
-store-low20-requires-2 : tie.Need-store-low20-requires-2
-store-low20-requires-2 c κs = search needs
+forget-requires-2 : tie.Need-forget-requires-2
+forget-requires-2 c κs = search needs
+
+replace-resting-requires : tie.Need-replace-resting-requires
+replace-resting-requires c κs = search needs
 
 is-owed-requires : tie.Need-is-owed-requires
-is-owed-requires c κs = search needs
+is-owed-requires c κs = (search needs, word-stored _ _ _ _ _ (search needs) (c .before .before .before .before .before .before .before .before .before .before .before .word-at .ensures) _ (c .before .before .before .before .before .before .before .before .remote-irr .ensures) (c .before .before .before .before .before .before .before .before .before .lay .ensures) _ (c .before .before .forget2 .ensures) _ (c .before .before .before .before .before .before .before .if1 .left) (c .before .replace-resting .ensures))
 
 interrupt-for-entry-requires : tie.Need-interrupt-for-entry-requires
-interrupt-for-entry-requires c κs = search needs
+interrupt-for-entry-requires c κs = (search needs, word-stored _ _ _ _ _ (search needs) (c .before .before .before .before .before .before .before .before .before .before .before .before .before .before .word-at .ensures) _ (c .before .before .before .before .before .before .before .before .before .before .before .remote-irr .ensures) (c .before .before .before .before .before .before .before .before .before .before .before .before .lay .ensures) _ (c .before .before .before .before .before .forget2 .ensures) _ (c .before .before .before .before .before .before .before .before .before .before .if1 .left) (c .before .before .before .before .replace-resting .ensures))
 
 returns-3 : tie.Need-returns-3
 returns-3 c = search low20-sent
@@ -47,14 +47,14 @@ write-low20-spec =
     tie.close
     (tie.spec
     word-at-requires
+    lay-requires
     remote-irr-requires
-    store-low20-requires
+    forget-requires
     returns
     is-quiet-requires
-    replace-resting-requires
-    ground-requires
     returns-2
-    store-low20-requires-2
+    forget-requires-2
+    replace-resting-requires
     is-owed-requires
     interrupt-for-entry-requires
     returns-3
