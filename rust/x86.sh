@@ -19,7 +19,9 @@ if [ "$(uname -m)" != x86_64 ]; then
     if ! command -v rustc >/dev/null 2>&1 || [ ! -d "$(rustc --print sysroot)/lib/rustlib/$x86/lib" ]; then
         x86_rustc=/usr/bin/rustc
         x86_target="--sysroot $x86_home/sys $x86_target"
-        [ -x "$x86_rustc" ] && [ -d "$x86_home/sys/lib/rustlib/$x86/lib" ] || x86_lacks "Rust's standard library for $x86"
+        if [ ! -x "$x86_rustc" ] || [ ! -d "$x86_home/sys/lib/rustlib/$x86/lib" ]; then
+            x86_lacks "Rust's standard library for $x86"
+        fi
     fi
     if command -v x86_64-linux-gnu-gcc >/dev/null 2>&1; then
         # An amd64 C library that is installed is the one that programs find: the cross one beside it would be mixed with it.
