@@ -420,7 +420,7 @@ impl Pic for PicWords {
     }
     #[inline(always)]
     fn read(&mut self, port: u64, width: Width) -> Result<[u64; 1], impl Refusal> {
-        read(sillwander_pic_handle_read(&self.0, port, width as u64))
+        read(sillwander_pic_handle_read(&mut self.0, port, width as u64))
     }
     #[inline(always)]
     fn write(&mut self, port: u64, width: Width, value: u64) -> Result<[u64; 0], impl Refusal> {

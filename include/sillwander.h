@@ -116,12 +116,17 @@ uint64_t sillwander_ioapic_handle_write(uint64_t words[32], uint64_t addr, uint6
  * By rule 2 words 0 and 1 have, besides,
  *          bits 46..44  the line of highest priority, which stands after the lowest: 0 where line 7 is lowest
  *          bit  47      rotation in automatic EOI mode
- * and bits 63..48 are ignored. By the other rules bits 63..44 are. A new pair has all of them 0, and every other call keeps what is ignored.
+ *          bit  48      special mask mode
+ *          bit  49      a poll waits for the next read
+ *          bit  50      special fully nested mode (on the slave it does nothing)
+ * and bits 63..51 are ignored. By the other rules bits 63..44 are. A new pair has all of them 0, and every other call keeps what is ignored.
  *
  * Rule 1 is the 8259A's cascade: a call that changes the pair leaves the master's request 2 set exactly when a request of the slave counts, one that is unmasked and
  * above every line in service on the slave. By rule 0 request 2 is a latch, which a slave's line sets and one acknowledgement clears for all lines that wait.
  * Rule 2 is the full 8259A profile: rule 1's cascade, and each chip takes all eight OCW2 commands, rotation with them; its priorities, and with them which request
- * counts, start after the chip's lowest line. A restore doesn't turn priorities back.
+ * counts, start after the chip's lowest line. A restore doesn't turn priorities back. OCW3 and ICW4 are taken too: in special mask mode a masked line in service
+ * blocks none and no plain EOI ends it; after a poll command the next read of either port of that chip is an acknowledgement; in special fully nested mode the
+ * master takes line 2 again while it is in service. ICW1 clears the mask and every mode.
  */
 #define SILLWANDER_PIC_WORDS 4
 
@@ -134,8 +139,8 @@ uint64_t sillwander_pic_new_rule(uint64_t words[4], uint64_t rule);
 /* Writes the first and last port of the master and of the slave to ranges[0..3]. Answers 0. */
 uint64_t sillwander_pic_port_ranges(uint64_t ranges[4]);
 
-/* An edge on a line, and a claim of what can be delivered. Three values, vector, line and flags (1: the master's in-service bit was set by it, 2: the
-   slave's), or none. A line from 16 up does nothing. */
+/* An edge on a line, and a claim of what can be delivered. Three values, vector, line and flags (1: an in-service bit of the master's was set by it, 2: one of
+   the slave's), or none. A line from 16 up does nothing. */
 uint64_t sillwander_pic_claim_irq(uint64_t words[4], uint64_t irq);
 
 /* A claim of what can be delivered. Answers as sillwander_pic_claim_irq does. */
@@ -149,8 +154,9 @@ uint64_t sillwander_pic_next_interrupt(uint64_t words[4]);
    values, a vector above 255, a line from 16 up or flags above 3). */
 uint64_t sillwander_pic_restore_interrupt(uint64_t words[4], uint64_t claim);
 
-/* A port read: one value. Refused: 1 for a width other than 1 or a port that the pair doesn't have. */
-uint64_t sillwander_pic_handle_read(const uint64_t words[4], uint64_t port, uint64_t width);
+/* A port read: one value. By rule 2, where a poll waits on the port's chip, it is an acknowledgement, and shows 0x80 plus the line, or 0 where no request counts;
+   no other read changes the words. Refused: 1 for a width other than 1 or a port that the pair doesn't have. */
+uint64_t sillwander_pic_handle_read(uint64_t words[4], uint64_t port, uint64_t width);
 
 /* A port write, of the value's low 8 bits. Refused as a read is. */
 uint64_t sillwander_pic_handle_write(uint64_t words[4], uint64_t port, uint64_t width, uint64_t value);

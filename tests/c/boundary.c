@@ -746,6 +746,185 @@ static void rotating_priorities(void)
     CHECK(pic[0] >> 44 == 8 + 3);
 }
 
+/* A new pair of rule 2 whose chips are initialized with these ICW4s, line 7 lowest and nothing masked: ICW1 clears the mask. */
+static void initialized(unsigned master_icw4, unsigned slave_icw4)
+{
+    EXPECT(sillwander_pic_new_rule(pic, 2), NONE);
+    EXPECT(outb(0x20, 0x11), NONE);
+    EXPECT(outb(0x21, 0x08), NONE);
+    EXPECT(outb(0x21, 4), NONE);
+    EXPECT(outb(0x21, master_icw4), NONE);
+    EXPECT(outb(0xa0, 0x11), NONE);
+    EXPECT(outb(0xa1, 0x70), NONE);
+    EXPECT(outb(0xa1, 2), NONE);
+    EXPECT(outb(0xa1, slave_icw4), NONE);
+    EXPECT(inb(0x21), one(0));
+    EXPECT(inb(0xa1), one(0));
+}
+
+static unsigned serving(unsigned chip) { return pic[chip] >> 24 & 0xff; }
+static unsigned requested(unsigned chip) { return pic[chip] >> 16 & 0xff; }
+
+/* Rule 2: special mask mode, the poll command and special fully nested mode, each alone, in pairs and with rotation; the reasons are the data sheet's sections of these names. */
+static void modes_of_the_full_profile(void)
+{
+    start("special mask mode");
+    initialized(1, 1);
+    EXPECT(claim(1), three(0x09, 1, 1));
+    EXPECT(claim(3), NONE);         /* fully nested mode: line 1 in service blocks what isn't above it */
+    EXPECT(outb(0x21, 2), NONE);    /* its handler masks line 1 .. */
+    EXPECT(pending(), NONE);        /* .. which by itself lets nothing by */
+    EXPECT(outb(0x20, 0x28), NONE); /* SMM without ESMM chooses nothing */
+    EXPECT(pending(), NONE);
+    EXPECT(outb(0x20, 0x68), NONE); /* ESMM and SMM: masked lines in service block none */
+    EXPECT(pending(), three(0x0b, 3, 1));
+    EXPECT(claim(4), NONE);         /* line 3 is unmasked, and blocks as ever */
+    CHECK(serving(0) == 0x0a);
+    EXPECT(outb(0x20, 0x20), NONE); /* a plain EOI passes the masked line by */
+    CHECK(serving(0) == 0x02);
+    EXPECT(pending(), three(0x0c, 4, 1));
+    EXPECT(outb(0x20, 0x20), NONE);
+    EXPECT(outb(0x20, 0x20), NONE); /* line 1 alone is left, and masked: nothing ends */
+    CHECK(serving(0) == 0x02);
+    EXPECT(outb(0x20, 0x61), NONE); /* a specific EOI ends it */
+    CHECK(serving(0) == 0);
+    EXPECT(outb(0x20, 0x48), NONE); /* ESMM without SMM: off */
+    CHECK((pic[0] >> 48 & 1) == 0);
+
+    start("the poll command");
+    initialized(1, 1);
+    EXPECT(outb(0x20, 0x0c), NONE);
+    EXPECT(inb(0x20), one(0)); /* nothing counts, and the poll is over */
+    EXPECT(claim(3), three(0x0b, 3, 1));
+    EXPECT(outb(0x20, 0x20), NONE);
+    pic[0] |= 0x18ULL << 16; /* lines 3 and 4 ask, and the processor's pin isn't used */
+    EXPECT(outb(0x20, 0x0c), NONE);
+    EXPECT(outb(0x20, 0x0b), NONE); /* a write doesn't end it, and chooses what is read after it */
+    EXPECT(outb(0x21, 0x40), NONE);
+    EXPECT(inb(0xa0), one(0)); /* nor a read of the other chip */
+    EXPECT(inb(0x21), one(0x83)); /* either port: bit 7, and line 3, which is acknowledged */
+    CHECK(serving(0) == 8 && requested(0) == 0x10);
+    EXPECT(inb(0x21), one(0x40));
+    EXPECT(inb(0x20), one(8)); /* in service, by OCW3 0x0b */
+    EXPECT(outb(0x20, 0x0e), NONE); /* poll and read register: the poll answers first; line 3 in service blocks line 4 */
+    EXPECT(inb(0x20), one(0));
+    EXPECT(inb(0x20), one(0x10)); /* the requests */
+    EXPECT(outb(0x20, 0x08), NONE); /* no choice: the requests still */
+    EXPECT(inb(0x20), one(0x10));
+    EXPECT(outb(0x20, 0x0c), NONE);
+    EXPECT(outb(0x20, 0x11), NONE); /* ICW1 ends it */
+    CHECK((pic[0] >> 49 & 1) == 0);
+    REFUSED(pic_lent, sillwander_pic_handle_read(pic, 0x22, 1), SILLWANDER_UNSUPPORTED);
+
+    start("a poll of either chip of the pair");
+    initialized(1, 1);
+    pic[1] |= 3ULL << 16;
+    EXPECT(outb(0x20, 0x0c), NONE); /* settles the pair: lines 8 and 9 ask, so that line 2 does */
+    CHECK(requested(0) == 4);
+    EXPECT(inb(0x20), one(0x82)); /* on the master alone: the slave isn't acknowledged, and line 2 asks on */
+    CHECK(serving(0) == 4 && requested(0) == 4 && serving(1) == 0 && requested(1) == 3);
+    EXPECT(outb(0xa0, 0x0c), NONE);
+    EXPECT(inb(0xa0), one(0x80)); /* line 8; nothing else of the slave's counts, so that line 2 falls */
+    CHECK(serving(0) == 4 && requested(0) == 0 && serving(1) == 1 && requested(1) == 2);
+
+    start("special fully nested mode");
+    initialized(1, 1);
+    EXPECT(claim(9), three(0x71, 9, 3));
+    EXPECT(claim(8), NONE); /* without the mode line 2 in service blocks line 2 */
+    initialized(0x11, 1);
+    EXPECT(claim(9), three(0x71, 9, 3));
+    EXPECT(claim(3), NONE);              /* below line 2: blocked, in this mode too */
+    EXPECT(claim(10), NONE);             /* the slave's line 2 is below its line 1 */
+    EXPECT(claim(8), three(0x70, 8, 2)); /* line 2 is taken again: the claim sets the slave's bit alone */
+    CHECK(serving(0) == 4 && serving(1) == 3);
+    EXPECT(sillwander_pic_restore_interrupt(pic, claim_code(0x70, 8, 2)), NONE);
+    CHECK(serving(0) == 4 && serving(1) == 2 && requested(1) == 5); /* exact: line 2 stays in service for line 9 */
+    EXPECT(pending(), three(0x70, 8, 2));
+    EXPECT(claim(1), three(0x09, 1, 1)); /* above line 2 */
+    EXPECT(outb(0x20, 0x20), NONE);
+    EXPECT(outb(0xa0, 0x20), NONE);
+    EXPECT(outb(0xa0, 0x0b), NONE);
+    EXPECT(inb(0xa0), one(2)); /* the handler looks whether the slave serves more before it ends line 2 */
+    EXPECT(outb(0xa0, 0x20), NONE);
+    EXPECT(pending(), three(0x72, 10, 2));
+    EXPECT(outb(0xa0, 0x20), NONE);
+    EXPECT(outb(0x20, 0x20), NONE);
+    EXPECT(pending(), three(0x0b, 3, 1));
+    initialized(1, 0x11); /* on the slave the bit does nothing */
+    EXPECT(claim(10), three(0x72, 10, 3));
+    pic[1] |= 4ULL << 16;
+    EXPECT(outb(0xa0, 0x0c), NONE);
+    EXPECT(inb(0xa0), one(0));
+
+    start("special mask mode with the poll command");
+    initialized(1, 1);
+    EXPECT(claim(1), three(0x09, 1, 1));
+    EXPECT(claim(3), NONE);
+    EXPECT(outb(0x21, 2), NONE);
+    EXPECT(outb(0x20, 0x6c), NONE); /* both by one OCW3 */
+    EXPECT(inb(0x20), one(0x83));
+    CHECK(serving(0) == 0x0a);
+
+    start("special mask mode with special fully nested mode");
+    initialized(0x11, 1);
+    EXPECT(claim(9), three(0x71, 9, 3));
+    EXPECT(claim(3), NONE);
+    EXPECT(outb(0x20, 0x68), NONE);
+    EXPECT(pending(), NONE);     /* line 2 is unmasked, and blocks line 3 */
+    EXPECT(outb(0x21, 4), NONE); /* masked, it doesn't; nor does it take the slave's lines any more */
+    EXPECT(claim(8), three(0x0b, 3, 1));
+    CHECK(serving(0) == 0x0c && requested(0) == 4);
+
+    start("the poll command with special fully nested mode");
+    initialized(0x11, 1);
+    EXPECT(claim(9), three(0x71, 9, 3));
+    pic[1] |= 1ULL << 16;
+    EXPECT(outb(0x20, 0x0c), NONE);
+    EXPECT(inb(0x20), one(0x82)); /* line 2 again */
+    CHECK(serving(0) == 4 && requested(0) == 4);
+
+    start("rotation with special mask mode");
+    initialized(1, 1);
+    EXPECT(outb(0x20, 0xc3), NONE); /* line 3 lowest, so line 4 highest */
+    EXPECT(claim(4), three(0x0c, 4, 1));
+    EXPECT(claim(0), NONE);
+    EXPECT(outb(0x21, 0x10), NONE);
+    EXPECT(outb(0x20, 0x68), NONE);
+    EXPECT(pending(), three(0x08, 0, 1));
+    EXPECT(outb(0x20, 0xa0), NONE); /* the rotating plain EOI passes line 4 by: line 0 ends and is lowest */
+    CHECK(serving(0) == 0x10 && (pic[0] >> 44 & 7) == 1);
+    EXPECT(outb(0x20, 0xa0), NONE); /* line 4 alone is left, and masked: nothing, rotation included */
+    CHECK(serving(0) == 0x10 && (pic[0] >> 44 & 7) == 1);
+
+    start("rotation with special fully nested mode");
+    initialized(0x11, 1);
+    EXPECT(outb(0x20, 0xc1), NONE); /* line 1 lowest, so line 2 highest */
+    EXPECT(claim(9), three(0x71, 9, 3));
+    EXPECT(claim(1), NONE); /* every other line is below line 2 now */
+    EXPECT(claim(8), three(0x70, 8, 2));
+    initialized(0x11, 1);
+    EXPECT(outb(0x20, 0xc2), NONE); /* line 2 lowest */
+    EXPECT(claim(9), three(0x71, 9, 3));
+    EXPECT(claim(3), three(0x0b, 3, 1)); /* and none is below it */
+
+    start("rotation with the poll command");
+    initialized(3, 1);              /* automatic EOI */
+    EXPECT(outb(0x20, 0x80), NONE); /* with rotation */
+    pic[0] |= 0x18ULL << 16;
+    EXPECT(outb(0x20, 0x0c), NONE);
+    EXPECT(inb(0x20), one(0x83)); /* acknowledged: nothing in service, and line 3 is lowest */
+    CHECK(serving(0) == 0 && (pic[0] >> 44 & 7) == 4);
+
+    start("ICW1 and the modes");
+    initialized(0x13, 0x11);
+    EXPECT(outb(0x20, 0x80), NONE);
+    EXPECT(outb(0x20, 0x6f), NONE); /* special mask mode, a poll, the lines in service */
+    EXPECT(outb(0x21, 0xff), NONE);
+    CHECK(pic[0] >> 42 == (3 | 15 << 5)); /* automatic EOI, the read choice; line 7 lowest; rotation and the three modes */
+    EXPECT(outb(0x20, 0x10), NONE);
+    CHECK(pic[0] == (1ULL << 32 | 0x08)); /* the base alone stays */
+}
+
 static void refusals_of_the_io_apic(void)
 {
     start("refusals of the I/O APIC");
@@ -1001,12 +1180,12 @@ static uint64_t in_flight(void)
     return lines;
 }
 
-/* The 8259A's output, bit by bit: a request that isn't masked, above every line in service; the lines from the highest on, going round. */
-static int asks(uint64_t chip, unsigned highest)
+/* The 8259A's output, bit by bit: a request that isn't masked, above every line in service, but in special mask mode the masked ones; the lines from the highest on, going round. */
+static int asks(uint64_t chip, unsigned highest, unsigned special)
 {
     for (unsigned rank = 0; rank < 8; rank++) {
         unsigned line = (highest + rank) % 8;
-        if (chip >> (24 + line) & 1)
+        if ((chip >> (24 + line) & 1) && !(special && (chip >> (8 + line) & 1)))
             return 0;
         if ((chip >> (16 + line) & 1) && !(chip >> (8 + line) & 1))
             return 1;
@@ -1014,17 +1193,19 @@ static int asks(uint64_t chip, unsigned highest)
     return 0;
 }
 
-/* By rules 1 and 2 a call that isn't refused leaves the master's request 2 as the slave's output is: one on a line, a write, a restore, and a claim of something. */
+/* By rules 1 and 2 a call that isn't refused leaves the master's request 2 as the slave's output is: one on a line, a write, a restore, a claim of something, and a read that moved
+   something, a poll. */
 static int the_cascade_is_settled(unsigned which, uint64_t code)
 {
     int claims = which == PIC_PENDING || which == PIC_PENDING + 2;
-    if (which <= OF_PAIR + 2 || which >= OF_LAPIC || which == PIC_READ || code >> 56 != 0 || (claims && code == 0))
+    if (which <= OF_PAIR + 2 || which >= OF_LAPIC || code >> 56 != 0 || (claims && code == 0))
         return 1;
-    if ((which == PIC_PENDING - 1 || which == PIC_PENDING + 1) && memcmp(pic, pic_lent.before, 32) == 0)
-        return 1; /* a line that the pair hasn't, or nothing moved */
+    if ((which == PIC_PENDING - 1 || which == PIC_PENDING + 1 || which == PIC_READ) && memcmp(pic, pic_lent.before, 32) == 0)
+        return 1; /* a line that the pair hasn't, a read without a poll, or nothing moved */
     if (pic[2] != 1 && pic[2] != 2)
         return 1;
-    return (int)(pic[0] >> 18 & 1) == asks(pic[1], pic[2] == 2 ? pic[1] >> 44 & 7 : 0);
+    int full = pic[2] == 2;
+    return (int)(pic[0] >> 18 & 1) == asks(pic[1], full ? pic[1] >> 44 & 7 : 0, full && (pic[1] >> 48 & 1));
 }
 
 static void made_up_words(void)
@@ -1115,6 +1296,7 @@ int main(void)
     versions();
     cascade_rule();
     rotating_priorities();
+    modes_of_the_full_profile();
     refusals_of_the_io_apic();
     refusals_of_the_pair();
     refusals_of_the_local_apic();

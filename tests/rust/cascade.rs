@@ -18,7 +18,7 @@ fn end(pic: &mut EmulatedPic) {
     }
 }
 
-fn requests(pic: &EmulatedPic) -> [usize; 2] {
+fn requests(pic: &mut EmulatedPic) -> [usize; 2] {
     [0x20_u16, 0xa0].map(|port| pic.handle_read(port.into(), Byte).expect("the port is the pair's"))
 }
 
@@ -37,9 +37,9 @@ fn restored_at_once() {
         let mut pic = opened(PicRule::Cascade);
         let claim = pic.claim_irq(line).expect("nothing is in its way");
         assert_eq!(format!("{claim:?}").contains("slave_in_service: true"), line >= 8);
-        assert_eq!(requests(&pic), [0, 0]);
+        assert_eq!(requests(&mut pic), [0, 0]);
         pic.restore_interrupt(claim);
-        assert_eq!(requests(&pic), if line < 8 { [1 << line, 0] } else { [4, 1 << (line - 8)] });
+        assert_eq!(requests(&mut pic), if line < 8 { [1 << line, 0] } else { [4, 1 << (line - 8)] });
         assert!(pic.claim_pending_interrupt().is_some());
     }
 }
@@ -50,7 +50,7 @@ fn main() {
     // Example 8: line 2 is the slave's.
     assert_eq!(opened(PicRule::Latch).pulse_irq(2), Some(0x0a));
     let mut pic = opened(PicRule::Cascade);
-    assert_eq!((pic.pulse_irq(2), requests(&pic)), (None, [0, 0]));
+    assert_eq!((pic.pulse_irq(2), requests(&mut pic)), (None, [0, 0]));
     restored_at_once();
     assert_eq!(PicRule::default(), PicRule::Latch);
     let shared = Locked::new(opened(PicRule::Cascade));

@@ -140,7 +140,7 @@ fn call_pic(pic: &mut [u64; 4], call: PicCall) -> Reply
 {
     match call {
         PicCall::HandleRead { port, width } => vpic::handle_read(
-            &*pic,
+            &mut *pic,
             port as u64,
             width as u64,
         ).reply(),

@@ -77,7 +77,7 @@ exampleText =
     ∷ []
 
 pub example-prints : printed example ≡ exampleText
-unfolding ring.firstRank ring.firstBy ring.above set.with set.without set.outside set.lowest set.highest set.lastSet32 chip.opened chip.commanded chip.fed chip.commandRead chip.pulsed chip.counts chip.pendingLine chip.pendingIrq chip.asks chip.driven chip.acknowledged chip.acknowledge chip.unacknowledged pair.newState pair.settled pair.latched pair.masterClaim pair.slaveClaim pair.claimPending pair.claimIrq pair.restored pair.portRead pair.writtenAt pair.portWritten newMachine machine.picOutcome machine.localOutcome performed numberAt decoded fieldAt fieldFor stepOf stepsText linesFrom printed line replyText decimalIn
+unfolding ring.firstRank ring.firstBy ring.above set.with set.without set.outside set.lowest set.highest set.lastSet32 chip.opened chip.commanded chip.fed chip.commandRead chip.readShown chip.pulsed chip.counts chip.pendingLine chip.pendingIrq chip.asks chip.driven chip.acknowledged chip.acknowledge chip.unacknowledged pair.newState pair.settled pair.latched pair.masterClaim pair.slaveClaim pair.claimPending pair.claimIrq pair.restored pair.portRead pair.portLeft pair.writtenAt pair.portWritten newMachine machine.picOutcome machine.localOutcome performed numberAt decoded fieldAt fieldFor stepOf stepsText linesFrom printed line replyText decimalIn
 example-prints = refl
 
 -- lines 3 and 5 are held with one vector; only when line 3 is let go is line 5 heard

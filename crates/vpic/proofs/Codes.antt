@@ -16,7 +16,7 @@ use Rattle.types.proofs.Replies.{outcome-same}
 use Rattle.vpic_chip.specs.declared.PicVector.{PicVector}
 use Rattle.vpic_chip.specs.declared.PicVector.the-variants.{Given, Nothing as NoVector}
 use Rattle.vpic_chip.specs.Chip.{vectorReply}
-use Rattle.vpic_chip.specs.Registers.{chipIn, fullIn}
+use Rattle.vpic_chip.specs.Registers.{chipIn, fullIn, placed}
 use Rattle.vpic_chip.proofs.Packing.{word-same, full-word-same}
 use Rattle.vpic_chip.proofs.Laws.{vector-reply-same}
 use Rattle.vpic.specs.declared.PicClaim.{PicClaim}
@@ -71,19 +71,19 @@ none-kept a l m s e = rw e
 
 -- ---- a pair has one set of words: no word but those of the view
 
-chip-same : (rule v w : ℕ) → chipBy rule v ≡ chipBy rule w → v ≡ w
-chip-same rule v w = go (eqb rule 2)
+chip-same : (p : Bool) (rule v w : ℕ) → chipBy p rule v ≡ chipBy p rule w → v ≡ w
+chip-same p rule v w = go (eqb rule 2)
   where
-    go : (b : Bool) → cond b (fullIn v) (chipIn v) ≡ cond b (fullIn w) (chipIn w) → v ≡ w
-    go true q = full-word-same v w q
+    go : (b : Bool) → cond b (placed p (fullIn v)) (chipIn v) ≡ cond b (placed p (fullIn w)) (chipIn w) → v ≡ w
+    go true q = full-word-same p v w q
     go false q = word-same v w q
 
 pub words-same : (l m : List ℕ) → length l ≡ 4 → length m ≡ 4 → view l ≡ view m → l ≡ m
 unfolding view
 words-same (a ∷ b ∷ c ∷ d ∷ []) (e ∷ f ∷ g ∷ h ∷ []) p q s =
     let z : c ≡ g = ap (λ (r : PicState). r .rule) s in
-    let x : a ≡ e = chip-same c a e (ap (λ (r : PicState). r .master) s ∙ ap (λ (n : ℕ). chipBy n e) (sym z)) in
-    let y : b ≡ f = chip-same c b f (ap (λ (r : PicState). r .slave) s ∙ ap (λ (n : ℕ). chipBy n f) (sym z)) in
+    let x : a ≡ e = chip-same true c a e (ap (λ (r : PicState). r .master) s ∙ ap (λ (n : ℕ). chipBy true n e) (sym z)) in
+    let y : b ≡ f = chip-same false c b f (ap (λ (r : PicState). r .slave) s ∙ ap (λ (n : ℕ). chipBy false n f) (sym z)) in
     let w : d ≡ h = ap (λ (r : PicState). r .spare) s in
     λ i. x i ∷ y i ∷ z i ∷ w i ∷ []
 words-same [] m p q s = absurd (omega arith)

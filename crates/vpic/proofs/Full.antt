@@ -15,26 +15,27 @@ use Rattle.types.specs.declared.Refusal.the-variants.{Unsupported}
 use Rattle.types.specs.Counters.{placeOf}
 use Rattle.vpic_chip.specs.declared.PicVector.{PicVector}
 use Rattle.vpic_chip.specs.declared.PicVector.the-variants.{Nothing as NoVector}
-use Rattle.vpic_chip.specs.Registers.{Chip, chipIn, fullIn}
-use Rattle.vpic_chip.specs.Chip.{asks, driven, acknowledged, commandRead}
+use Rattle.vpic_chip.specs.Registers.{Chip, chipIn, fullIn, placed}
+use Rattle.types.specs.Reply.{Outcome}
+use Rattle.vpic_chip.specs.Chip.{asks, driven, acknowledged, isPolled, polled}
 use Rattle.vpic.specs.declared.PicInterruptClaim.{PicInterruptClaim}
 use Rattle.vpic.specs.declared.PicClaim.{PicClaim}
 use Rattle.vpic.specs.declared.PicClaim.the-variants.{Nothing as NoClaim}
 use Rattle.vpic.specs.declared.PicValue.{PicValue}
 use Rattle.vpic.specs.declared.PicDone.the-variants.{Done, Refused}
 use Rattle.vpic.specs.Words.{PicState, isFull, plainView, fullView, view}
-use Rattle.vpic.specs.Pair.{isCascade, chips, settled, latchedAt, latched, StateClaim, stateClaim, masterClaim, slaveClaim, pendingPlace, claimAt, claimPending, claimIrq, restoredAt, restored, restoreInterrupt, Port, master-command, master-data, slave-command, slave-data, no-port, portAt, isThere, readFrom, writtenTo, Written, writtenAt, isPort, portRead, portWritten, handleRead, handleWrite, claimVector, withClaim, withVector, claimOutcome, vectorOutcome, doneOutcome, valueOutcome}
-use Rattle.vpic.specs.Claim.{masterTaken, slaveTaken, isQuiet}
+use Rattle.vpic.specs.Pair.{isCascade, chips, settled, latchedAt, latched, StateClaim, stateClaim, masterClaim, slaveClaim, pendingPlace, claimAt, claimPending, claimIrq, restoredAt, restored, restoreInterrupt, Port, master-command, master-data, slave-command, slave-data, no-port, portAt, isThere, writtenTo, Written, writtenAt, isPort, masterRead, slaveRead, leftBy, portRead, portLeft, portWritten, valueReply, handleRead, handleWrite, claimVector, withClaim, withVector, claimOutcome, vectorOutcome, doneOutcome, valueOutcome}
+use Rattle.vpic.specs.Claim.{masterTaken, slaveTaken, isQuiet, portOutcome}
 use Rattle.vpic.proofs.Laws.{settle-off, settle-on, irq-reply, pending-reply, irq-vector, pending-vector, quiet, unasked, restore-way, restore-done, write-not, write-settled, write-out, write-done}
 
 -- ---- the full road
 
-pub full-master-set : (l : List ℕ) (w : ℕ) → length l ≡ 4 → fullView (set l 0 w) ≡ chips (fullView l) (fullIn w) (fullView l .slave)
+pub full-master-set : (l : List ℕ) (w : ℕ) → length l ≡ 4 → fullView (set l 0 w) ≡ chips (fullView l) (placed true (fullIn w)) (fullView l .slave)
 unfolding fullView
 full-master-set [] w h = absurd (omega arith)
 full-master-set (x ∷ l) w h = refl
 
-pub full-slave-set : (l : List ℕ) (w : ℕ) → length l ≡ 4 → fullView (set l 1 w) ≡ chips (fullView l) (fullView l .master) (fullIn w)
+pub full-slave-set : (l : List ℕ) (w : ℕ) → length l ≡ 4 → fullView (set l 1 w) ≡ chips (fullView l) (fullView l .master) (placed false (fullIn w))
 unfolding fullView
 full-slave-set [] w h = absurd (omega arith)
 full-slave-set (x ∷ []) w h = absurd (omega arith)
@@ -186,7 +187,7 @@ unfolding view plainView
 same-quiet l = go (isFull (getD l 2 0))
   where
     go : (b : Bool) → isQuiet (record { rule = getD l 2 0; master = chipIn (getD l 0 0); slave = chipIn (getD l 1 0); spare = getD l 3 0 })
-        ≡ isQuiet (record { rule = getD l 2 0; master = cond b (fullIn (getD l 0 0)) (chipIn (getD l 0 0)); slave = cond b (fullIn (getD l 1 0)) (chipIn (getD l 1 0)); spare = getD l 3 0 })
+        ≡ isQuiet (record { rule = getD l 2 0; master = cond b (placed true (fullIn (getD l 0 0))) (chipIn (getD l 0 0)); slave = cond b (placed false (fullIn (getD l 1 0))) (chipIn (getD l 1 0)); spare = getD l 3 0 })
     go true = refl
     go false = refl
 
@@ -245,25 +246,48 @@ module _ (l m : List ℕ) (port width value : ℕ) (b w : Bool) (h : width ≡ 1
 pub write-unknown : (p : PicState) (port width value : ℕ) (w : Bool) → width ≡ 1 → w ≡ isPort port → not w ≡ true → doneOutcome p (Refused Unsupported) ≡ handleWrite p port width value
 write-unknown p port width value w h known u = write-out p p port width value w h known (not-true w u) refl
 
--- a port shows the same by either road
-pub read-same : (l : List ℕ) (port : ℕ) (v : PicValue) → v ≡ portRead (plainView l) port → v ≡ portRead (view l) port
-unfolding view plainView portRead commandRead
-read-same l port v e = e ∙ go (portAt port) (isFull (view l .rule))
+-- a port read, by either road
+left-rule : (port : ℕ) (p : PicState) → portLeft p port .rule ≡ p .rule
+unfolding portLeft
+left-rule port p = go (portAt port)
   where
-    go : (a : Port) (b : Bool) → readFrom (plainView l) a ≡ readFrom (record { rule = getD l 2 0; master = cond b (fullIn (getD l 0 0)) (chipIn (getD l 0 0)); slave = cond b (fullIn (getD l 1 0)) (chipIn (getD l 1 0)); spare = getD l 3 0 }) a
-    go master-command true = refl
-    go master-command false = refl
-    go master-data true = refl
-    go master-data false = refl
-    go slave-command true = refl
-    go slave-command false = refl
-    go slave-data true = refl
-    go slave-data false = refl
-    go no-port true = refl
-    go no-port false = refl
+    of-master : masterRead p .rule ≡ p .rule
+    of-master = both (λ (q : PicState). q .rule ≡ p .rule) (isPolled (p .master)) _ _ (settled-rule (chips p (polled (p .master)) (p .slave))) refl
 
-pub read-done : (l : List ℕ) (port width : ℕ) (v : PicValue) → width ≡ 1 → v ≡ portRead (plainView l) port → valueOutcome (view l) v ≡ handleRead (view l) port width
-read-done l port width v w e = ap (valueOutcome (view l)) (read-same l port v e) ∙ rw w
+    of-slave : slaveRead p .rule ≡ p .rule
+    of-slave = both (λ (q : PicState). q .rule ≡ p .rule) (isPolled (p .slave)) _ _ (settled-rule (chips p (p .master) (polled (p .slave)))) refl
+
+    go : (a : Port) → leftBy p a .rule ≡ p .rule
+    go master-command = of-master
+    go master-data = of-master
+    go slave-command = of-slave
+    go slave-data = of-slave
+    go no-port = refl
+
+-- without a poll nothing changes
+plain-left : (l : List ℕ) (port : ℕ) → portLeft (plainView l) port ≡ plainView l
+unfolding plainView chipIn portLeft
+plain-left l port = go (portAt port)
+  where
+    go : (a : Port) → leftBy (plainView l) a ≡ plainView l
+    go master-command = refl
+    go master-data = refl
+    go slave-command = refl
+    go slave-data = refl
+    go no-port = refl
+
+module _ (l : List ℕ) (port width : ℕ) (b : Bool) (v : PicValue) (w : width ≡ 1) (eb : b ≡ isFull (view l .rule)) where
+  pub read-plain : b ≡ false → v ≡ portRead (plainView l) port → valueOutcome (view l) v ≡ handleRead (view l) port width
+  read-plain n e =
+      let q : view l ≡ plainView l = view-plain l (sym eb ∙ n) in
+      rw w (ap₂ valueOutcome (q ∙ sym (plain-left l port) ∙ ap (λ (p : PicState). portLeft p port) (sym q)) (e ∙ ap (λ (p : PicState). portRead p port) (sym q)))
+
+  pub read-full : (m : List ℕ) → b ≡ true → valueOutcome (fullView m) v ≡ portOutcome (fullView l) port → valueOutcome (view m) v ≡ handleRead (view l) port width
+  read-full m n e =
+      let f : isFull (view l .rule) ≡ true = sym eb ∙ n in
+      let s : view m ≡ portLeft (view l) port = by-full l m (λ p. portLeft p port) (left-rule port) f (ap (λ (o : Outcome PicState). o .state) e) in
+      let r : valueReply v ≡ valueReply (portRead (view l) port) = ap (λ (o : Outcome PicState). o .reply) e ∙ ap (λ (p : PicState). valueReply (portRead p port)) (sym (view-full l f)) in
+      rw w (λ i. record { state = s i; reply = r i })
 
 -- the pair's four ports
 pub port-one : (port : ℕ) → port ≡ 0x20 → true ≡ isPort port

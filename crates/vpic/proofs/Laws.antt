@@ -7,35 +7,37 @@ use native.Mathlib.Omega.{arith}
 use native.Mathlib.Nat.{zero-div}
 use lib.Dec.{ltb, eqb}
 use lib.ListN.{set, length}
-use borrow.Author.Tests.{lt-ltb, ltb-true, ltb-false, not-true, not-false, ne-eqb, eqb-true}
+use borrow.Author.Tests.{lt-ltb, ltb-true, ltb-false, not-true, not-false, ne-eqb, eq-eqb, eqb-true}
 use Rattle.utils.specs.Set.{bit, with, outside}
 use Rattle.utils.specs.Cases.{cases}
 use Rattle.utils.proofs.Bools.{never}
-use Rattle.utils.proofs.Laws.{bit-outside, bit-with-same, setOf-same}
+use Rattle.utils.proofs.Laws.{bit-outside, bit-with-same, with-member, setOf-same}
 use Rattle.types.specs.declared.PicLine.{PicLine}
 use Rattle.types.specs.declared.PicPlace.{PicPlace}
 use Rattle.types.specs.declared.PicPlace.the-variants.{Master, Slave, Nowhere}
 use Rattle.types.specs.declared.Refusal.the-variants.{Unsupported, OutOfRange}
 use Rattle.types.specs.Counters.{placeOf, lineVector}
+use Rattle.types.specs.declared.Reply.{Reply}
+use Rattle.types.specs.declared.Reply.the-variants as reply
 use Rattle.types.specs.Reply.{Outcome}
 use Rattle.vpic_chip.specs.declared.PicChip.{PicChip}
 use Rattle.vpic_chip.specs.declared.PendingIrq.{PendingIrq}
 use Rattle.vpic_chip.specs.declared.PendingIrq.the-variants.{Irq, Nothing}
 use Rattle.vpic_chip.specs.declared.PicVector.{PicVector}
 use Rattle.vpic_chip.specs.declared.PicVector.the-variants.{Given}
-use Rattle.vpic_chip.specs.Registers.{Chip, chipIn, asFull}
-use Rattle.vpic_chip.specs.Chip.{pulsed, asks, cascadeIrq, driven, pendingLine, pendingIrq, acknowledged, acknowledge, unacknowledged, commanded, fed, commandRead, opened, vectorReply}
+use Rattle.vpic_chip.specs.Registers.{Chip, chipIn, asFull, placed}
+use Rattle.vpic_chip.specs.Chip.{pulsed, asks, cascadeIrq, driven, pendingLine, pendingIrq, acknowledged, acknowledge, unacknowledged, commanded, fed, commandRead, opened, vectorReply, counts, isPolled, pollShown, polled, readShown, pollRead}
 use Rattle.vpic_chip.proofs.Laws.{asks-none, counted-idle, vector-reply-same}
 use Rattle.vpic.specs.declared.PicRule.{PicRule}
 use Rattle.vpic.specs.declared.PicRule.the-variants.{Latch, Cascade, Full}
 use Rattle.vpic.specs.declared.PicInterruptClaim.{PicInterruptClaim}
 use Rattle.vpic.specs.declared.PicClaim.{PicClaim}
 use Rattle.vpic.specs.declared.PicClaim.the-variants.{Nothing as NoClaim}
-use Rattle.vpic.specs.declared.PicValue.the-variants.{Value}
+use Rattle.vpic.specs.declared.PicValue.the-variants.{Value, Refused as NotRead}
 use Rattle.vpic.specs.declared.PicDone.the-variants.{Done, Refused}
 use Rattle.vpic.specs.Words.{PicState, plainView, view}
-use Rattle.vpic.specs.Pair.{ruleNumber, ruleIn, drives, chips, isCascade, settled, Keeps, isPlace, latchedAt, Latched, latched, StateClaim, stateClaim, grew, claimOf, masterClaim, slaveClaim, pendingPlace, claimAt, claimPending, claimIrq, restoredAt, restored, restoreInterrupt, Port, master-command, master-data, slave-command, slave-data, no-port, portAt, isThere, writtenTo, Written, writtenAt, isPort, portWritten, handleWrite, portRead, newState, claimVector, withClaim, withVector, claimOutcome, vectorOutcome, doneOutcome}
-use Rattle.vpic.specs.Claim.{masterTaken, slaveTaken, takenAt, isQuiet}
+use Rattle.vpic.specs.Pair.{ruleNumber, ruleIn, drives, chips, isCascade, settled, Keeps, isPlace, latchedAt, Latched, latched, StateClaim, stateClaim, grew, claimOf, masterClaim, slaveClaim, pendingPlace, claimAt, claimPending, claimIrq, restoredAt, restored, restoreInterrupt, Port, master-command, master-data, slave-command, slave-data, no-port, portAt, isThere, writtenTo, Written, writtenAt, isPort, portWritten, handleWrite, masterRead, slaveRead, portRead, portLeft, newState, claimVector, withClaim, withVector, claimOutcome, vectorOutcome, doneOutcome, valueOutcome}
+use Rattle.vpic.specs.Claim.{masterTaken, slaveTaken, takenAt, isQuiet, ReadOf, portOutcome}
 use Rattle.vpic.proofs.Ready.{ready-master, ready-slave, low-slave}
 use Rattle.vpic.proofs.Settled.{settled-kept, settled-twice, master-leaves, slave-leaves}
 
@@ -62,11 +64,11 @@ new-done (x ∷ []) m s n rule h em es en = absurd (omega arith)
 new-done (x ∷ y ∷ []) m s n rule h em es en = absurd (omega arith)
 new-done (x ∷ y ∷ z ∷ []) m s n rule h em es en = absurd (omega arith)
 new-done (x ∷ y ∷ z ∷ u ∷ l) m s n Latch h em es en =
-    λ i. record { rule = en i; master = cond (eqb (en i) 2) (asFull (em i)) (em i); slave = cond (eqb (en i) 2) (asFull (es i)) (es i); spare = 0 }
+    λ i. record { rule = en i; master = cond (eqb (en i) 2) (placed true (asFull (em i))) (em i); slave = cond (eqb (en i) 2) (placed false (asFull (es i))) (es i); spare = 0 }
 new-done (x ∷ y ∷ z ∷ u ∷ l) m s n Cascade h em es en =
-    λ i. record { rule = en i; master = cond (eqb (en i) 2) (asFull (em i)) (em i); slave = cond (eqb (en i) 2) (asFull (es i)) (es i); spare = 0 }
+    λ i. record { rule = en i; master = cond (eqb (en i) 2) (placed true (asFull (em i))) (em i); slave = cond (eqb (en i) 2) (placed false (asFull (es i))) (es i); spare = 0 }
 new-done (x ∷ y ∷ z ∷ u ∷ l) m s n Full h em es en =
-    λ i. record { rule = en i; master = cond (eqb (en i) 2) (asFull (em i)) (em i); slave = cond (eqb (en i) 2) (asFull (es i)) (es i); spare = 0 }
+    λ i. record { rule = en i; master = cond (eqb (en i) 2) (placed true (asFull (em i))) (em i); slave = cond (eqb (en i) 2) (placed false (asFull (es i))) (es i); spare = 0 }
 
 -- the rule that drives line 2
 pub cascade-not : (p : PicState) (r : PicRule) → r ≡ ruleIn (p .rule) → r ≡ Latch → false ≡ isCascade p
@@ -154,6 +156,26 @@ grew-taken c k l e = go (c .«auto_eoi»)
     go true = ap not (none-new (c .«in_service»))
     go false = ap not (one-new (c .«in_service») k l e)
 
+-- in every mode: the set is another one then
+pub grew-other : (c : Chip) (k : ℕ) → k < 8 → grew c (acknowledged c k) ≡ not (eqb (acknowledged c k .«in_service») (c .«in_service»))
+unfolding acknowledged
+grew-other c k l = go (c .«auto_eoi») (bit (c .«in_service») k) refl
+  where
+    same : not (eqb (outside 8 (c .«in_service») (c .«in_service»)) 0) ≡ not (eqb (c .«in_service») (c .«in_service»))
+    same = ap not (none-new (c .«in_service») ∙ sym (eq-eqb (c .«in_service») (c .«in_service») refl))
+
+    go : (a b : Bool) → bit (c .«in_service») k ≡ b
+        → not (eqb (outside 8 (cond a (c .«in_service») (with (c .«in_service») k)) (c .«in_service»)) 0) ≡ not (eqb (cond a (c .«in_service») (with (c .«in_service») k)) (c .«in_service»))
+    go true b e = same
+    go false true e = ap (λ (n : ℕ). not (eqb (outside 8 n (c .«in_service»)) 0)) (with-member (c .«in_service») k e) ∙ same ∙ ap (λ (n : ℕ). not (eqb n (c .«in_service»))) (sym (with-member (c .«in_service») k e))
+    go false false e =
+        ap not (one-new (c .«in_service») k l e)
+        ∙ sym (ap not (ne-eqb (with (c .«in_service») k) (c .«in_service») (λ z. never (bit-with-same (c .«in_service») k) (ap (λ (n : ℕ). bit n k) z ∙ e))))
+
+-- without the full profile a line that counts isn't in service
+pub plain-idle : (c : Chip) (k : ℕ) → c .full ≡ false → counts c k ≡ true → bit (c .«in_service») k ≡ false
+plain-idle c k f e = counted-idle c k e (rw f)
+
 -- what a chip's acknowledgement of one of its lines left
 module _ (c a : Chip) (k : PicLine) (v : PicVector) (l : k .0 < 8) (e : _≡_ {A = Outcome Chip} (record { state = a; reply = vectorReply v }) (acknowledge c k)) where
   ack-is : _≡_ {A = Outcome Chip} (record { state = a; reply = vectorReply v }) (record { state = acknowledged c (k .0); reply = vectorReply (Given (lineVector (c .«vector_base») k)) })
@@ -166,33 +188,70 @@ module _ (c a : Chip) (k : PicLine) (v : PicVector) (l : k .0 < 8) (e : _≡_ {A
   ack-vector : v ≡ Given (lineVector (c .«vector_base») k)
   ack-vector = vector-reply-same _ _ (ap (λ (o : Outcome Chip). o .reply) ack-is)
 
-module _ (p q : PicState) (m a : Chip) (k : PicLine) (v : PicVector) (g : Bool) (c : PicClaim) (em : m ≡ p .master) (eq : q ≡ chips p a (p .slave)) (eg : g ≡ m .«auto_eoi») where
-  pub master-taken : pendingPlace p ≡ Master k → _≡_ {A = Outcome Chip} (record { state = a; reply = vectorReply v }) (acknowledge m k) → c ≡ claimOf v k (not g) false → stateClaim q c ≡ masterTaken p k
+  -- its flag: by the set, and without the full profile by the mode
+  ack-flag : (f : Bool) → f ≡ not (eqb (a .«in_service») (c .«in_service»)) → f ≡ grew c (acknowledged c (k .0))
+  ack-flag f e = e ∙ ap (λ (d : Chip). not (eqb (d .«in_service») (c .«in_service»))) ack-chip ∙ sym (grew-other c (k .0) l)
+
+  mode-flag : (g : Bool) → g ≡ c .«auto_eoi» → c .full ≡ false → counts c (k .0) ≡ true → not g ≡ grew c (acknowledged c (k .0))
+  mode-flag g eg f n = ap not eg ∙ sym (grew-taken c (k .0) l (plain-idle c (k .0) f n))
+
+-- the master answers: f is whether its in-service set grew
+module _ (p q : PicState) (m a : Chip) (k : PicLine) (v : PicVector) (c : PicClaim) (em : m ≡ p .master) (eq : q ≡ chips p a (p .slave)) where
+  master-is : (f : Bool) → pendingPlace p ≡ Master k → _≡_ {A = Outcome Chip} (record { state = a; reply = vectorReply v }) (acknowledge m k) → f ≡ grew m (acknowledged m (k .0)) → c ≡ claimOf v k f false
+      → stateClaim q c ≡ masterTaken p k
   unfolding masterClaim
-  master-taken ep ea ec =
+  master-is f ep ea ef ec =
       let low : k .0 < 8 = ready-master p k ep .low in
       let b : a ≡ acknowledged m (k .0) = ack-chip m a k v low ea in
       let w : v ≡ Given (lineVector (m .«vector_base») k) = ack-vector m a k v low ea in
-      let i : not g ≡ grew (p .master) (acknowledged (p .master) (k .0)) = ap not (eg ∙ ap (λ (d : Chip). d .«auto_eoi») em) ∙ sym (grew-taken (p .master) (k .0) low (counted-idle (p .master) (k .0) (ready-master p k ep .counted))) in
-      let n : c ≡ claimOf (Given (lineVector (m .«vector_base») k)) k (not g) false = ec ∙ ap (λ (x : PicVector). claimOf x k (not g) false) w in
+      let i : f ≡ grew (p .master) (acknowledged (p .master) (k .0)) = ef ∙ ap (λ (d : Chip). grew d (acknowledged d (k .0))) em in
+      let n : c ≡ claimOf (Given (lineVector (m .«vector_base») k)) k f false = ec ∙ ap (λ (x : PicVector). claimOf x k f false) w in
       rw (none-new (p .slave .«in_service»)) (cc)
 
-  pub slave-taken : (r : PicState) (s b : Chip) (u : PicVector) (h : Bool) → pendingPlace p ≡ Slave k → _≡_ {A = Outcome Chip} (record { state = a; reply = vectorReply u }) (acknowledge m cascadeIrq)
+  -- the slave answers
+  slave-is : (r : PicState) (s b : Chip) (u : PicVector) (f g : Bool) → pendingPlace p ≡ Slave k → _≡_ {A = Outcome Chip} (record { state = a; reply = vectorReply u }) (acknowledge m cascadeIrq)
       → s ≡ p .slave → _≡_ {A = Outcome Chip} (record { state = b; reply = vectorReply v }) (acknowledge s k) → r ≡ chips q (q .master) b
-      → h ≡ s .«auto_eoi» → c ≡ claimOf v (record { 0 = k .0 + 8 }) (not g) (not h) → stateClaim r c ≡ slaveTaken p k
+      → f ≡ grew m (acknowledged m 2) → g ≡ grew s (acknowledged s (k .0)) → c ≡ claimOf v (record { 0 = k .0 + 8 }) f g → stateClaim r c ≡ slaveTaken p k
   unfolding slaveClaim
-  slave-taken r s b u h ep ea es eb er eh ec =
+  slave-is r s b u f g ep ea es eb er ef eg ec =
       let x : a ≡ acknowledged m 2 = ack-chip m a cascadeIrq u (omega arith) ea in
       let y : b ≡ acknowledged s (k .0) = ack-chip s b k v (low-slave p k ep) eb in
       let w : v ≡ Given (lineVector (s .«vector_base») k) = ack-vector s b k v (low-slave p k ep) eb in
-      let i : not g ≡ grew (p .master) (acknowledged (p .master) 2) = ap not (eg ∙ ap (λ (d : Chip). d .«auto_eoi») em) ∙ sym (grew-taken (p .master) 2 (omega arith) (counted-idle (p .master) 2 (ready-slave p k ep .0 .counted))) in
-      let j : not h ≡ grew (p .slave) (acknowledged (p .slave) (k .0)) = ap not (eh ∙ ap (λ (d : Chip). d .«auto_eoi») es) ∙ sym (grew-taken (p .slave) (k .0) (low-slave p k ep) (counted-idle (p .slave) (k .0) (ready-slave p k ep .1 .counted))) in
-      let n : c ≡ claimOf (Given (lineVector (s .«vector_base») k)) (record { 0 = k .0 + 8 }) (not g) (not h) = ec ∙ ap (λ (z : PicVector). claimOf z (record { 0 = k .0 + 8 }) (not g) (not h)) w in
+      let i : f ≡ grew (p .master) (acknowledged (p .master) 2) = ef ∙ ap (λ (d : Chip). grew d (acknowledged d 2)) em in
+      let j : g ≡ grew (p .slave) (acknowledged (p .slave) (k .0)) = eg ∙ ap (λ (d : Chip). grew d (acknowledged d (k .0))) es in
+      let n : c ≡ claimOf (Given (lineVector (s .«vector_base») k)) (record { 0 = k .0 + 8 }) f g = ec ∙ ap (λ (z : PicVector). claimOf z (record { 0 = k .0 + 8 }) f g) w in
       let z : r ≡ chips p (acknowledged (p .master) 2) (acknowledged (p .slave) (k .0)) =
       er ∙ ap (λ (o : PicState). chips o (o .master) b) eq
       ∙ ap₂ (λ (d f : Chip). chips p d f) (x ∙ ap (λ (d : Chip). acknowledged d 2) em) (y ∙ ap (λ (d : Chip). acknowledged d (k .0)) es) in
       let o : c ≡ slaveClaim p k .claim = cc in
       ap₂ stateClaim z o
+
+  pub master-taken : (g : Bool) → m .full ≡ false → g ≡ m .«auto_eoi» → pendingPlace p ≡ Master k → _≡_ {A = Outcome Chip} (record { state = a; reply = vectorReply v }) (acknowledge m k) → c ≡ claimOf v k (not g) false
+      → stateClaim q c ≡ masterTaken p k
+  master-taken g f eg ep ea ec =
+      let h = ready-master p k ep in
+      master-is (not g) ep ea (mode-flag m a k v (h .low) ea g eg f (ap (λ (d : Chip). counts d (k .0)) em ∙ h .counted)) ec
+
+  pub slave-taken : (g : Bool) (r : PicState) (s b : Chip) (u : PicVector) (h : Bool) → m .full ≡ false → g ≡ m .«auto_eoi» → pendingPlace p ≡ Slave k
+      → _≡_ {A = Outcome Chip} (record { state = a; reply = vectorReply u }) (acknowledge m cascadeIrq) → s ≡ p .slave → s .full ≡ false
+      → _≡_ {A = Outcome Chip} (record { state = b; reply = vectorReply v }) (acknowledge s k) → r ≡ chips q (q .master) b → h ≡ s .«auto_eoi» → c ≡ claimOf v (record { 0 = k .0 + 8 }) (not g) (not h)
+      → stateClaim r c ≡ slaveTaken p k
+  slave-taken g r s b u h fm eg ep ea es fs eb er eh ec =
+      let y = ready-slave p k ep in
+      slave-is r s b u (not g) (not h) ep ea es eb er
+      (mode-flag m a cascadeIrq u (omega arith) ea g eg fm (ap (λ (d : Chip). counts d 2) em ∙ y .0 .counted))
+      (mode-flag s b k v (y .1 .low) eb h eh fs (ap (λ (d : Chip). counts d (k .0)) es ∙ y .1 .counted)) ec
+
+  pub full-master-taken : (g : Bool) → g ≡ not (eqb (a .«in_service») (m .«in_service»)) → pendingPlace p ≡ Master k → _≡_ {A = Outcome Chip} (record { state = a; reply = vectorReply v }) (acknowledge m k)
+      → c ≡ claimOf v k g false → stateClaim q c ≡ masterTaken p k
+  full-master-taken g eg ep ea ec = master-is g ep ea (ack-flag m a k v (ready-master p k ep .low) ea g eg) ec
+
+  pub full-slave-taken : (g : Bool) (r : PicState) (s b : Chip) (u : PicVector) (h : Bool) → g ≡ not (eqb (a .«in_service») (m .«in_service»)) → pendingPlace p ≡ Slave k
+      → _≡_ {A = Outcome Chip} (record { state = a; reply = vectorReply u }) (acknowledge m cascadeIrq) → s ≡ p .slave
+      → _≡_ {A = Outcome Chip} (record { state = b; reply = vectorReply v }) (acknowledge s k) → r ≡ chips q (q .master) b → h ≡ not (eqb (b .«in_service») (s .«in_service»))
+      → c ≡ claimOf v (record { 0 = k .0 + 8 }) g h → stateClaim r c ≡ slaveTaken p k
+  full-slave-taken g r s b u h eg ep ea es eb er eh ec =
+      slave-is r s b u g h ep ea es eb er (ack-flag m a cascadeIrq u (omega arith) ea g eg) (ack-flag s b k v (low-slave p k ep) eb h eh) ec
 
 -- a slave's line is taken, and the pair settled; or it is in service, and nothing is left to settle
 module _ (p q : PicState) (k : PicLine) (c : PicClaim) (e : stateClaim q c ≡ slaveTaken p k) where
@@ -367,19 +426,97 @@ module _ (p q : PicState) (port width value : ℕ) (b : Bool) (w : width ≡ 1) 
   pub write-done : b ≡ true → q ≡ portWritten p port (value % 256) → doneOutcome q Done ≡ handleWrite p port width value
   write-done n e = rw (w, sym known ∙ n) (ap (λ (s : PicState). doneOutcome s Done) e)
 
-module _ (p : PicState) (port v : ℕ) (m : Chip) where
+-- a read without a poll shows its register
+module _ (p : PicState) (port v : ℕ) (m : Chip) (f : m .full ≡ false) where
   pub read-master-command : port ≡ 0x20 → m ≡ p .master → v ≡ commandRead m → Value v ≡ portRead p port
-  unfolding portRead
-  read-master-command h em ev = rw h (cc)
+  unfolding portRead readShown commandRead
+  read-master-command h em ev = rw (h, ← em, f) (ap Value ev)
 
   pub read-master-data : port ≡ 0x21 → m ≡ p .master → v ≡ m .mask → Value v ≡ portRead p port
-  unfolding portRead
-  read-master-data h em ev = rw h (cc)
+  unfolding portRead readShown
+  read-master-data h em ev = rw (h, ← em, f) (ap Value ev)
 
   pub read-slave-command : port ≡ 0xa0 → m ≡ p .slave → v ≡ commandRead m → Value v ≡ portRead p port
-  unfolding portRead
-  read-slave-command h em ev = rw h (cc)
+  unfolding portRead readShown commandRead
+  read-slave-command h em ev = rw (h, ← em, f) (ap Value ev)
 
   pub read-slave-data : port ≡ 0xa1 → m ≡ p .slave → v ≡ m .mask → Value v ≡ portRead p port
-  unfolding portRead
-  read-slave-data h em ev = rw h (cc)
+  unfolding portRead readShown
+  read-slave-data h em ev = rw (h, ← em, f) (ap Value ev)
+
+-- a read of a port of the full profile's: no poll waits, or the poll is answered and the pair settled
+module _ (p : PicState) (c : Chip) (b : Bool) (register : ℕ) (f : c .full ≡ true) (eb : b ≡ c .poll) where
+  polled-is : isPolled c ≡ b
+  polled-is = rw f (sym eb)
+
+  pub read-unpolled-master : c ≡ p .master → not b ≡ true → ReadOf (p .master) (masterRead p) p register register
+  unfolding readShown
+  read-unpolled-master ec n =
+      let z : isPolled (p .master) ≡ false = ap isPolled (sym ec) ∙ polled-is ∙ not-true b n in
+      record { state = sym (ap (λ (x : Bool). cond x (settled (chips p (polled (p .master)) (p .slave))) p) z); answer = sym (ap (λ (x : Bool). cond x (pollShown (p .master)) register) z) }
+
+  pub read-unpolled-slave : c ≡ p .slave → not b ≡ true → ReadOf (p .slave) (slaveRead p) p register register
+  unfolding readShown
+  read-unpolled-slave ec n =
+      let z : isPolled (p .slave) ≡ false = ap isPolled (sym ec) ∙ polled-is ∙ not-true b n in
+      record { state = sym (ap (λ (x : Bool). cond x (settled (chips p (p .master) (polled (p .slave)))) p) z); answer = sym (ap (λ (x : Bool). cond x (pollShown (p .slave)) register) z) }
+
+  module _ (q r : PicState) (d : Chip) (shown : ℕ) (e : _≡_ {A = Outcome Chip} (record { state = d; reply = reply.One shown }) (pollRead c)) (er : r ≡ settled q) (t : not b ≡ false) where
+    after : d ≡ polled c
+    unfolding pollRead
+    after = ap (λ (o : Outcome Chip). o .state) e
+
+    said : shown ≡ pollShown c
+    unfolding pollRead
+    said = let x : _≡_ {A = Reply} (reply.One shown) (reply.One (pollShown c)) = ap (λ (o : Outcome Chip). o .reply) e in cc
+
+    pub read-polled-master : c ≡ p .master → q ≡ chips p d (p .slave) → ReadOf (p .master) (masterRead p) r register shown
+    unfolding readShown
+    read-polled-master ec eq =
+        let z : isPolled (p .master) ≡ true = ap isPolled (sym ec) ∙ polled-is ∙ not-false b t in
+        record {
+          state = er ∙ ap settled (eq ∙ ap (λ (x : Chip). chips p x (p .slave)) (after ∙ ap polled ec)) ∙ sym (ap (λ (x : Bool). cond x (settled (chips p (polled (p .master)) (p .slave))) p) z);
+          answer = said ∙ ap pollShown ec ∙ sym (ap (λ (x : Bool). cond x (pollShown (p .master)) register) z);
+        }
+
+    pub read-polled-slave : c ≡ p .slave → q ≡ chips p (p .master) d → ReadOf (p .slave) (slaveRead p) r register shown
+    unfolding readShown
+    read-polled-slave ec eq =
+        let z : isPolled (p .slave) ≡ true = ap isPolled (sym ec) ∙ polled-is ∙ not-false b t in
+        record {
+          state = er ∙ ap settled (eq ∙ ap (λ (x : Chip). chips p (p .master) x) (after ∙ ap polled ec)) ∙ sym (ap (λ (x : Bool). cond x (settled (chips p (p .master) (polled (p .slave)))) p) z);
+          answer = said ∙ ap pollShown ec ∙ sym (ap (λ (x : Bool). cond x (pollShown (p .slave)) register) z);
+        }
+
+-- the status is the same of a full chip
+pub full-status : (b : Bool) (x : Chip) (v : ℕ) → v ≡ commandRead x → v ≡ commandRead (placed b (asFull x))
+unfolding commandRead
+full-status b x v e = e
+
+module _ (p q : PicState) (port register shown : ℕ) (m : Chip) where
+  pub full-master-command : port ≡ 0x20 → m ≡ p .master → register ≡ commandRead m → ReadOf (p .master) (masterRead p) q register shown → valueOutcome q (Value shown) ≡ portOutcome p port
+  unfolding portRead portLeft
+  full-master-command h em er e =
+      rw h (ap₂ (λ (x : PicState) (n : ℕ). valueOutcome x (Value n)) (e .state) (e .answer ∙ ap (readShown (p .master)) (er ∙ ap commandRead em)))
+
+  pub full-master-data : port ≡ 0x21 → m ≡ p .master → register ≡ m .mask → ReadOf (p .master) (masterRead p) q register shown → valueOutcome q (Value shown) ≡ portOutcome p port
+  unfolding portRead portLeft
+  full-master-data h em er e =
+      rw h (ap₂ (λ (x : PicState) (n : ℕ). valueOutcome x (Value n)) (e .state) (e .answer ∙ ap (readShown (p .master)) (er ∙ ap (λ (c : Chip). c .mask) em)))
+
+  pub full-slave-command : port ≡ 0xa0 → m ≡ p .slave → register ≡ commandRead m → ReadOf (p .slave) (slaveRead p) q register shown → valueOutcome q (Value shown) ≡ portOutcome p port
+  unfolding portRead portLeft
+  full-slave-command h em er e =
+      rw h (ap₂ (λ (x : PicState) (n : ℕ). valueOutcome x (Value n)) (e .state) (e .answer ∙ ap (readShown (p .slave)) (er ∙ ap commandRead em)))
+
+  pub full-slave-data : port ≡ 0xa1 → m ≡ p .slave → register ≡ m .mask → ReadOf (p .slave) (slaveRead p) q register shown → valueOutcome q (Value shown) ≡ portOutcome p port
+  unfolding portRead portLeft
+  full-slave-data h em er e =
+      rw h (ap₂ (λ (x : PicState) (n : ℕ). valueOutcome x (Value n)) (e .state) (e .answer ∙ ap (readShown (p .slave)) (er ∙ ap (λ (c : Chip). c .mask) em)))
+
+pub full-no-port : (p : PicState) (port : ℕ) → (port ≡ 0x20 → ⊥) → (port ≡ 0x21 → ⊥) → (port ≡ 0xa0 → ⊥) → (port ≡ 0xa1 → ⊥) → valueOutcome p (NotRead Unsupported) ≡ portOutcome p port
+unfolding portRead portLeft
+full-no-port p port a b c d = rw (ne-eqb port 0x20 a, ne-eqb port 0x21 b, ne-eqb port 0xa0 c, ne-eqb port 0xa1 d)
+
+pub grew-is : (x y a b : ℕ) → a ≡ x → b ≡ y → not (eqb a b) ≡ not (eqb x y)
+grew-is x y a b ea eb = ap₂ (λ (m n : ℕ). not (eqb m n)) ea eb

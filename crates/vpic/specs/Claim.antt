@@ -1,16 +1,19 @@
 -- What the private functions say of a claim. On its way it is one number, 0 for none: `Codes.claim-kept` says that nothing is lost.
 use Prim.Native.Nat.{ℕ, _+_, _/_, _%_, _^_}
 use mathlib.Core.Bool.{Bool, cond}
+use mathlib.Core.Path.{_≡_}
 use lib.Dec.{eqb}
 use Rattle.utils.specs.Set.{bit}
 use Rattle.types.specs.declared.PicLine.{PicLine}
 use Rattle.types.specs.declared.PicPlace.{PicPlace}
 use Rattle.types.specs.declared.PicPlace.the-variants.{Master, Slave, Nowhere}
-use Rattle.vpic_chip.specs.Chip.{cascadeIrq, acknowledged}
+use Rattle.types.specs.Reply.{Outcome}
+use Rattle.vpic_chip.specs.Registers.{Chip}
+use Rattle.vpic_chip.specs.Chip.{cascadeIrq, acknowledged, readShown}
 use Rattle.vpic.specs.declared.PicClaim.{PicClaim}
 use Rattle.vpic.specs.declared.PicClaim.the-variants.{Claimed, Nothing}
 use Rattle.vpic.specs.Words.{PicState}
-use Rattle.vpic.specs.Pair.{StateClaim, stateClaim, chips, nothingClaimed, masterClaim, slaveClaim}
+use Rattle.vpic.specs.Pair.{StateClaim, stateClaim, chips, nothingClaimed, masterClaim, slaveClaim, portLeft, portRead, valueReply}
 
 -- the vector in bits 0 to 7, the line in 16 to 23, and the two flags in 32 and 33
 abbrev pub claimIn : ℕ → PicClaim
@@ -36,3 +39,12 @@ takenAt p Nowhere = nothingClaimed p
 -- nothing is requested: a claim then takes nothing and leaves the pair as it is (`Laws.quiet`)
 abbrev pub isQuiet : PicState → Bool
 isQuiet p = eqb (p .master .request + p .slave .request) 0
+
+-- a read of a chip's port that shows a register where no poll waits: the pair that it leaves, and what it shows
+pub record ReadOf (c : Chip) (left q : PicState) (register shown : ℕ) : Type 0 where
+  pub state : q ≡ left
+  pub answer : shown ≡ readShown c register
+
+-- a read of a port, of one byte
+abbrev pub portOutcome : PicState → ℕ → Outcome PicState
+portOutcome p port = record { state = portLeft p port; reply = valueReply (portRead p port) }

@@ -1,6 +1,7 @@
 -- The PC's two 8259A chips. Cascade mode: the slave hangs on the master's line 2, and an acknowledgement of that line is answered by the slave. The interrupt
 -- sequence; the four ports. Departures from the data sheet are marked D-nn and stand in docs/DIFFERENCES.md. By rule 1 (document 02,
--- T-02) the slave's output drives the master's line 2, as in the data sheet but for D-18; by rule 0, the Rust's, it doesn't (D-13). By rule 2 (T-04) it does, and the chips take rotation.
+-- T-02) the slave's output drives the master's line 2, as in the data sheet but for D-18; by rule 0, the Rust's, it doesn't (D-13). By rule 2 (T-04, T-06) it does, and the chips are
+-- full 8259As: rotation, special mask mode, poll command, special fully nested mode.
 use Prim.Native.Nat.{ℕ, _+_, _*_, _/_, _%_}
 use mathlib.Core.Bool.{Bool, true, false, not, cond}
 use mathlib.Core.Path.{_≡_}
@@ -20,8 +21,8 @@ use Rattle.vpic_chip.specs.declared.PendingIrq.{PendingIrq}
 use Rattle.vpic_chip.specs.declared.PendingIrq.the-variants.{Irq, Nothing}
 use Rattle.vpic_chip.specs.declared.PicVector.{PicVector}
 use Rattle.vpic_chip.specs.declared.PicVector.the-variants.{Given, Nothing as NoVector}
-use Rattle.vpic_chip.specs.Registers.{Chip, asFull}
-use Rattle.vpic_chip.specs.Chip.{opened, commanded, fed, commandRead, pulsed, asks, cascadeIrq, driven, pendingIrq, acknowledged, unacknowledged, vectorReply}
+use Rattle.vpic_chip.specs.Registers.{Chip, asFull, placed}
+use Rattle.vpic_chip.specs.Chip.{opened, commanded, fed, commandRead, pulsed, asks, cascadeIrq, driven, pendingIrq, acknowledged, unacknowledged, vectorReply, isPolled, polled, readShown}
 use Rattle.vpic.specs.declared.PicRule.{PicRule}
 use Rattle.vpic.specs.declared.PicRule.the-variants.{Latch, Cascade, Full}
 use Rattle.vpic.specs.declared.PicInterruptClaim.{PicInterruptClaim}
@@ -59,20 +60,20 @@ drives Latch = false
 drives Cascade = true
 drives Full = true
 
--- a chip of a pair of this rule: rule 2 is the full 8259A profile
-abbrev pub ofRule : PicRule → Chip → Chip
-ofRule Latch c = c
-ofRule Cascade c = c
-ofRule Full c = asFull c
+-- a chip of a pair of this rule, the master or the slave: rule 2 is the full 8259A profile
+abbrev pub ofRule : Bool → PicRule → Chip → Chip
+ofRule cascades Latch c = c
+ofRule cascades Cascade c = c
+ofRule cascades Full c = placed cascades (asFull c)
 
 abbrev pub isCascade : PicState → Bool
 isCascade p = drives (ruleIn (p .rule))
 
 -- a new pair of a rule, with the bases that the PC's BIOS gives them (the slave's is 0x70)
 unfoldable pub newState : PicRule → PicState
-newState rule = record { rule = ruleNumber rule; master = ofRule rule (opened 0x08); slave = ofRule rule (opened 0x70); spare = 0 }
+newState rule = record { rule = ruleNumber rule; master = ofRule true rule (opened 0x08); slave = ofRule false rule (opened 0x70); spare = 0 }
 
--- what ends every call that isn't refused, but a read and a claim of a line that isn't there. Rules 1 and 2: the slave's output drives the master's line 2.
+-- what ends every call that isn't refused, but a read without a poll and a claim of a line that isn't there. Rules 1 and 2: the slave's output drives the master's line 2.
 -- D-18: request 2 stands again straight after the master's ICW1, which resets the edge sense in the data sheet. D-13, rule 0: the output drives no line: request 2 is a
 -- latch, set by a slave's edge and cleared by an acknowledgement, so that nothing is left to do
 unfoldable pub settled : PicState → PicState
@@ -200,12 +201,27 @@ isThere slave-command = true
 isThere slave-data = true
 isThere no-port = false
 
+-- what a read shows: the poll's answer where one waits on the chip, else the port's register
 abbrev pub readFrom : PicState → Port → PicValue
-readFrom p master-command = Value (commandRead (p .master))
-readFrom p master-data = Value (p .master .mask)
-readFrom p slave-command = Value (commandRead (p .slave))
-readFrom p slave-data = Value (p .slave .mask)
+readFrom p master-command = Value (readShown (p .master) (commandRead (p .master)))
+readFrom p master-data = Value (readShown (p .master) (p .master .mask))
+readFrom p slave-command = Value (readShown (p .slave) (commandRead (p .slave)))
+readFrom p slave-data = Value (readShown (p .slave) (p .slave .mask))
 readFrom p no-port = NotRead Unsupported
+
+-- what it leaves: a poll acknowledges on its chip alone; another read changes nothing
+abbrev pub masterRead : PicState → PicState
+masterRead p = cond (isPolled (p .master)) (settled (chips p (polled (p .master)) (p .slave))) p
+
+abbrev pub slaveRead : PicState → PicState
+slaveRead p = cond (isPolled (p .slave)) (settled (chips p (p .master) (polled (p .slave)))) p
+
+abbrev pub leftBy : PicState → Port → PicState
+leftBy p master-command = masterRead p
+leftBy p master-data = masterRead p
+leftBy p slave-command = slaveRead p
+leftBy p slave-data = slaveRead p
+leftBy p no-port = p
 
 abbrev pub writtenTo : PicState → Port → ℕ → PicState
 writtenTo p master-command byte = chips p (commanded (p .master) byte) (p .slave)
@@ -219,6 +235,9 @@ isPort port = isThere (portAt port)
 
 unfoldable pub portRead : PicState → ℕ → PicValue
 portRead p port = readFrom p (portAt port)
+
+unfoldable pub portLeft : PicState → ℕ → PicState
+portLeft p port = leftBy p (portAt port)
 
 unfoldable pub writtenAt : PicState → ℕ → ℕ → PicState
 writtenAt p port byte = writtenTo p (portAt port) byte
@@ -290,7 +309,7 @@ restoreInterrupt p c = cond (ltb (c .irq .0) 16) (record { state = restored p c;
 
 -- width before port
 abbrev pub handleRead : PicState → ℕ → ℕ → Outcome PicState
-handleRead p port width = cond (eqb width 1) (record { state = p; reply = valueReply (portRead p port) }) (refused p Unsupported)
+handleRead p port width = cond (eqb width 1) (record { state = portLeft p port; reply = valueReply (portRead p port) }) (refused p Unsupported)
 
 abbrev pub handleWrite : PicState → ℕ → ℕ → ℕ → Outcome PicState
 handleWrite p port width value =

@@ -5,15 +5,16 @@
 // each function has its contract.
 
 ghost use mathlib.Core.Path.{_≡_};
-ghost use mathlib.Core.Bool.{not};
+ghost use mathlib.Core.Bool.{true, false, not};
 ghost use Prim.Native.Nat.{_%_};
+ghost use lib.Dec.{eqb};
 ghost use Rattle.types.specs.Counters.{placeOf};
 ghost use Rattle.types.specs.declared.PicPlace.the-variants as place;
-ghost use Rattle.vpic_chip.specs.Registers.{chipIn, fullIn};
+ghost use Rattle.vpic_chip.specs.Registers.{chipIn, fullIn, placed};
 ghost use Rattle.vpic.specs.Words.{isFull, plainView, fullView, view};
-ghost use Rattle.vpic.specs.Claim.{claimIn, masterTaken, slaveTaken, takenAt, isQuiet};
+ghost use Rattle.vpic.specs.Claim.{claimIn, masterTaken, slaveTaken, takenAt, isQuiet, ReadOf, portOutcome};
 ghost use Rattle.vpic.specs.declared.PicRule.the-variants as rules;
-ghost use Rattle.vpic.specs.Pair.{ruleIn, ruleNumber, isRule, chips, isCascade, settled, Latched, stateClaim, claimOf, slaveClaim, pendingPlace, claimPending, claimIrq, restoredAt, portRead, Written, isPort, portWritten, claimFlags, claimReply, claimVector, doneReply, valueReply, withClaim, withVector, claimOutcome, vectorOutcome, doneOutcome, valueOutcome, newState, portRanges, restoreInterrupt, handleRead, handleWrite};
+ghost use Rattle.vpic.specs.Pair.{ruleIn, ruleNumber, isRule, chips, isCascade, settled, Latched, stateClaim, claimOf, slaveClaim, pendingPlace, claimPending, claimIrq, restoredAt, portRead, masterRead, slaveRead, Written, isPort, portWritten, claimFlags, claimReply, claimVector, doneReply, valueReply, withClaim, withVector, claimOutcome, vectorOutcome, doneOutcome, valueOutcome, newState, portRanges, restoreInterrupt, handleRead, handleWrite};
 use types::PicLine;
 use types::PicPlace;
 use types::Refusal;
@@ -34,13 +35,13 @@ pub const SLAVE_COMMAND: u16 = 0xa0;
 
 pub const SLAVE_DATA: u16 = 0xa1;
 
-// What the slave's output does to the master's line 2, and whether the chips take rotation.
+// What the slave's output does to the master's line 2, and whether the chips are full 8259As.
 pub enum PicRule {
     // Nothing: the Rust's rule, number 0. A slave's edge sets the line's request, and an acknowledgement clears it.
     Latch,
     // It drives it: the 8259A's, number 1.
     Cascade,
-    // It drives it, and the chips take rotation: the full 8259A profile, number 2.
+    // It drives it, and the chips take rotation, special mask mode, polls and nested slaves: the full 8259A profile, number 2.
     Full,
 }
 
@@ -319,7 +320,7 @@ pub fn port_ranges() -> PortRanges
 
 // ---- Lines and claims.
 
-// Every call that isn't refused ends so, but a read and a claim of a line that isn't there: by the cascade rule the master's request 2 follows the slave's output.
+// Every call that isn't refused ends so, but a read without a poll and a claim of a line that isn't there: by the cascade rule the master's request 2 follows the slave's output.
 fn settle(words: &mut [u64; 4])
     ensures { λ _. ⌜ plainView (now (words .exit)) ≡ settled (plainView (now (words .entry))) ⌝ }
 {
@@ -578,7 +579,7 @@ pub fn restore_interrupt(words: &mut [u64; 4], claim: PicInterruptClaim) -> PicD
 
 // ---- The ports.
 
-// What a byte read of a port shows.
+// What a byte read of a port shows, where no poll can wait.
 fn read_port(words: &[u64; 4], port: u64) -> PicValue
     ensures { λ r. ⌜ r ≡ portRead (plainView (now (words .entry))) port ⌝ }
 {
@@ -598,13 +599,16 @@ fn read_port(words: &[u64; 4], port: u64) -> PicValue
 }
 
 // A read of a port, `width` bytes wide. Numbers come in at their full width.
-pub fn handle_read(words: &[u64; 4], port: u64, width: u64) -> PicValue
-    ensures { λ r. ⌜ valueOutcome (view (now (words .entry))) r ≡ handleRead (view (now (words .entry))) port width ⌝ }
+pub fn handle_read(words: &mut [u64; 4], port: u64, width: u64) -> PicValue
+    ensures { λ r. ⌜ valueOutcome (view (now (words .exit))) r ≡ handleRead (view (now (words .entry))) port width ⌝ }
 {
     if width != 1 {
         return PicValue::Refused(Refusal::Unsupported);
     }
-    read_port(words, port)
+    if is_full(&*words) {
+        return full_read(&mut *words, port);
+    }
+    read_port(&*words, port)
 }
 
 // A byte is written to a port; whether the pair has that port.
@@ -660,29 +664,29 @@ pub fn handle_write(words: &mut [u64; 4], port: u64, width: u64, value: u64) -> 
     PicDone::Done
 }
 
-// ---- The same in the full profile, whose chips take rotation. Each public call asks once which of the two roads is the pair's: the other rules' road stays as short as it is.
+// ---- The same in the full profile, whose chips are full 8259As. Each public call asks once which of the two roads is the pair's: the other rules' road stays as short as it is.
 
 fn full_master(words: &[u64; 4]) -> PicChip
-    ensures { λ r. ⌜ fullIn (r .0) ≡ fullView (now (words .entry)) .master ⌝ }
+    ensures { λ r. ⌜ placed true (fullIn (r .0)) ≡ fullView (now (words .entry)) .master ⌝ }
 {
     PicChip(words[0])
 }
 
 fn full_slave(words: &[u64; 4]) -> PicChip
-    ensures { λ r. ⌜ fullIn (r .0) ≡ fullView (now (words .entry)) .slave ⌝ }
+    ensures { λ r. ⌜ placed false (fullIn (r .0)) ≡ fullView (now (words .entry)) .slave ⌝ }
 {
     PicChip(words[1])
 }
 
 fn full_set_master(words: &mut [u64; 4], chip: PicChip)
-    ensures { λ _. ⌜ fullView (now (words .exit)) ≡ chips (fullView (now (words .entry))) (fullIn (chip .0)) (fullView (now (words .entry)) .slave) ⌝ }
+    ensures { λ _. ⌜ fullView (now (words .exit)) ≡ chips (fullView (now (words .entry))) (placed true (fullIn (chip .0))) (fullView (now (words .entry)) .slave) ⌝ }
 {
     seen(&*words);
     words[0] = chip.0;
 }
 
 fn full_set_slave(words: &mut [u64; 4], chip: PicChip)
-    ensures { λ _. ⌜ fullView (now (words .exit)) ≡ chips (fullView (now (words .entry))) (fullView (now (words .entry)) .master) (fullIn (chip .0)) ⌝ }
+    ensures { λ _. ⌜ fullView (now (words .exit)) ≡ chips (fullView (now (words .entry))) (fullView (now (words .entry)) .master) (placed false (fullIn (chip .0))) ⌝ }
 {
     seen(&*words);
     words[1] = chip.0;
@@ -694,8 +698,8 @@ fn full_settle(words: &mut [u64; 4])
     if !is_cascade(&*words) {
         return;
     }
-    let up = full_slave(&*words).full_asks();
-    let driven = full_master(&*words).full_drive_cascade(up);
+    let up = full_slave(&*words).full_asks(false);
+    let driven = full_master(&*words).drive_cascade(up);
     full_set_master(&mut *words, driven);
 }
 
@@ -704,14 +708,14 @@ fn full_latch(words: &mut [u64; 4], place: PicPlace) -> bool
 {
     match place {
         PicPlace::Master(k) => {
-            let edge = full_master(&*words).full_pulse(k);
+            let edge = full_master(&*words).pulse(k);
             full_set_master(&mut *words, edge);
             true
         }
         PicPlace::Slave(k) => {
-            let cascade = full_master(&*words).full_pulse(PicLine(CASCADE_IRQ));
+            let cascade = full_master(&*words).pulse(PicLine(CASCADE_IRQ));
             full_set_master(&mut *words, cascade);
-            let edge = full_slave(&*words).full_pulse(k);
+            let edge = full_slave(&*words).pulse(k);
             full_set_slave(&mut *words, edge);
             true
         }
@@ -722,16 +726,23 @@ fn full_latch(words: &mut [u64; 4], place: PicPlace) -> bool
 fn full_pending_place(words: &[u64; 4]) -> PicPlace
     ensures { λ r. ⌜ r ≡ pendingPlace (fullView (now (words .entry))) ⌝ }
 {
-    let PendingIrq::Irq(master_irq) = full_master(words).full_pending_irq() else {
+    let PendingIrq::Irq(master_irq) = full_master(words).full_pending_irq(true) else {
         return PicPlace::Nowhere;
     };
     if master_irq.0 != CASCADE_IRQ {
         return PicPlace::Master(master_irq);
     }
-    let PendingIrq::Irq(slave_irq) = full_slave(words).full_pending_irq() else {
+    let PendingIrq::Irq(slave_irq) = full_slave(words).full_pending_irq(false) else {
         return PicPlace::Master(PicLine(CASCADE_IRQ));
     };
     PicPlace::Slave(slave_irq)
+}
+
+// Whether an acknowledgement put a line into service: in special fully nested mode the master's line 2 may be there before.
+fn grew(before: PicChip, after: PicChip) -> bool
+    ensures { λ r. ⌜ r ≡ not (eqb (chipIn (after .0) .«in_service») (chipIn (before .0) .«in_service»)) ⌝ }
+{
+    after.in_service() != before.in_service()
 }
 
 fn full_take_master(words: &mut [u64; 4], irq: PicLine) -> Claim
@@ -742,7 +753,7 @@ fn full_take_master(words: &mut [u64; 4], irq: PicLine) -> Claim
     let taken = first.full_acknowledge(irq);
     full_set_master(&mut *words, taken.chip);
     let vector = taken.vector;
-    claimed(vector, irq, !first.auto_eoi(), false)
+    claimed(vector, irq, grew(first, taken.chip), false)
 }
 
 fn full_take_slave(words: &mut [u64; 4], irq: PicLine) -> Claim
@@ -759,8 +770,8 @@ fn full_take_slave(words: &mut [u64; 4], irq: PicLine) -> Claim
     claimed(
         vector,
         PicLine(irq.0 + 8),
-        !first.auto_eoi(),
-        !second.auto_eoi(),
+        grew(first, cascade.chip),
+        grew(second, taken.chip),
     )
 }
 
@@ -806,16 +817,16 @@ fn full_restore_at(
 {
     match place {
         PicPlace::Master(k) => {
-            let back = full_master(&*words).full_unacknowledge(k, master_in_service);
+            let back = full_master(&*words).unacknowledge(k, master_in_service);
             full_set_master(&mut *words, back);
         }
         PicPlace::Slave(k) => {
-            let cascade = full_master(&*words).full_unacknowledge(
+            let cascade = full_master(&*words).unacknowledge(
                 PicLine(CASCADE_IRQ),
                 master_in_service,
             );
             full_set_master(&mut *words, cascade);
-            let back = full_slave(&*words).full_unacknowledge(k, slave_in_service);
+            let back = full_slave(&*words).unacknowledge(k, slave_in_service);
             full_set_slave(&mut *words, back);
         }
         PicPlace::Nowhere => {}
@@ -858,6 +869,57 @@ fn full_restore(
 {
     full_restore_at(&mut *words, place, master_in_service, slave_in_service);
     full_settle(&mut *words);
+}
+
+// A read of a port of the master's, which shows a register where no poll waits. A poll acknowledges on its chip alone.
+fn full_read_master(words: &mut [u64; 4], register: u8) -> u8
+    ensures { λ r. ⌜ ReadOf (fullView (now (words .entry)) .master) (masterRead (fullView (now (words .entry)))) (fullView (now (words .exit))) register r ⌝ }
+{
+    let chip = full_master(&*words);
+    if !chip.poll() {
+        return register;
+    }
+    let polled = chip.full_poll(true);
+    let after = polled.chip;
+    full_set_master(&mut *words, after);
+    full_settle(&mut *words);
+    polled.shown
+}
+
+fn full_read_slave(words: &mut [u64; 4], register: u8) -> u8
+    ensures { λ r. ⌜ ReadOf (fullView (now (words .entry)) .slave) (slaveRead (fullView (now (words .entry)))) (fullView (now (words .exit))) register r ⌝ }
+{
+    let chip = full_slave(&*words);
+    if !chip.poll() {
+        return register;
+    }
+    let polled = chip.full_poll(false);
+    let after = polled.chip;
+    full_set_slave(&mut *words, after);
+    full_settle(&mut *words);
+    polled.shown
+}
+
+fn full_read(words: &mut [u64; 4], port: u64) -> PicValue
+    ensures { λ r. ⌜ valueOutcome (fullView (now (words .exit))) r ≡ portOutcome (fullView (now (words .entry))) port ⌝ }
+{
+    if port == MASTER_COMMAND as u64 {
+        let status = full_master(&*words).read_command();
+        return PicValue::Value(full_read_master(&mut *words, status));
+    }
+    if port == MASTER_DATA as u64 {
+        let mask = full_master(&*words).mask();
+        return PicValue::Value(full_read_master(&mut *words, mask));
+    }
+    if port == SLAVE_COMMAND as u64 {
+        let status = full_slave(&*words).read_command();
+        return PicValue::Value(full_read_slave(&mut *words, status));
+    }
+    if port == SLAVE_DATA as u64 {
+        let mask = full_slave(&*words).mask();
+        return PicValue::Value(full_read_slave(&mut *words, mask));
+    }
+    PicValue::Refused(Refusal::Unsupported)
 }
 
 // A value's low byte written.
@@ -967,10 +1029,10 @@ impl EmulatedPic {
         PicWritten { pic: self, done }
     }
 
-    pub fn handle_read(self, port: u16, width: u8) -> PicRead
+    pub fn handle_read(mut self, port: u16, width: u8) -> PicRead
         ensures { λ r. ⌜ valueOutcome (view (r .pic .words)) (r .value) ≡ handleRead (view (self .words)) port width ⌝ }
     {
-        let value = handle_read(&self.words, port as u64, width as u64);
+        let value = handle_read(&mut self.words, port as u64, width as u64);
         PicRead { pic: self, value }
     }
 

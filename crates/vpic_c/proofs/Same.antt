@@ -4,7 +4,9 @@ use mathlib.Core.Bool.{Bool, true, false, cond}
 use mathlib.Core.List.{List}
 use Prim.Native.Nat.{ℕ, _+_, _*_, _^_, _<_}
 use native.Mathlib.Omega.{arith}
+use lib.Dec.{ltb}
 use lib.ListN.{getD}
+use borrow.Author.Tests.{ltb-true}
 use Rattle.utils.specs.Set.{bit}
 use Rattle.utils.proofs.Bools.{both}
 use Rattle.types.specs.declared.PicPlace.{PicPlace}
@@ -14,7 +16,7 @@ use Rattle.types.specs.Reply.{Outcome, flag, replyNumber}
 use Rattle.reply_code.specs.Lent.{Fits}
 use Rattle.reply_code.proofs.Codes.{code-same}
 use Rattle.vpic_chip.specs.Registers.{Chip, chipIn}
-use Rattle.vpic_chip.specs.Chip.{acknowledged, commandRead, vectorReply}
+use Rattle.vpic_chip.specs.Chip.{acknowledged, commandRead, vectorReply, pendingLine, asks, isPolled, pollShown, readShown}
 use Rattle.vpic.specs.Words.{PicState, isFull, chipBy, view}
 use Rattle.vpic.specs.Pair.{ruleIn, isRule, refused, grew, pendingPlace, claimAt, claimPending, masterClaim, slaveClaim, claimReply, claimVector, valueReply, Port, master-command, master-data, slave-command, slave-data, no-port, portAt, readFrom, portRead}
 use Rattle.vpic.proofs.Ready.{Ready, pending-ready}
@@ -61,22 +63,35 @@ unfolding chipIn
 mask-lt w = omega arith
 
 -- so it is of a chip by the pair's rule
-command-by : (rule w : ℕ) → commandRead (chipBy rule w) < 2 ^ 32
+command-by : (place : Bool) (rule w : ℕ) → commandRead (chipBy place rule w) < 2 ^ 32
 unfolding commandRead
-command-by rule w = both (λ (c : Chip). commandRead c < 2 ^ 32) (isFull rule) _ _ (command-lt w) (command-lt w)
+command-by place rule w = both (λ (c : Chip). commandRead c < 2 ^ 32) (isFull rule) _ _ (command-lt w) (command-lt w)
 
-mask-by : (rule w : ℕ) → chipBy rule w .mask < 2 ^ 32
-mask-by rule w = both (λ (c : Chip). c .mask < 2 ^ 32) (isFull rule) _ _ (mask-lt w) (mask-lt w)
+mask-by : (place : Bool) (rule w : ℕ) → chipBy place rule w .mask < 2 ^ 32
+mask-by place rule w = both (λ (c : Chip). c .mask < 2 ^ 32) (isFull rule) _ _ (mask-lt w) (mask-lt w)
+
+-- and what a poll shows
+poll-lt : (c : Chip) → pollShown c < 2 ^ 32
+unfolding pollShown asks
+poll-lt c = go (ltb (pendingLine c) 8) refl
+  where
+    go : (b : Bool) → ltb (pendingLine c) 8 ≡ b → cond b (0x80 + pendingLine c) 0 < 2 ^ 32
+    go true e = omega (arith, ltb-true (pendingLine c) 8 e)
+    go false e = omega arith
+
+shown-lt : (c : Chip) (n : ℕ) → n < 2 ^ 32 → readShown c n < 2 ^ 32
+unfolding readShown
+shown-lt c n h = both (λ (m : ℕ). m < 2 ^ 32) (isPolled c) _ _ (poll-lt c) h
 
 pub fits-value : (l : List ℕ) (port : ℕ) → Fits (valueReply (portRead (view l) port))
 unfolding portRead view
 fits-value l port = go (portAt port)
   where
     go : (a : Port) → Fits (valueReply (readFrom (view l) a))
-    go master-command = command-by (getD l 2 0) (getD l 0 0)
-    go master-data = mask-by (getD l 2 0) (getD l 0 0)
-    go slave-command = command-by (getD l 2 0) (getD l 1 0)
-    go slave-data = mask-by (getD l 2 0) (getD l 1 0)
+    go master-command = shown-lt (view l .master) _ (command-by true (getD l 2 0) (getD l 0 0))
+    go master-data = shown-lt (view l .master) _ (mask-by true (getD l 2 0) (getD l 0 0))
+    go slave-command = shown-lt (view l .slave) _ (command-by false (getD l 2 0) (getD l 1 0))
+    go slave-data = shown-lt (view l .slave) _ (mask-by false (getD l 2 0) (getD l 1 0))
     go no-port = tt
 
 pub refused-new-keeps-words : RefusedNewKeepsWords

@@ -127,10 +127,10 @@ pub extern "C" fn sillwander_pic_restore_interrupt(words: &mut [u64; 4], claim: 
 }
 
 #[no_mangle]
-pub extern "C" fn sillwander_pic_handle_read(words: &[u64; 4], port: u64, width: u64) -> u64
-    ensures { λ r. ⌜ shown (view (now (words .entry))) r ≡ coded (handleRead (view (now (words .entry))) port width) ⌝ }
+pub extern "C" fn sillwander_pic_handle_read(words: &mut [u64; 4], port: u64, width: u64) -> u64
+    ensures { λ r. ⌜ shown (view (now (words .exit))) r ≡ coded (handleRead (view (now (words .entry))) port width) ⌝ }
 {
-    code(vpic::handle_read(words, port, width).reply())
+    code(vpic::handle_read(&mut *words, port, width).reply())
 }
 
 #[no_mangle]

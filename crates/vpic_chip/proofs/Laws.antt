@@ -8,12 +8,12 @@ use lib.Dec.{ltb, eqb}
 use lib.Pow.{pow-pos}
 use borrow.Author.Tests.{ltb-true, ltb-false, lt-ltb, le-ltb, ne-eqb, eqb-true, eqb-false, not-true, not-false}
 use Rattle.vpic_priority.specs.Ring.{rank, above, firstRank, firstBy}
-use Rattle.vpic_priority.proofs.Ring.{rank-lt, rank-low, by-rank, by-holds, by-before, by-none, nested-rank, nested-first-rank, nested-first, nested-above}
+use Rattle.vpic_priority.proofs.Ring.{rank-lt, rank-low, first-rank-le, by-rank, by-holds, by-before, by-none, first-rank-same, nested-rank, nested-first-rank, nested-first, nested-above}
 use Rattle.utils.specs.Set.{bit, with, without, outside, setOf, first, below, lowest}
 use Rattle.utils.specs.Cases.{cases, and-left-no, and-right-no}
-use Rattle.utils.proofs.Bools.{never, and-true, and-false, and-one}
+use Rattle.utils.proofs.Bools.{never, and-true, and-false, and-one, not-is}
 use Rattle.utils.proofs.Search.{first-same}
-use Rattle.utils.proofs.Laws.{bit-above, bit-setOf, bit-outside, bit-cut, setOf-lt, setOf-same, setOf-bits, without-member, bit-with-same, bit-without-other}
+use Rattle.utils.proofs.Laws.{bit-above, bit-setOf, bit-outside, bit-cut, setOf-lt, setOf-same, setOf-bits, without-member, bit-with-same, bit-without-same, bit-without-other}
 use Rattle.utils.proofs.Lowest.{lowest-in-byte}
 use Rattle.types.specs.declared.PicLine.{PicLine}
 use Rattle.types.specs.declared.Vector.{Vector}
@@ -24,8 +24,8 @@ use Rattle.vpic_chip.specs.declared.PendingIrq.{PendingIrq}
 use Rattle.vpic_chip.specs.declared.PendingIrq.the-variants.{Irq, Nothing}
 use Rattle.vpic_chip.specs.declared.PicVector.{PicVector}
 use Rattle.vpic_chip.specs.declared.PicVector.the-variants.{Given, Nothing as NoVector}
-use Rattle.vpic_chip.specs.Registers.{Chip, withBase, withRequest, withInService, withStep, withAutoEoi}
-use Rattle.vpic_chip.specs.Chip.{lowestBy, firstOf, isAbove, isAboveAll, turned, autoRotated, ocw2, nonSpecificEoi, specificEoi, afterIcw3, icw2, icw3, icw4, ocw1, fed, commanded, pulsed, counts, pendingLine, Highest, pendingIrq, pendingReply, asks, driven, acknowledged, acknowledge, unacknowledged, vectorReply}
+use Rattle.vpic_chip.specs.Registers.{Chip, withBase, withRequest, withInService, withStep, withAutoEoi, withReadIsr, withNested}
+use Rattle.vpic_chip.specs.Chip.{lowestBy, firstOf, isAbove, isAboveAll, turned, isSpecial, isNested, blocks, blocksLine, autoRotated, ocw2, ocw3, nonSpecificEoi, specificEoi, afterIcw3, icw2, icw3, icw4, ocw1, fed, commanded, pulsed, counts, pendingLine, Highest, pendingIrq, pendingReply, asks, driven, acknowledged, acknowledge, unacknowledged, vectorReply}
 
 -- ---- priorities
 
@@ -54,8 +54,49 @@ module _ (c : Chip) (k : ℕ) (set : ℕ → Bool) where
           omega (arith, r, ltb-true (rank (lowestBy c) k) (rank (lowestBy c) n) (h n i (by-holds (lowestBy c) set i)))
       go false f = omega (arith, rank-lt (lowestBy c) k l, ltb-false (firstRank (lowestBy c) set) 8 f)
 
--- a chip that doesn't take rotation has the order of the numbers
+-- a line at which a test holds is none before the first
+pub first-top : (l : ℕ) (p : ℕ → Bool) (j : ℕ) → p j ≡ true → firstRank l p ≤ rank l j
+first-top l p j e = go (ltb (rank l j) (firstRank l p)) refl
+  where
+    go : (b : Bool) → ltb (rank l j) (firstRank l p) ≡ b → firstRank l p ≤ rank l j
+    go true d = never e (by-before l p j (ltb-true (rank l j) (firstRank l p) d))
+    go false d = ltb-false (rank l j) (firstRank l p) d
+
+-- ---- what is in the way of a line
+
+module _ (c : Chip) (s : isSpecial c ≡ false) where
+  -- outside special mask mode every line in service
+  pub ordinary-blocks : (j : ℕ) → blocks c j ≡ bit (c .«in_service») j
+  ordinary-blocks j = ap (λ (b : Bool). bit (c .«in_service») j && not (b && bit (c .mask) j)) s ∙ and-one (bit (c .«in_service») j)
+
+module _ (c : Chip) (n : isNested c ≡ false) where
+  -- outside special fully nested mode the same lines are in every line's way
+  pub ordinary-line : (k j : ℕ) → blocksLine c k j ≡ blocks c j
+  ordinary-line k j = ap (λ (b : Bool). blocks c j && not (b && eqb k 2 && eqb j 2)) n ∙ and-one (blocks c j)
+
+-- so in neither mode the lines in service are in every line's way
+pub ordinary : (c : Chip) → isSpecial c ≡ false → isNested c ≡ false → (k j : ℕ) → blocksLine c k j ≡ bit (c .«in_service») j
+ordinary c s n k j = ordinary-line c n k j ∙ ordinary-blocks c s j
+
+-- what is in another line's way is in this one's too, in every mode, unless both are line 2
+pub blocks-other : (c : Chip) (k i j : ℕ) → blocksLine c i j ≡ true → (k ≡ j → ⊥) → blocksLine c k j ≡ true
+blocks-other c k i j e d =
+    let a : blocks c j ≡ true = and-true (blocks c j) (not (isNested c && eqb i 2 && eqb j 2)) e .0 in
+    rw a (go (eqb k 2) refl (eqb j 2) refl)
+  where
+    go : (x : Bool) → eqb k 2 ≡ x → (y : Bool) → eqb j 2 ≡ y → not (isNested c && x && y) ≡ true
+    go true p true q = absurd (d (eqb-true k 2 p ∙ sym (eqb-true j 2 q)))
+    go x p false q = ap not (and-false (isNested c && x))
+    go false p true q = ap (λ (b : Bool). not (b && true)) (and-false (isNested c))
+
+-- a chip that isn't a full one has the order of the numbers
 module _ (c : Chip) (f : c .full ≡ false) where
+  plain-special : isSpecial c ≡ false
+  plain-special = rw f
+
+  plain-nested : isNested c ≡ false
+  plain-nested = rw f
+
   pub plain-lowest : lowestBy c ≡ 7
   plain-lowest = rw f
 
@@ -73,7 +114,13 @@ module _ (c : Chip) (f : c .full ≡ false) where
   -- so a request counts if it is unmasked and its line below every line in service
   pub plain-counts : (k : ℕ) → k < 8 → counts c k ≡ (bit (c .request) k && not (bit (c .mask) k) && ltb k (lowest 8 (c .«in_service»)))
   unfolding counts
-  plain-counts k h = ap (λ (b : Bool). bit (c .request) k && not (bit (c .mask) k) && b) (plain-above-all k (c .«in_service») h)
+  plain-counts k h =
+      ap (λ (b : Bool). bit (c .request) k && not (bit (c .mask) k) && b)
+      (ap (λ (n : ℕ). ltb (rank (lowestBy c) k) n) (first-rank-same (lowestBy c) (blocksLine c k) (bit (c .«in_service»)) (λ j l. ordinary c plain-special plain-nested k j))
+      ∙ plain-above-all k (c .«in_service») h)
+
+  plain-highest : firstOf c (blocks c) ≡ first 8 (bit (c .«in_service»))
+  plain-highest = plain-first (blocks c) ∙ first-same 8 (blocks c) (bit (c .«in_service»)) (λ j l. ordinary-blocks c plain-special j)
 
   -- and no command turns its priorities
   pub plain-turned : (rotates : Bool) (k : ℕ) → turned c rotates k ≡ c
@@ -172,21 +219,52 @@ pended c k e =
       above = λ j l. by-before (lowestBy c) (counts c) j (omega (arith, same, ltb-true (rank (lowestBy c) j) (rank (lowestBy c) (k .0)) l));
     }
 
--- a line that counts is requested, above every line in service, and so not in service
+-- a line that counts is requested, unmasked, above every line that is in its way, and so not in its own way
 module _ (c : Chip) (k : ℕ) (e : counts c k ≡ true) where
-  pub counted-asked : bit (c .request) k ≡ true
+  open-line : (bit (c .request) k && not (bit (c .mask) k)) ≡ true
   unfolding counts
-  counted-asked =
-      and-true (bit (c .request) k) (not (bit (c .mask) k)) (and-true (bit (c .request) k && not (bit (c .mask) k)) (isAboveAll c k (bit (c .«in_service»))) e .0) .0
+  open-line = and-true (bit (c .request) k && not (bit (c .mask) k)) (isAboveAll c k (blocksLine c k)) e .0
 
-  pub counted-above : rank (lowestBy c) k < firstRank (lowestBy c) (bit (c .«in_service»))
+  pub counted-asked : bit (c .request) k ≡ true
+  counted-asked = and-true (bit (c .request) k) (not (bit (c .mask) k)) open-line .0
+
+  pub counted-open : bit (c .mask) k ≡ false
+  counted-open = not-is (bit (c .mask) k) (and-true (bit (c .request) k) (not (bit (c .mask) k)) open-line .1)
+
+  pub counted-above : rank (lowestBy c) k < firstRank (lowestBy c) (blocksLine c k)
   unfolding counts
   counted-above =
-      ltb-true (rank (lowestBy c) k) (firstRank (lowestBy c) (bit (c .«in_service»)))
-      (and-true (bit (c .request) k && not (bit (c .mask) k)) (isAboveAll c k (bit (c .«in_service»))) e .1)
+      ltb-true (rank (lowestBy c) k) (firstRank (lowestBy c) (blocksLine c k))
+      (and-true (bit (c .request) k && not (bit (c .mask) k)) (isAboveAll c k (blocksLine c k)) e .1)
 
-  pub counted-idle : bit (c .«in_service») k ≡ false
-  counted-idle = by-before (lowestBy c) (bit (c .«in_service»)) k counted-above
+  pub counted-clear : blocksLine c k k ≡ false
+  counted-clear = by-before (lowestBy c) (blocksLine c k) k counted-above
+
+  -- nor in service, but for the master's line 2 in special fully nested mode
+  pub counted-idle : (isNested c && eqb k 2) ≡ false → bit (c .«in_service») k ≡ false
+  counted-idle n = sym (and-one _) ∙ ap (λ (b : Bool). bit (c .«in_service») k && b) (sym unmasked) ∙ sym (and-one _) ∙ ap (λ (b : Bool). blocks c k && b) (sym other) ∙ counted-clear
+    where
+      unmasked : not (isSpecial c && bit (c .mask) k) ≡ true
+      unmasked = ap (λ (b : Bool). not (isSpecial c && b)) counted-open ∙ ap not (and-false (isSpecial c))
+
+      other : not (isNested c && eqb k 2 && eqb k 2) ≡ true
+      other = ap (λ (b : Bool). not (b && eqb k 2)) n
+
+  -- what is above it has nothing in its way
+  pub above-clear : (j : ℕ) → rank (lowestBy c) j < rank (lowestBy c) k → isAboveAll c j (blocksLine c j) ≡ true
+  above-clear j l = lt-ltb (rank (lowestBy c) j) (firstRank (lowestBy c) (blocksLine c j)) (go (ltb (rank (lowestBy c) j) (firstRank (lowestBy c) (blocksLine c j))) refl)
+    where
+      go : (b : Bool) → ltb (rank (lowestBy c) j) (firstRank (lowestBy c) (blocksLine c j)) ≡ b → rank (lowestBy c) j < firstRank (lowestBy c) (blocksLine c j)
+      go true q = ltb-true (rank (lowestBy c) j) (firstRank (lowestBy c) (blocksLine c j)) q
+      go false q =
+          let f : firstRank (lowestBy c) (blocksLine c j) ≤ rank (lowestBy c) j = ltb-false (rank (lowestBy c) j) (firstRank (lowestBy c) (blocksLine c j)) q in
+          let i = firstOf c (blocksLine c j) in
+          let r : rank (lowestBy c) i ≡ firstRank (lowestBy c) (blocksLine c j) = by-rank (lowestBy c) (blocksLine c j) in
+          let up : rank (lowestBy c) i < rank (lowestBy c) k = omega arith in
+          let small : firstRank (lowestBy c) (blocksLine c k) ≤ 8 = first-rank-le (lowestBy c) (blocksLine c k) in
+          let low : i < 8 = rank-low (lowestBy c) i (omega (arith, counted-above)) in
+          let there : blocksLine c k i ≡ true = blocks-other c k j i (by-holds (lowestBy c) (blocksLine c j) low) (λ z. omega (arith, ap (rank (lowestBy c)) z)) in
+          never there (by-before (lowestBy c) (blocksLine c k) i (omega (arith, counted-above)))
 
 -- outside automatic EOI mode an acknowledgement turns no priorities
 pub untouched : (c : Chip) (k : ℕ) → c .«auto_eoi» ≡ false → acknowledged c k .«lowest_line» ≡ c .«lowest_line»
@@ -207,35 +285,44 @@ module _ (c : Chip) (k : ℕ) (h : Highest c k) (a : c .«auto_eoi» ≡ false) 
   unfolding acknowledged
   served-on = ap (λ (b : Bool). bit (cond b (c .«in_service») (with (c .«in_service») k)) k) a ∙ bit-with-same (c .«in_service») k
 
-  -- the highest line in service is at least as high
-  served-line : firstRank (lowestBy c) (bit (acknowledged c k .«in_service»)) ≤ rank (lowestBy c) k
-  served-line = go (ltb (rank (lowestBy c) k) (firstRank (lowestBy c) (bit (acknowledged c k .«in_service»)))) refl
+  -- and in the way of every other line: it is unmasked
+  in-the-way : (j : ℕ) → (j ≡ k → ⊥) → blocksLine (acknowledged c k) j k ≡ true
+  unfolding acknowledged
+  in-the-way j d = rw (open', other)
     where
-      go : (b : Bool) → ltb (rank (lowestBy c) k) (firstRank (lowestBy c) (bit (acknowledged c k .«in_service»))) ≡ b
-          → firstRank (lowestBy c) (bit (acknowledged c k .«in_service»)) ≤ rank (lowestBy c) k
-      go true e =
-          never served-on
-          (by-before (lowestBy c) (bit (acknowledged c k .«in_service»)) k
-          (ltb-true (rank (lowestBy c) k) (firstRank (lowestBy c) (bit (acknowledged c k .«in_service»))) e))
-      go false e = ltb-false (rank (lowestBy c) k) (firstRank (lowestBy c) (bit (acknowledged c k .«in_service»))) e
+      open' : blocks (acknowledged c k) k ≡ true
+      open' =
+          ap (λ (b : Bool). b && not (isSpecial c && bit (c .mask) k)) served-on
+          ∙ ap (λ (b : Bool). not (isSpecial c && b)) (counted-open c k (h .counted))
+          ∙ ap not (and-false (isSpecial c))
+
+      other : not (isNested (acknowledged c k) && eqb j 2 && eqb k 2) ≡ true
+      other = go (eqb j 2) refl (eqb k 2) refl
+        where
+          go : (x : Bool) → eqb j 2 ≡ x → (y : Bool) → eqb k 2 ≡ y → not (isNested (acknowledged c k) && x && y) ≡ true
+          go true p true q = absurd (d (eqb-true j 2 p ∙ sym (eqb-true k 2 q)))
+          go x p false q = ap not (and-false (isNested (acknowledged c k) && x))
+          go false p true q = ap (λ (b : Bool). not (b && true)) (and-false (isNested (acknowledged c k)))
 
   none-left : (j : ℕ) → j < 8 → counts (acknowledged c k) j ≡ false
   unfolding counts acknowledged above
-  none-left j l = go (ltb (rank (lowestBy c) j) (rank (lowestBy c) k)) refl
+  none-left j l = go (eqb j k) refl (ltb (rank (lowestBy c) j) (rank (lowestBy c) k)) refl
     where
-      go : (b : Bool) → ltb (rank (lowestBy c) j) (rank (lowestBy c) k) ≡ b → counts (acknowledged c k) j ≡ false
-      go true e =
-          let i : rank (lowestBy c) j < rank (lowestBy c) k = ltb-true (rank (lowestBy c) j) (rank (lowestBy c) k) e in
-          let o : bit (without (c .request) k) j ≡ bit (c .request) j = bit-without-other (c .request) k j (λ q. omega (arith, ap (rank (lowestBy c)) q)) in
-          let t : isAboveAll c j (bit (c .«in_service»)) ≡ true =
-          lt-ltb (rank (lowestBy c) j) (firstRank (lowestBy c) (bit (c .«in_service»))) (omega (arith, counted-above c k (h .counted))) in
+      go : (a : Bool) → eqb j k ≡ a → (b : Bool) → ltb (rank (lowestBy c) j) (rank (lowestBy c) k) ≡ b → counts (acknowledged c k) j ≡ false
+      -- its own request is gone
+      go true q b e = and-left-no _ _ (and-left-no _ _ (ap (bit (without (c .request) k)) (eqb-true j k q) ∙ bit-without-same (c .request) k))
+      -- above it no request waits
+      go false q true e =
+          let o : bit (without (c .request) k) j ≡ bit (c .request) j = bit-without-other (c .request) k j (eqb-false j k q) in
           let n : (bit (c .request) j && not (bit (c .mask) j)) ≡ false =
-          sym (and-one _) ∙ ap (λ (b : Bool). (bit (c .request) j && not (bit (c .mask) j)) && b) (sym t) ∙ h .above j e in
+          sym (and-one _) ∙ ap (λ (b : Bool). (bit (c .request) j && not (bit (c .mask) j)) && b) (sym (above-clear c k (h .counted) j (ltb-true (rank (lowestBy c) j) (rank (lowestBy c) k) e))) ∙ h .above j e in
           and-left-no _ _ (ap (λ (b : Bool). b && not (bit (c .mask) j)) o ∙ n)
-      go false e =
-          and-right-no (bit (without (c .request) k) j && not (bit (c .mask) j)) (isAboveAll (acknowledged c k) j (bit (acknowledged c k .«in_service»)))
-          (ap (λ (n : ℕ). ltb (rank n j) (firstRank n (bit (acknowledged c k .«in_service»)))) same-lowest
-          ∙ le-ltb (rank (lowestBy c) j) (firstRank (lowestBy c) (bit (acknowledged c k .«in_service»))) (omega (arith, served-line, ltb-false (rank (lowestBy c) j) (rank (lowestBy c) k) e)))
+      -- below it, it is in the way
+      go false q false e =
+          and-right-no (bit (without (c .request) k) j && not (bit (c .mask) j)) (isAboveAll (acknowledged c k) j (blocksLine (acknowledged c k) j))
+          (ap (λ (n : ℕ). ltb (rank n j) (firstRank n (blocksLine (acknowledged c k) j))) same-lowest
+          ∙ le-ltb (rank (lowestBy c) j) (firstRank (lowestBy c) (blocksLine (acknowledged c k) j))
+          (omega (arith, first-top (lowestBy c) (blocksLine (acknowledged c k) j) k (in-the-way j (eqb-false j k q)), ltb-false (rank (lowestBy c) j) (rank (lowestBy c) k) e)))
 
   pub quiet-taken : asks (acknowledged c k) ≡ false
   quiet-taken = asks-not (acknowledged c k) none-left
@@ -306,8 +393,11 @@ module _ (c b d : Chip) (v s : ℕ) (t : Bool) (eb : b ≡ withBase c v) (et : t
 pub icw3-way : (c d : Chip) (n : ℕ) → n ≡ afterIcw3 c → d ≡ withStep c n → d ≡ icw3 c
 icw3-way c d n q e = e ∙ ap (withStep c) q
 
-pub icw4-way : (c b d : Chip) (t : Bool) → b ≡ withAutoEoi c t → d ≡ withStep b 0 → d ≡ withStep (withAutoEoi c t) 0
-icw4-way c b d t eb ed = cc
+pub icw4-way : (c b d : Chip) (t n : Bool) → c .full ≡ false → b ≡ withAutoEoi c t → d ≡ withStep b 0 → d ≡ withStep (withNested (withAutoEoi c t) (cond (c .full) n (c .nested))) 0
+icw4-way c b d t n f eb ed = ed ∙ ap (λ (x : Chip). withStep x 0) eb ∙ ap (λ (x : Bool). withStep (withNested (withAutoEoi c t) (cond x n (c .nested))) 0) (sym f)
+
+pub ocw3-way : (c d x : Chip) (t : Bool) → c .full ≡ false → d ≡ withReadIsr c t → d ≡ cond (c .full) x (withReadIsr c t)
+ocw3-way c d x t f e = e ∙ ap (λ (b : Bool). cond b x (withReadIsr c t)) (sym f)
 
 module _ (c d : Chip) (v s : ℕ) (es : s ≡ c .«init_step») where
   pub fed-icw2 : s ≡ 1 → d ≡ icw2 c v → d ≡ fed c v
@@ -339,7 +429,7 @@ unfolding lowest
 ended-way c d s n f es en l ed =
     ed ∙ ap (withInService c) (en ∙ ap (λ (x : ℕ). without x (first 8 (bit x))) es) ∙ go (ltb k 8) refl
     ∙ ap (λ (x : Chip). cond (ltb k 8) x c) (sym (plain-turned (specificEoi c k) f false k))
-    ∙ ap (λ (n : ℕ). cond (ltb n 8) (turned (specificEoi c n) false n) c) (sym (plain-first c f (bit (c .«in_service»))))
+    ∙ ap (λ (n : ℕ). cond (ltb n 8) (turned (specificEoi c n) false n) c) (sym (plain-highest c f))
   where
     k : ℕ
     k = first 8 (bit (c .«in_service»))

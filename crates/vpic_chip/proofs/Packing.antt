@@ -10,7 +10,7 @@ use borrow.Author.Tests.{eqb-true, eqb-false}
 use Rattle.utils.specs.Set.{bit, with, without}
 use Rattle.utils.proofs.Laws.{bit-at-least, with-lt, without-le}
 use Rattle.types.specs.Reply.{flag}
-use Rattle.vpic_chip.specs.Registers.{Chip, registers, asFull, fullIn, withBase, withMask, withRequest, withInService, withStep, withAutoEoi, withReadIsr, withLowest, withAutoRotation, chipIn}
+use Rattle.vpic_chip.specs.Registers.{Chip, registers, plainRegisters, asFull, fullIn, placed, withBase, withMask, withRequest, withInService, withStep, withAutoEoi, withReadIsr, withLowest, withAutoRotation, withSpecialMask, withPoll, withNested, chipIn}
 use Rattle.vpic_chip.specs.Chip.{opened, icw1, specificEoi}
 
 abbrev byte : ℕ → ℕ → ℕ
@@ -22,10 +22,10 @@ digit w n = w / 2 ^ n % 2
 -- a chip by the registers of its word
 parts : (r b0 b1 b2 b3 b4 f0 f1 f2 f3 sp : ℕ) → r % 2 ^ 8 ≡ b0 → byte r 8 ≡ b1 → byte r 16 ≡ b2 → byte r 24 ≡ b3 → byte r 32 ≡ b4
     → digit r 40 ≡ f0 → digit r 41 ≡ f1 → digit r 42 ≡ f2 → digit r 43 ≡ f3 → r / 2 ^ 44 ≡ sp
-    → chipIn r ≡ registers b0 b1 b2 b3 b4 (eqb f0 1) (eqb f1 1) (eqb f2 1) (eqb f3 1) false 7 false sp
+    → chipIn r ≡ plainRegisters b0 b1 b2 b3 b4 (eqb f0 1) (eqb f1 1) (eqb f2 1) (eqb f3 1) sp
 unfolding chipIn
 parts r b0 b1 b2 b3 b4 f0 f1 f2 f3 sp e0 e1 e2 e3 e4 g0 g1 g2 g3 h =
-    λ i. registers (e0 i) (e1 i) (e2 i) (e3 i) (e4 i) (eqb (g0 i) 1) (eqb (g1 i) 1) (eqb (g2 i) 1) (eqb (g3 i) 1) false 7 false (h i)
+    λ i. plainRegisters (e0 i) (e1 i) (e2 i) (e3 i) (e4 i) (eqb (g0 i) 1) (eqb (g1 i) 1) (eqb (g2 i) 1) (eqb (g3 i) 1) (h i)
 
 -- such a chip doesn't take rotation
 pub plain : (w : ℕ) → chipIn w .full ≡ false
@@ -192,63 +192,143 @@ pub auto-rotation-read : (w : ℕ) → eqb (w / 2 ^ 47 % 2) 1 ≡ fullIn w .«au
 unfolding chipIn
 auto-rotation-read w = let d : w / 2 ^ 47 % 2 ≡ w / 2 ^ 44 / 2 ^ 3 % 2 = omega arith in ap (λ (n : ℕ). eqb n 1) d
 
--- a chip by what stands in what is left of its word
-full-parts : (r w sp lo left : ℕ) (rot : Bool) → chipIn r ≡ registers (w % 2 ^ 8) (byte w 8) (byte w 16) (byte w 24) (byte w 32) (bit w 40) (bit w 41) (bit w 42) (bit w 43) false 7 false sp
-    → (sp + 7) % 2 ^ 3 ≡ lo → bit sp 3 ≡ rot → sp / 2 ^ 4 ≡ left
-    → fullIn r ≡ registers (w % 2 ^ 8) (byte w 8) (byte w 16) (byte w 24) (byte w 32) (bit w 40) (bit w 41) (bit w 42) (bit w 43) true lo rot left
-full-parts r w sp lo left rot e a b c =
-    ap asFull e ∙ (λ i. registers (w % 2 ^ 8) (byte w 8) (byte w 16) (byte w 24) (byte w 32) (bit w 40) (bit w 41) (bit w 42) (bit w 43) true (a i) (b i) (c i))
+module _ (w : ℕ) where
+  pub special-mask-read : eqb (w / 2 ^ 48 % 2) 1 ≡ fullIn w .«special_mask»
+  unfolding chipIn
+  special-mask-read = let d : w / 2 ^ 48 % 2 ≡ w / 2 ^ 44 / 2 ^ 4 % 2 = omega arith in ap (λ (n : ℕ). eqb n 1) d
 
-eighth : (a v : ℕ) → (a * 8 + (v + 1) % 8) / 2 ^ 3 ≡ a
-eighth a v = omega arith
+  pub poll-read : eqb (w / 2 ^ 49 % 2) 1 ≡ fullIn w .poll
+  unfolding chipIn
+  poll-read = let d : w / 2 ^ 49 % 2 ≡ w / 2 ^ 44 / 2 ^ 5 % 2 = omega arith in ap (λ (n : ℕ). eqb n 1) d
+
+  pub nested-read : eqb (w / 2 ^ 50 % 2) 1 ≡ fullIn w .nested
+  unfolding chipIn
+  nested-read = let d : w / 2 ^ 50 % 2 ≡ w / 2 ^ 44 / 2 ^ 6 % 2 = omega arith in ap (λ (n : ℕ). eqb n 1) d
+
+-- a word with something else in what is left: the chip's own registers stay
+left-put : (w r x : ℕ) → r ≡ x * 2 ^ 44 + w % 2 ^ 44 → chipIn r ≡ plainRegisters (w % 2 ^ 8) (byte w 8) (byte w 16) (byte w 24) (byte w 32) (bit w 40) (bit w 41) (bit w 42) (bit w 43) x
+left-put w r x e =
+    parts r (w % 2 ^ 8) (byte w 8) (byte w 16) (byte w 24) (byte w 32) (digit w 40) (digit w 41) (digit w 42) (digit w 43) x
+    (omega arith) (omega arith) (omega arith) (omega arith) (omega arith) (omega arith) (omega arith) (omega arith) (omega arith) (omega arith)
+
+-- a number x that is y but for its lowest three digits, or but for one of the four above them
+record Digits (x y lo v3 v4 v5 v6 : ℕ) : Type 0 where
+  order : (x + 7) % 2 ^ 3 ≡ lo
+  three : x / 2 ^ 3 % 2 ≡ v3
+  four : x / 2 ^ 4 % 2 ≡ v4
+  five : x / 2 ^ 5 % 2 ≡ v5
+  six : x / 2 ^ 6 % 2 ≡ v6
+  left : x / 2 ^ 7 ≡ y / 2 ^ 7
+
+abbrev order : ℕ → ℕ
+order y = (y + 7) % 2 ^ 3
+
+further : (x y m e : ℕ) → x / m ≡ y / m → x / (m * e) ≡ y / (m * e)
+further x y m e h = sym (div-div-eq-div-mul x m e) ∙ ap (λ (z : ℕ). z / e) h ∙ div-div-eq-div-mul y m e
+
+order-digits : (y v : ℕ) → v < 8 → Digits (y / 8 * 8 + (v + 1) % 8) y v (digit y 3) (digit y 4) (digit y 5) (digit y 6)
+order-digits y v h =
+    let x = y / 8 * 8 + (v + 1) % 8 in
+    let t : x / 8 ≡ y / 8 = omega arith in
+    record { order = omega arith; three = ap (λ (z : ℕ). z % 2) t; four = ap (λ (z : ℕ). z % 2) (further x y 8 2 t); five = ap (λ (z : ℕ). z % 2) (further x y 8 4 t); six = ap (λ (z : ℕ). z % 2) (further x y 8 8 t); left = further x y 8 16 t }
+
+module _ (y v : ℕ) (h : v ≤ 1) where
+  rotation-digits : Digits (y / 16 * 16 + v * 8 + y % 8) y (order y) v (digit y 4) (digit y 5) (digit y 6)
+  rotation-digits =
+      let x = y / 16 * 16 + v * 8 + y % 8 in
+      let t : x / 16 ≡ y / 16 = omega arith in
+      record { order = omega arith; three = omega arith; four = omega arith; five = ap (λ (z : ℕ). z % 2) (further x y 16 2 t); six = ap (λ (z : ℕ). z % 2) (further x y 16 4 t); left = further x y 16 8 t }
+
+  special-digits : Digits (y / 32 * 32 + v * 16 + y % 16) y (order y) (digit y 3) v (digit y 5) (digit y 6)
+  special-digits =
+      let x = y / 32 * 32 + v * 16 + y % 16 in
+      let t : x / 32 ≡ y / 32 = omega arith in
+      record { order = omega arith; three = omega arith; four = omega arith; five = omega arith; six = ap (λ (z : ℕ). z % 2) (further x y 32 2 t); left = further x y 32 4 t }
+
+  poll-digits : Digits (y / 64 * 64 + v * 32 + y % 32) y (order y) (digit y 3) (digit y 4) v (digit y 6)
+  poll-digits = record { order = omega arith; three = omega arith; four = omega arith; five = omega arith; six = omega arith; left = omega arith }
+
+  nested-digits : Digits (y / 128 * 128 + v * 64 + y % 64) y (order y) (digit y 3) (digit y 4) (digit y 5) v
+  nested-digits = record { order = omega arith; three = omega arith; four = omega arith; five = omega arith; six = omega arith; left = omega arith }
+
+-- the full profile's registers by the digits of what is left, x, which was w's
+full-put : (w r x lo v3 v4 v5 v6 : ℕ) → r ≡ x * 2 ^ 44 + w % 2 ^ 44 → Digits x (w / 2 ^ 44) lo v3 v4 v5 v6
+    → fullIn r
+    ≡ registers (w % 2 ^ 8) (byte w 8) (byte w 16) (byte w 24) (byte w 32) (bit w 40) (bit w 41) (bit w 42) (bit w 43) true false lo (eqb v3 1) (eqb v4 1) (eqb v5 1) (eqb v6 1) (w / 2 ^ 44 / 2 ^ 7)
+full-put w r x lo v3 v4 v5 v6 e d =
+    ap asFull (left-put w r x e)
+    ∙ (λ i. registers (w % 2 ^ 8) (byte w 8) (byte w 16) (byte w 24) (byte w 32) (bit w 40) (bit w 41) (bit w 42) (bit w 43) true false (d .order i) (eqb (d .three i) 1) (eqb (d .four i) 1) (eqb (d .five i) 1) (eqb (d .six i) 1) (d .left i))
 
 pub lowest-put : (w v r : ℕ) → v < 8 → r ≡ w / 2 ^ 47 * 2 ^ 47 + (v + 1) % 8 * 2 ^ 44 + w % 2 ^ 44 → fullIn r ≡ withLowest (fullIn w) v
 unfolding chipIn
 lowest-put w v r h e =
-    let s = w / 2 ^ 47 * 8 + (v + 1) % 8 in
-    let d : s / 2 ^ 3 % 2 ≡ w / 2 ^ 44 / 2 ^ 3 % 2 = ap (λ (n : ℕ). n % 2) (eighth (w / 2 ^ 47) v ∙ sym (div-div-eq-div-mul w (2 ^ 44) (2 ^ 3))) in
-    full-parts r w s v (w / 2 ^ 44 / 2 ^ 4) (bit (w / 2 ^ 44) 3)
-    (parts r (w % 2 ^ 8) (byte w 8) (byte w 16) (byte w 24) (byte w 32) (digit w 40) (digit w 41) (digit w 42) (digit w 43) s
-    (omega arith) (omega arith) (omega arith) (omega arith) (omega arith) (omega arith) (omega arith) (omega arith) (omega arith) (omega arith))
-    (omega arith) (ap (λ (n : ℕ). eqb n 1) d) (omega arith)
+    let y = w / 2 ^ 44 in
+    full-put w r (y / 8 * 8 + (v + 1) % 8) v (digit y 3) (digit y 4) (digit y 5) (digit y 6) (omega (arith, div-div-eq-div-mul w (2 ^ 44) 8)) (order-digits y v h)
 
-middle : (a v b : ℕ) → v ≤ 1 → b < 8 → (a * 16 + v * 8 + b) / 2 ^ 3 % 2 ≡ v
-middle a v b h l = omega arith
+-- one of its flags is put
+module _ (w v r : ℕ) (b : Bool) (f : v ≡ flag b) (h : v ≤ 1) where
+  put : eqb v 1 ≡ b
+  put = ap (λ (n : ℕ). eqb n 1) f ∙ flag-back b
 
-top : (a v b : ℕ) → v ≤ 1 → b < 8 → (a * 16 + v * 8 + b) / 2 ^ 4 ≡ a
-top a v b h l = omega arith
+  pub rotation-put : r ≡ w / 2 ^ 48 * 2 ^ 48 + v * 2 ^ 47 + w % 2 ^ 47 → fullIn r ≡ withAutoRotation (fullIn w) b
+  unfolding chipIn
+  rotation-put e =
+      let y = w / 2 ^ 44 in
+      full-put w r (y / 16 * 16 + v * 8 + y % 8) (order y) v (digit y 4) (digit y 5) (digit y 6) (omega (arith, div-div-eq-div-mul w (2 ^ 44) 16, div-div-eq-div-mul w (2 ^ 44) 8)) (rotation-digits y v h)
+      ∙ ap (withAutoRotation (fullIn w)) put
 
-pub rotation-put : (w v r : ℕ) (b : Bool) → v ≡ flag b → v ≤ 1 → r ≡ w / 2 ^ 48 * 2 ^ 48 + v * 2 ^ 47 + w % 2 ^ 47 → fullIn r ≡ withAutoRotation (fullIn w) b
-unfolding chipIn
-rotation-put w v r b f h e =
-    let s = w / 2 ^ 48 * 16 + v * 8 + w / 2 ^ 44 % 8 in
-    let d : s / 2 ^ 3 % 2 ≡ v = middle (w / 2 ^ 48) v (w / 2 ^ 44 % 8) h (omega arith) in
-    full-parts r w s ((w / 2 ^ 44 + 7) % 2 ^ 3) (w / 2 ^ 44 / 2 ^ 4) b
-    (parts r (w % 2 ^ 8) (byte w 8) (byte w 16) (byte w 24) (byte w 32) (digit w 40) (digit w 41) (digit w 42) (digit w 43) s
-    (omega arith) (omega arith) (omega arith) (omega arith) (omega arith) (omega arith) (omega arith) (omega arith) (omega arith) (omega arith))
-    (omega arith) (ap (λ (n : ℕ). eqb n 1) (d ∙ f) ∙ flag-back b)
-    (top (w / 2 ^ 48) v (w / 2 ^ 44 % 8) h (omega arith) ∙ sym (div-div-eq-div-mul w (2 ^ 44) (2 ^ 4)))
+  pub special-put : r ≡ w / 2 ^ 49 * 2 ^ 49 + v * 2 ^ 48 + w % 2 ^ 48 → fullIn r ≡ withSpecialMask (fullIn w) b
+  unfolding chipIn
+  special-put e =
+      let y = w / 2 ^ 44 in
+      full-put w r (y / 32 * 32 + v * 16 + y % 16) (order y) (digit y 3) v (digit y 5) (digit y 6) (omega (arith, div-div-eq-div-mul w (2 ^ 44) 32, div-div-eq-div-mul w (2 ^ 44) 16)) (special-digits y v h)
+      ∙ ap (withSpecialMask (fullIn w)) put
 
-pub full-icw1-put : (w v r : ℕ) → r ≡ w / 2 ^ 48 * 2 ^ 48 + v % 4 * 2 ^ 40 + 2 ^ 32 + w % 2 ^ 16 → fullIn r ≡ icw1 (fullIn w) v
+  pub poll-put : r ≡ w / 2 ^ 50 * 2 ^ 50 + v * 2 ^ 49 + w % 2 ^ 49 → fullIn r ≡ withPoll (fullIn w) b
+  unfolding chipIn
+  poll-put e =
+      let y = w / 2 ^ 44 in
+      full-put w r (y / 64 * 64 + v * 32 + y % 32) (order y) (digit y 3) (digit y 4) v (digit y 6) (omega (arith, div-div-eq-div-mul w (2 ^ 44) 64, div-div-eq-div-mul w (2 ^ 44) 32)) (poll-digits y v h)
+      ∙ ap (withPoll (fullIn w)) put
+
+  pub nested-put : r ≡ w / 2 ^ 51 * 2 ^ 51 + v * 2 ^ 50 + w % 2 ^ 50 → fullIn r ≡ withNested (fullIn w) b
+  unfolding chipIn
+  nested-put e =
+      let y = w / 2 ^ 44 in
+      full-put w r (y / 128 * 128 + v * 64 + y % 64) (order y) (digit y 3) (digit y 4) (digit y 5) v (omega (arith, div-div-eq-div-mul w (2 ^ 44) 128, div-div-eq-div-mul w (2 ^ 44) 64)) (nested-digits y v h)
+      ∙ ap (withNested (fullIn w)) put
+
+pub full-icw1-put : (w v r : ℕ) → r ≡ w / 2 ^ 51 * 2 ^ 51 + v % 4 * 2 ^ 40 + 2 ^ 32 + w % 2 ^ 8 → fullIn r ≡ icw1 (fullIn w) v
 unfolding chipIn
 full-icw1-put w v r e =
-    let s = w / 2 ^ 48 * 16 in
+    let s = w / 2 ^ 51 * 128 in
     let a : (s + 7) % 2 ^ 3 ≡ 7 = omega arith in
-    let b : s / 2 ^ 3 % 2 ≡ 0 = omega arith in
-    let c : s / 2 ^ 4 ≡ w / 2 ^ 44 / 2 ^ 4 = omega arith in
+    let b3 : s / 2 ^ 3 % 2 ≡ 0 = omega arith in
+    let b4 : s / 2 ^ 4 % 2 ≡ 0 = omega arith in
+    let b5 : s / 2 ^ 5 % 2 ≡ 0 = omega arith in
+    let b6 : s / 2 ^ 6 % 2 ≡ 0 = omega arith in
+    let c : s / 2 ^ 7 ≡ w / 2 ^ 44 / 2 ^ 7 = omega arith in
     ap asFull
-    (parts r (w % 2 ^ 8) (byte w 8) 0 0 1 (v % 2) (v / 2 % 2) 0 0 s
+    (parts r (w % 2 ^ 8) 0 0 0 1 (v % 2) (v / 2 % 2) 0 0 s
     (omega arith) (omega arith) (omega arith) (omega arith) (omega arith) (omega arith) (omega arith) (omega arith) (omega arith) (omega arith))
-    ∙ (λ i. registers (w % 2 ^ 8) (byte w 8) 0 0 1 (eqb (v % 2) 1) (eqb (v / 2 % 2) 1) false false true (a i) (eqb (b i) 1) (c i))
+    ∙ (λ i. registers (w % 2 ^ 8) 0 0 0 1 (eqb (v % 2) 1) (eqb (v / 2 % 2) 1) false false true false (a i) (eqb (b3 i) 1) (eqb (b4 i) 1) (eqb (b5 i) 1) (eqb (b6 i) 1) (c i))
     ∙ simp div-one
 
--- so has a chip of the full profile: the priorities and what is left are all that is left of the word
-pub full-word-same : (v w : ℕ) → fullIn v ≡ fullIn w → v ≡ w
+eighths : (x y : ℕ) → x / 2 ^ 3 ≡ y / 2 ^ 3 → (x + 7) % 2 ^ 3 ≡ (y + 7) % 2 ^ 3 → x ≡ y
+eighths x y d h = omega arith
+
+-- so has a chip of the full profile, at either place of a pair: its registers and what is left are all that is left of the word
+pub full-word-same : (b : Bool) (v w : ℕ) → placed b (fullIn v) ≡ placed b (fullIn w) → v ≡ w
 unfolding chipIn
-full-word-same v w q =
-    let a : v / 2 ^ 44 / 2 ^ 4 ≡ w / 2 ^ 44 / 2 ^ 4 = ap (λ (c : Chip). c .spare) q in
-    let b : v / 2 ^ 44 / 2 ^ 3 ≡ w / 2 ^ 44 / 2 ^ 3 = above-and-flag (v / 2 ^ 44) (w / 2 ^ 44) (2 ^ 3) a (ap (λ (c : Chip). c .«auto_rotation») q) in
-    let h : (v / 2 ^ 44 + 7) % 2 ^ 3 ≡ (w / 2 ^ 44 + 7) % 2 ^ 3 = ap (λ (c : Chip). c .«lowest_line») q in
-    let s : v / 2 ^ 44 ≡ w / 2 ^ 44 = omega arith in
+full-word-same b v w q =
+    let x = v / 2 ^ 44 in
+    let y = w / 2 ^ 44 in
+    let g7 : x / 2 ^ 7 ≡ y / 2 ^ 7 = ap (λ (c : Chip). c .spare) q in
+    let g6 : x / 2 ^ 6 ≡ y / 2 ^ 6 = above-and-flag x y (2 ^ 6) g7 (ap (λ (c : Chip). c .nested) q) in
+    let g5 : x / 2 ^ 5 ≡ y / 2 ^ 5 = above-and-flag x y (2 ^ 5) g6 (ap (λ (c : Chip). c .poll) q) in
+    let g4 : x / 2 ^ 4 ≡ y / 2 ^ 4 = above-and-flag x y (2 ^ 4) g5 (ap (λ (c : Chip). c .«special_mask») q) in
+    let g3 : x / 2 ^ 3 ≡ y / 2 ^ 3 = above-and-flag x y (2 ^ 3) g4 (ap (λ (c : Chip). c .«auto_rotation») q) in
+    let h : (x + 7) % 2 ^ 3 ≡ (y + 7) % 2 ^ 3 = ap (λ (c : Chip). c .«lowest_line») q in
+    let s : x ≡ y = eighths x y g3 h in
     word-same v w
-    (λ i. registers (q i .«vector_base») (q i .mask) (q i .request) (q i .«in_service») (q i .«init_step») (q i .«needs_icw4») (q i .single) (q i .«auto_eoi») (q i .«read_isr») false 7 false (s i))
+    (λ i. plainRegisters (q i .«vector_base») (q i .mask) (q i .request) (q i .«in_service») (q i .«init_step») (q i .«needs_icw4») (q i .single) (q i .«auto_eoi») (q i .«read_isr») (s i))

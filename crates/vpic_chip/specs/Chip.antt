@@ -1,8 +1,8 @@
--- One 8259A chip: initialization command words ICW1 to ICW4, operation command words OCW1 to OCW3, fully nested mode, end of interrupt,
--- automatic end of interrupt mode, automatic and specific rotation, reading the 8259A status. A set of the chip's eight lines is a number (`Rattle.utils.specs.Set`).
+-- One 8259A chip: initialization command words ICW1 to ICW4, operation command words OCW1 to OCW3, fully nested mode, special fully nested mode, special mask mode, end of
+-- interrupt, automatic end of interrupt mode, automatic and specific rotation, reading the 8259A status, poll command. A set of the chip's eight lines is a number (`Rattle.utils.specs.Set`).
 -- Departures from the data sheet are marked D-nn and stand in docs/DIFFERENCES.md.
-use Prim.Native.Nat.{ℕ, _*_, _/_, _%_, _<_}
-use mathlib.Core.Bool.{Bool, true, false, not, cond, _&&_}
+use Prim.Native.Nat.{ℕ, _+_, _*_, _/_, _%_, _<_}
+use mathlib.Core.Bool.{Bool, true, false, not, cond, _&&_, _||_}
 use mathlib.Core.Path.{_≡_}
 use lib.Dec.{ltb, eqb}
 use Rattle.utils.specs.Set.{bit, with, without}
@@ -17,7 +17,8 @@ use Rattle.vpic_chip.specs.declared.PendingIrq.the-variants.{Irq, Nothin
 use Rattle.vpic_chip.specs.declared.PicVector.{PicVector}
 use Rattle.vpic_chip.specs.declared.PicVector.the-variants.{Given, Nothing as NoVector}
 use Rattle.vpic_chip.specs.declared.Acknowledged.{Acknowledged}
-use Rattle.vpic_chip.specs.Registers.{Chip, chip, withBase, withMask, withRequest, withInService, withStep, withNeedsIcw4, withSingle, withAutoEoi, withReadIsr, withLowest, withAutoRotation, chipIn, fullIn}
+use Rattle.vpic_chip.specs.declared.Polled.{Polled}
+use Rattle.vpic_chip.specs.Registers.{Chip, chip, withBase, withMask, withRequest, withInService, withStep, withAutoEoi, withReadIsr, withLowest, withAutoRotation, withSpecialMask, withPoll, withNested, chipIn, fullIn, placed}
 
 -- a new chip (the data sheet says nothing of a chip before its ICW1): every line masked. D-17: any base byte, not only multiples of 8
 unfoldable pub opened : ℕ → Chip
@@ -45,25 +46,71 @@ isAboveAll c k set = ltb (rank (lowestBy c) k) (firstRank (lowestBy c) set)
 abbrev pub turned : Chip → Bool → ℕ → Chip
 turned c rotates k = withLowest c (cond (c .full && rotates) k (c .«lowest_line»))
 
+-- ---- what is in the way of a line
+
+-- the master's line that the slave hangs on
+abbrev pub cascadeIrq : PicLine
+cascadeIrq = record { 0 = 2 }
+
+-- special mask mode. D-06: in the full profile alone
+abbrev pub isSpecial : Chip → Bool
+isSpecial c = c .full && c .«special_mask»
+
+-- special fully nested mode is for the master; on the slave ICW4's bit does nothing. D-10: in the full profile alone
+abbrev pub isNested : Chip → Bool
+isNested c = c .full && c .cascades && c .nested
+
+-- fully nested mode: the lines in service are in the way of those that aren't above them; but in special mask mode the masked ones are in nobody's way
+abbrev pub blocks : Chip → ℕ → Bool
+blocks c j = bit (c .«in_service») j && not (isSpecial c && bit (c .mask) j)
+
+-- and in special fully nested mode the master's line 2 isn't in its own: another line of the slave may come through it
+abbrev pub blocksLine : Chip → ℕ → ℕ → Bool
+blocksLine c k j = blocks c j && not (isNested c && eqb k (cascadeIrq .0) && eqb j (cascadeIrq .0))
+
 -- ---- the command port
 
--- ICW1: bit 0 announces ICW4, bit 1 is SNGL. D-01: the mask stays. D-02: in-service is cleared. D-03: automatic EOI goes off also where ICW4 follows.
--- D-04: LTIM (bit 3) does nothing: edges only. The call interval (bit 2) and bits 5 to 7 are for MCS-80/85 mode (D-11). Line 7 is lowest again.
--- D-20: rotation in automatic EOI mode goes off
+-- ICW1: bit 0 announces ICW4, bit 1 is SNGL. The base stays until ICW2. D-01: without the full profile the mask stays. D-02: in-service is cleared. D-03: automatic EOI goes off
+-- also where ICW4 follows. D-04: LTIM (bit 3) does nothing: edges only. The call interval (bit 2) and bits 5 to 7 are for MCS-80/85 mode (D-11). Line 7 is lowest again. D-20:
+-- rotation in automatic EOI mode goes off. D-21: special fully nested mode goes off also where ICW4 follows. A poll that waits is over (the data sheet says nothing of it)
 abbrev pub icw1 : Chip → ℕ → Chip
-icw1 c v =
-    withAutoRotation (withLowest (withReadIsr (withAutoEoi (withSingle (withNeedsIcw4 (withStep (withInService (withRequest c 0) 0) 1) (bit v 0)) (bit v 1)) false) false) 7) false
+icw1 c v = record {
+  «vector_base» = c .«vector_base»;
+  mask = cond (c .full) 0 (c .mask);
+  request = 0;
+  «in_service» = 0;
+  «init_step» = 1;
+  «needs_icw4» = bit v 0;
+  single = bit v 1;
+  «auto_eoi» = false;
+  «read_isr» = false;
+  full = c .full;
+  cascades = c .cascades;
+  «lowest_line» = 7;
+  «auto_rotation» = false;
+  «special_mask» = false;
+  poll = false;
+  nested = false;
+  spare = c .spare;
+}
 
--- OCW3. D-05: bit 1, which enables the choice in the data sheet, is the choice here, and bit 0 does nothing. D-06: no special mask mode (bits 5, 6). D-07: no poll (bit 2)
+-- OCW3: bit 6 enables the choice of special mask mode, bit 5; bit 2 polls, and a poll waits whatever is written before the next read; bit 1 enables the choice of the register that
+-- is read next, bit 0
+abbrev pub fullOcw3 : Chip → ℕ → Chip
+fullOcw3 c v =
+    withPoll (withSpecialMask (withReadIsr c (cond (bit v 1) (bit v 0) (c .«read_isr»))) (cond (bit v 6) (bit v 5) (c .«special_mask»))) (bit v 2 || c .poll)
+
+-- without the full profile, D-05: bit 1, which enables the choice in the data sheet, is the choice here, and bit 0 does nothing. D-06: no special mask mode. D-07: no poll
 abbrev pub ocw3 : Chip → ℕ → Chip
-ocw3 c v = withReadIsr c (bit v 1)
+ocw3 c v = cond (c .full) (fullOcw3 c v) (withReadIsr c (bit v 1))
 
--- OCW2, end of interrupt: specific (line in bits 0 to 2), or of the highest line in service; with nothing in service that does nothing, rotation included
+-- OCW2, end of interrupt: specific (line in bits 0 to 2), or of the highest line in service, masked ones left aside in special mask mode; with none that does nothing, rotation
+-- included
 abbrev pub specificEoi : Chip → ℕ → Chip
 specificEoi c k = withInService c (without (c .«in_service») k)
 
 abbrev pub nonSpecificEoi : Chip → Bool → Chip
-nonSpecificEoi c rotates = cond (ltb (firstOf c (bit (c .«in_service»))) 8) (turned (specificEoi c (firstOf c (bit (c .«in_service»)))) rotates (firstOf c (bit (c .«in_service»)))) c
+nonSpecificEoi c rotates = cond (ltb (firstOf c (blocks c)) 8) (turned (specificEoi c (firstOf c (blocks c))) rotates (firstOf c (blocks c))) c
 
 -- rotation in automatic EOI mode, on or off
 abbrev pub autoRotated : Chip → Bool → Chip
@@ -95,9 +142,9 @@ icw2 c v = withStep (withBase c (v / 8 * 8)) (cond (c .single) (afterIcw3 c) 2)
 abbrev pub icw3 : Chip → Chip
 icw3 c = withStep c (afterIcw3 c)
 
--- ICW4: bit 1 is AEOI. D-10: no special fully nested mode (bit 4). D-11: no MCS-80/85 mode (bit 0 clear); buffered mode (bits 2, 3) only drives a pin
+-- ICW4: bit 1 is AEOI, bit 4 SFNM. D-10: without the full profile no special fully nested mode. D-11: no MCS-80/85 mode (bit 0 clear); buffered mode (bits 2, 3) only drives a pin
 abbrev pub icw4 : Chip → ℕ → Chip
-icw4 c v = withStep (withAutoEoi c (bit v 1)) 0
+icw4 c v = withStep (withNested (withAutoEoi c (bit v 1)) (cond (c .full) (bit v 4) (c .nested))) 0
 
 -- OCW1: the interrupt mask
 abbrev pub ocw1 : Chip → ℕ → Chip
@@ -122,9 +169,9 @@ commandRead c = cond (c .«read_isr») (c .«in_service») (c .request)
 unfoldable pub pulsed : Chip → PicLine → Chip
 pulsed c l = cond (ltb (l .0) 8) (withRequest c (with (c .request) (l .0))) c
 
--- fully nested mode: a request counts if it is unmasked and above every line in service. D-19: before the last ICW too, with the base of before
+-- a request counts, in every mode, if it is unmasked and above every line that is in its way. D-19: before the last ICW too, with the base of before
 unfoldable pub counts : Chip → ℕ → Bool
-counts c k = bit (c .request) k && not (bit (c .mask) k) && isAboveAll c k (bit (c .«in_service»))
+counts c k = bit (c .request) k && not (bit (c .mask) k) && isAboveAll c k (blocksLine c k)
 
 -- the highest request that counts, or 8. D-14: with none there is nothing to acknowledge, where the data sheet's chip gives its line 7
 unfoldable pub pendingLine : Chip → ℕ
@@ -139,10 +186,6 @@ pub record Highest (c : Chip) (k : ℕ) : Type 0 where
 -- the chip's output, INT: up exactly while a request counts
 unfoldable pub asks : Chip → Bool
 asks c = ltb (pendingLine c) 8
-
--- the master's line that the slave hangs on
-abbrev pub cascadeIrq : PicLine
-cascadeIrq = record { 0 = 2 }
 
 -- line k driven by a level: its request stands exactly while that is up
 unfoldable pub driven : Chip → ℕ → Bool → Chip
@@ -182,3 +225,26 @@ acknowledge c l =
 -- an acknowledgement taken back: requested again and, if that had put the line there, out of service
 unfoldable pub unacknowledged : Chip → PicLine → Bool → Chip
 unacknowledged c l inService = cond inService (cond (ltb (l .0) 8) (specificEoi (pulsed c l) (l .0)) (pulsed c l)) (pulsed c l)
+
+-- ---- poll command: the next read of either port is an acknowledgement. D-07: in the full profile alone
+
+abbrev pub isPolled : Chip → Bool
+isPolled c = c .full && c .poll
+
+-- it shows bit 7 with the highest request that counts, or 0 where none does
+unfoldable pub pollShown : Chip → ℕ
+pollShown c = cond (asks c) (0x80 + pendingLine c) 0
+
+-- and acknowledges it, on this chip alone; the poll is over
+unfoldable pub polled : Chip → Chip
+polled c = withPoll (cond (asks c) (acknowledged c (pendingLine c)) c) false
+
+-- what a read shows, of a port that shows a register where no poll waits
+unfoldable pub readShown : Chip → ℕ → ℕ
+readShown c register = cond (isPolled c) (pollShown c) register
+
+abbrev pub pollOutcome : Bool → Polled → Outcome Chip
+pollOutcome cascades r = record { state = placed cascades (fullIn (r .chip .0)); reply = reply.One (r .shown) }
+
+unfoldable pub pollRead : Chip → Outcome Chip
+pollRead c = record { state = polled c; reply = reply.One (pollShown c) }

@@ -5,12 +5,12 @@
 // nothing; `Option` became enums; each function has its contract. A set of the chip's eight lines is a byte.
 
 ghost use mathlib.Core.Path.{_≡_};
-ghost use mathlib.Core.Bool.{false};
+ghost use mathlib.Core.Bool.{false, cond, _||_};
 ghost use Prim.Native.Nat.{_<_, _≤_};
-ghost use Rattle.utils.specs.Set.{with, without, setOf, lowest};
+ghost use Rattle.utils.specs.Set.{bit, with, without, setOf, lowest};
 ghost use Rattle.types.specs.Reply.{flag};
-ghost use Rattle.vpic_chip.specs.Registers.{withBase, withMask, withRequest, withInService, withStep, withAutoEoi, withReadIsr, withLowest, withAutoRotation, chipIn, fullIn};
-ghost use Rattle.vpic_chip.specs.Chip.{turned, opened, icw1, ocw3, specificEoi, nonSpecificEoi, ocw2, commanded, afterIcw3, icw2, icw3, icw4, ocw1, fed, commandRead, pulsed, cascadeIrq, counts, pendingLine, asks, driven, pendingIrq, acknowledged, acknowledge, acknowledgeOutcome, fullOutcome, vectorReply, unacknowledged};
+ghost use Rattle.vpic_chip.specs.Registers.{withBase, withMask, withRequest, withInService, withStep, withAutoEoi, withReadIsr, withLowest, withAutoRotation, withSpecialMask, withPoll, withNested, chipIn, fullIn, placed};
+ghost use Rattle.vpic_chip.specs.Chip.{turned, blocks, blocksLine, opened, icw1, ocw3, specificEoi, nonSpecificEoi, ocw2, commanded, afterIcw3, icw2, icw3, icw4, ocw1, fed, commandRead, pulsed, cascadeIrq, counts, pendingLine, asks, driven, pendingIrq, acknowledged, acknowledge, acknowledgeOutcome, fullOutcome, vectorReply, unacknowledged, pollOutcome, pollRead};
 use types::PicLine;
 use types::Reply;
 use types::Vector;
@@ -39,6 +39,12 @@ pub enum PicVector {
 pub struct Acknowledged {
     pub chip: PicChip,
     pub vector: PicVector,
+}
+
+// A chip after a poll was read, and what the read showed.
+pub struct Polled {
+    pub chip: PicChip,
+    pub shown: u8,
 }
 
 impl PicVector {
@@ -433,8 +439,8 @@ impl PicChip {
     }
 }
 
-// ---- The full profile: the same registers, and behind them priorities that rotate. A pair of that rule makes these calls, and no other pair does: what the plain ones do
-// stays as short as it is.
+// ---- The full profile: the same registers, and behind them priorities that rotate and the modes of OCW3 and ICW4. A pair of that rule makes these calls, and no other pair does:
+// what the plain ones do stays as short as it is. Where the full profile does no more than the others, there is the plain function alone.
 
 impl PicChip {
     pub fn lowest_line(self) -> u8
@@ -447,6 +453,25 @@ impl PicChip {
         ensures { λ r. ⌜ r ≡ fullIn (self .0) .«auto_rotation» ⌝ }
     {
         self.0 / 0x8000_0000_0000 % 2 == 1
+    }
+
+    pub fn special_mask(self) -> bool
+        ensures { λ r. ⌜ r ≡ fullIn (self .0) .«special_mask» ⌝ }
+    {
+        self.0 / 0x1_0000_0000_0000 % 2 == 1
+    }
+
+    // Whether a poll waits for the next read.
+    pub fn poll(self) -> bool
+        ensures { λ r. ⌜ r ≡ fullIn (self .0) .poll ⌝ }
+    {
+        self.0 / 0x2_0000_0000_0000 % 2 == 1
+    }
+
+    pub fn nested(self) -> bool
+        ensures { λ r. ⌜ r ≡ fullIn (self .0) .nested ⌝ }
+    {
+        self.0 / 0x4_0000_0000_0000 % 2 == 1
     }
 
     fn with_lowest(self, irq: PicLine) -> Self
@@ -470,14 +495,45 @@ impl PicChip {
         )
     }
 
+    fn with_special_mask(self, up: bool) -> Self
+        ensures { λ r. ⌜ fullIn (r .0) ≡ withSpecialMask (fullIn (self .0)) up ⌝ }
+    {
+        PicChip(
+            self.0 / 0x2_0000_0000_0000 * 0x2_0000_0000_0000
+                + digit(up) * 0x1_0000_0000_0000
+                + self.0 % 0x1_0000_0000_0000,
+        )
+    }
+
+    fn with_poll(self, up: bool) -> Self
+        ensures { λ r. ⌜ fullIn (r .0) ≡ withPoll (fullIn (self .0)) up ⌝ }
+    {
+        PicChip(
+            self.0 / 0x4_0000_0000_0000 * 0x4_0000_0000_0000
+                + digit(up) * 0x2_0000_0000_0000
+                + self.0 % 0x2_0000_0000_0000,
+        )
+    }
+
+    fn with_nested(self, up: bool) -> Self
+        ensures { λ r. ⌜ fullIn (r .0) ≡ withNested (fullIn (self .0)) up ⌝ }
+    {
+        PicChip(
+            self.0 / 0x8_0000_0000_0000 * 0x8_0000_0000_0000
+                + digit(up) * 0x4_0000_0000_0000
+                + self.0 % 0x4_0000_0000_0000,
+        )
+    }
+
+    // ICW1 puts all registers but the base.
     fn full_icw1(self, value: u8) -> Self
         ensures { λ r. ⌜ fullIn (r .0) ≡ icw1 (fullIn (self .0)) value ⌝ }
     {
         PicChip(
-            self.0 / 0x1_0000_0000_0000 * 0x1_0000_0000_0000
+            self.0 / 0x8_0000_0000_0000 * 0x8_0000_0000_0000
                 + value as u64 % 4 * 0x100_0000_0000
                 + 0x1_0000_0000
-                + self.0 % 0x1_0000,
+                + self.0 % 0x100,
         )
     }
 
@@ -489,9 +545,47 @@ impl PicChip {
             return self.full_icw1(value);
         }
         if value / 8 % 2 == 1 {
-            return self.ocw3(value);
+            return self.full_ocw3(value);
         }
         self.full_ocw2(value)
+    }
+
+    fn full_ocw3(self, value: u8) -> Self
+        ensures { λ r. ⌜ fullIn (r .0) ≡ ocw3 (fullIn (self .0)) value ⌝ }
+    {
+        let chosen = self.choose_register(value);
+        let masking = chosen.choose_special_mask(value);
+        masking.choose_poll(value)
+    }
+
+    // Bit 1 enables the choice of the register that is read next, bit 0.
+    fn choose_register(self, value: u8) -> Self
+        ensures { λ r. ⌜ fullIn (r .0) ≡ withReadIsr (fullIn (self .0)) (cond (bit value 1) (bit value 0) (fullIn (self .0) .«read_isr»)) ⌝ }
+    {
+        if value / 2 % 2 == 1 {
+            return self.with_read_isr(value % 2 == 1);
+        }
+        self
+    }
+
+    // Bit 6 enables the choice of special mask mode, bit 5.
+    fn choose_special_mask(self, value: u8) -> Self
+        ensures { λ r. ⌜ fullIn (r .0) ≡ withSpecialMask (fullIn (self .0)) (cond (bit value 6) (bit value 5) (fullIn (self .0) .«special_mask»)) ⌝ }
+    {
+        if value / 64 % 2 == 1 {
+            return self.with_special_mask(value / 32 % 2 == 1);
+        }
+        self
+    }
+
+    // Bit 2 polls, and no write ends a poll that waits.
+    fn choose_poll(self, value: u8) -> Self
+        ensures { λ r. ⌜ fullIn (r .0) ≡ withPoll (fullIn (self .0)) (bit value 2 || fullIn (self .0) .poll) ⌝ }
+    {
+        if value / 4 % 2 == 1 {
+            return self.with_poll(true);
+        }
+        self
     }
 
     fn full_ocw2(self, value: u8) -> Self
@@ -525,33 +619,65 @@ impl PicChip {
         ended
     }
 
+    // The highest line in service ends; in special mask mode the highest that isn't masked.
     fn full_end_highest(self, rotates: bool) -> Self
         ensures { λ r. ⌜ fullIn (r .0) ≡ nonSpecificEoi (fullIn (self .0)) rotates ⌝ }
     {
-        let irq = vpic_priority::first_line(self.lowest_line(), self.in_service());
+        let irq = vpic_priority::first_line(self.lowest_line(), self.blocking());
         if irq >= 8 {
             return self;
         }
         self.full_end(PicLine(irq), rotates)
     }
 
-    // A byte written to the data port.
+    // A byte written to the data port: ICW4 alone does more than without the full profile.
     pub fn full_data(self, value: u8) -> Self
         ensures { λ r. ⌜ fullIn (r .0) ≡ fed (fullIn (self .0)) value ⌝ }
     {
+        if self.init_step() == 3 {
+            return self.full_icw4(value);
+        }
         self.data(value)
     }
 
-    // An edge on a line.
-    pub fn full_pulse(self, irq: PicLine) -> Self
-        ensures { λ r. ⌜ fullIn (r .0) ≡ pulsed (fullIn (self .0)) irq ⌝ }
+    fn full_icw4(self, value: u8) -> Self
+        ensures { λ r. ⌜ fullIn (r .0) ≡ icw4 (fullIn (self .0)) value ⌝ }
     {
-        self.pulse(irq)
+        let ready = self.icw4(value);
+        ready.with_nested(value / 16 % 2 == 1)
     }
 
-    // The line whose request counts and is highest, or 8: the highest unmasked request, where it is above the highest line in service.
-    fn full_pending_line(self) -> PicLine
-        ensures { λ r. ⌜ r .0 ≡ pendingLine (fullIn (self .0)) ⌝ }
+    // The lines in service that are in the way of others: in special mask mode not the masked ones.
+    fn blocking(self) -> u8
+        ensures { λ r. ⌜ r ≡ setOf 8 (blocks (fullIn (self .0))) ⌝ }
+    {
+        if self.special_mask() {
+            return set8::outside(self.in_service(), self.mask());
+        }
+        self.in_service()
+    }
+
+    // Those in the way of one line: in special fully nested mode the master's cascade line isn't in its own. Whether this is the master says the caller, here and below.
+    fn blocking_line(self, cascades: bool, line: u8) -> u8
+        ensures { λ r. ⌜ r ≡ setOf 8 (blocksLine (placed cascades (fullIn (self .0))) line) ⌝ }
+    {
+        let all = self.blocking();
+        if line != CASCADE_IRQ {
+            return all;
+        }
+        if !cascades {
+            return all;
+        }
+        if !self.nested() {
+            return all;
+        }
+        set8::without(all, CASCADE_IRQ)
+    }
+
+    // The line whose request counts and is highest, or 8: the highest unmasked request, where it is above every line that is in its way. Where it isn't, no other is: what is
+    // in its way is in the way of those below it too.
+    fn full_pending_line(self, cascades: bool) -> PicLine
+        ensures { λ r. ⌜ r .0 ≡ pendingLine (placed cascades (fullIn (self .0))) ⌝ }
     {
         let open = set8::outside(self.request(), self.mask());
         // As mostly, and found at once: each search lays out its table.
@@ -560,7 +686,7 @@ impl PicChip {
         }
         let lowest = self.lowest_line();
         let asked = vpic_priority::first_line(lowest, open);
-        let served = vpic_priority::first_line(lowest, self.in_service());
+        let served = vpic_priority::first_line(lowest, self.blocking_line(cascades, asked));
         if vpic_priority::is_above(lowest, asked, served) {
             return PicLine(asked);
         }
@@ -568,10 +694,10 @@ impl PicChip {
     }
 
     // The request that would be acknowledged next.
-    pub fn full_pending_irq(self) -> PendingIrq
-        ensures { λ r. ⌜ r ≡ pendingIrq (fullIn (self .0)) ⌝ }
+    pub fn full_pending_irq(self, cascades: bool) -> PendingIrq
+        ensures { λ r. ⌜ r ≡ pendingIrq (placed cascades (fullIn (self .0))) ⌝ }
     {
-        let irq = self.full_pending_line();
+        let irq = self.full_pending_line(cascades);
         if irq.0 >= 8 {
             return PendingIrq::Nothing;
         }
@@ -579,17 +705,10 @@ impl PicChip {
     }
 
     // The output, INT: whether a request counts.
-    pub fn full_asks(self) -> bool
-        ensures { λ r. ⌜ r ≡ asks (fullIn (self .0)) ⌝ }
+    pub fn full_asks(self, cascades: bool) -> bool
+        ensures { λ r. ⌜ r ≡ asks (placed cascades (fullIn (self .0))) ⌝ }
     {
-        self.full_pending_line().0 < 8
-    }
-
-    // The cascade line is driven by a level.
-    pub fn full_drive_cascade(self, up: bool) -> Self
-        ensures { λ r. ⌜ fullIn (r .0) ≡ driven (fullIn (self .0)) (cascadeIrq .0) up ⌝ }
-    {
-        self.drive_cascade(up)
+        self.full_pending_line(cascades).0 < 8
     }
 
     // The interrupt acknowledge sequence of a line, with its vector.
@@ -623,11 +742,22 @@ impl PicChip {
         left
     }
 
-    // A line's acknowledgement taken back; priorities aren't turned back.
-    pub fn full_unacknowledge(self, irq: PicLine, in_service: bool) -> Self
-        ensures { λ r. ⌜ fullIn (r .0) ≡ unacknowledged (fullIn (self .0)) irq «in_service» ⌝ }
+    // A poll's read: the line that counts is acknowledged, and shown with bit 7.
+    pub fn full_poll(self, cascades: bool) -> Polled
+        ensures { λ r. ⌜ pollOutcome cascades r ≡ pollRead (placed cascades (fullIn (self .0))) ⌝ }
     {
-        self.unacknowledge(irq, in_service)
+        let irq = self.full_pending_line(cascades);
+        if irq.0 >= 8 {
+            return Polled {
+                chip: self.with_poll(false),
+                shown: 0,
+            };
+        }
+        let taken = self.full_acknowledged(irq);
+        Polled {
+            chip: taken.with_poll(false),
+            shown: 0x80 + irq.0,
+        }
     }
 }
 

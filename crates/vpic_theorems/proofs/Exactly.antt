@@ -8,7 +8,7 @@ use borrow.Author.Tests.{lt-ltb, le-ltb, ltb-true, ltb-false}
 use Rattle.vpic_priority.specs.Ring.{rank, above, firstRank, firstBy}
 use Rattle.vpic_priority.proofs.Ring.{rank-lt, rank-low, rank-out, by-rank, by-holds, by-before, by-is, by-none}
 use Rattle.utils.specs.Set.{bit, without}
-use Rattle.utils.proofs.Bools.{never, both}
+use Rattle.utils.proofs.Bools.{never, both, and-false}
 use Rattle.utils.proofs.Laws.{bit-without-same, bit-without-other}
 use Rattle.types.specs.declared.PicLine.{PicLine}
 use Rattle.types.specs.declared.PicPlace.{PicPlace}
@@ -18,14 +18,15 @@ use Rattle.types.specs.Reply.{Outcome}
 use Rattle.vpic_chip.specs.declared.PendingIrq.{PendingIrq}
 use Rattle.vpic_chip.specs.declared.PendingIrq.the-variants.{Irq, Nothing}
 use Rattle.vpic_chip.specs.Registers.{Chip}
-use Rattle.vpic_chip.specs.Chip.{cascadeIrq, lowestBy, Highest, isAbove, isAboveAll, counts, asks, driven, pendingLine, pendingIrq, acknowledged, unacknowledged}
-use Rattle.vpic_chip.proofs.Laws.{pended, counted-above}
+use Rattle.vpic_chip.specs.Chip.{cascadeIrq, lowestBy, Highest, isAbove, isAboveAll, isSpecial, isPolled, icw2, icw3, icw4, ocw1, pulsed, fed, counts, asks, driven, pendingLine, pendingIrq, acknowledged, unacknowledged}
+use Rattle.vpic_chip.proofs.Laws.{pended, ordinary}
+use Rattle.vpic_theorems.proofs.Ordinary.{ordinary-plainly, plainly-above, plainly-counts, special-off}
 use Rattle.vpic.specs.Words.{PicState}
-use Rattle.vpic.specs.Pair.{drives, ruleIn, chips, isCascade, settled, latched, masterClaim, slaveClaim, cascadePlace, placeFrom, claimAt, claimPending, claimIrq, nothingClaimed, restoredAt, restored, master-command, master-data, slave-command, slave-data, no-port, isPort, writtenTo, writtenAt, portWritten}
+use Rattle.vpic.specs.Pair.{drives, ruleIn, chips, isCascade, settled, latched, masterClaim, slaveClaim, cascadePlace, placeFrom, claimAt, claimPending, claimIrq, nothingClaimed, restoredAt, restored, master-command, master-data, slave-command, slave-data, no-port, portAt, isPort, writtenTo, writtenAt, portWritten}
 use Rattle.vpic_theorems.specs.Statements.{Call, claim-irq, claim-pending-interrupt, pulse-irq, next-interrupt, restore-interrupt, handle-read, handle-write, outcome}
-use Rattle.vpic_theorems.specs.Rotation.{plainChip, byRuleOne, commandsSlave, AsCascadeExactly}
+use Rattle.vpic_theorems.specs.Rotation.{isOrdinary, plainChip, byRuleOne, setsNested, writesMode, isModeCall, commandsSlave, AsCascadeExactly}
 use Rattle.vpic_theorems.proofs.Settled.{settled-cascade}
-use Rattle.vpic_theorems.proofs.Plain.{plain-asks, Nested, latched-nested, latched-alike, place-alike, restore-alike, restore-cascade, write-alike, write-cascade}
+use Rattle.vpic_theorems.proofs.Plain.{nested-pair, left-alike, plain-asks, Nested, latched-nested, latched-alike, place-alike, restore-alike, restore-cascade, write-alike, write-cascade}
 use Rattle.vpic_theorems.proofs.Ring.{rank-turn, rank-same}
 use Rattle.vpic_theorems.proofs.Rule.{asks-if-counts, counts-if-asks}
 use Rattle.vpic_theorems.proofs.Turns.{count-is, ack-turns, raise-becomes, fed-keeps}
@@ -74,9 +75,13 @@ module _ (l k : ℕ) (p : ℕ → Bool) (low : k < 8) (over : rank l k < firstRa
 
 -- ---- one chip
 
-module _ (c : Chip) (k : ℕ) (h : Highest c k) where
+acknowledged-ordinary : (c : Chip) (k : ℕ) → isOrdinary c ≡ true → isOrdinary (acknowledged c k) ≡ true
+unfolding acknowledged
+acknowledged-ordinary c k o = o
+
+module _ (c : Chip) (k : ℕ) (h : Highest c k) (o : isOrdinary c ≡ true) where
   over : rank (lowestBy c) k < firstRank (lowestBy c) (bit (c .«in_service»))
-  over = counted-above c k (h .counted)
+  over = plainly-above c (ordinary-plainly c o) k (h .counted)
 
   -- another line that is requested and unmasked stands after the highest
   after-highest : (j : ℕ) → j < 8 → (j ≡ k → ⊥) → bit (c .request) j ≡ true → bit (c .mask) j ≡ false → rank (lowestBy c) k < rank (lowestBy c) j
@@ -87,7 +92,7 @@ module _ (c : Chip) (k : ℕ) (h : Highest c k) where
       l = lowestBy c
 
       go : (b : Bool) → isAboveAll c j (bit (c .«in_service»)) ≡ b → (t : Bool) → isAbove c j k ≡ t → rank l k < rank l j
-      go true b true t = never (count-is c j r m b) (h .above j t)
+      go true b true t = never (count-is c j (ordinary-plainly c o) r m b) (h .above j t)
       go true b false t =
           let u : rank l j ≡ rank l k → ⊥ = λ z. d (rank-same l j k q (h .low) z) in
           omega (arith, ltb-false (rank l j) (rank l k) t, u)
@@ -110,8 +115,10 @@ module _ (c : Chip) (k : ℕ) (h : Highest c k) where
         ∙ ap₂ (λ (l s : ℕ). ltb (rank l j) (firstRank l (bit s))) (sym (b .lowest)) (sym (b .«in_service»))
 
     same-counts : (j : ℕ) → j < 8 → counts (plainChip (acknowledged c k)) j ≡ counts (acknowledged c k) j
-    unfolding counts
-    same-counts j q = go (bit (acknowledged c k .request) j) (bit (acknowledged c k .mask) j) refl refl
+    same-counts j q =
+        plainly-counts (plainChip (acknowledged c k)) (ordinary (plainChip (acknowledged c k)) refl refl) j
+        ∙ go (bit (acknowledged c k .request) j) (bit (acknowledged c k .mask) j) refl refl
+        ∙ sym (plainly-counts (acknowledged c k) (ordinary-plainly (acknowledged c k) (acknowledged-ordinary c k o)) j)
       where
         go : (r m : Bool) → bit (acknowledged c k .request) j ≡ r → bit (acknowledged c k .mask) j ≡ m
             → (r && not m && ltb (rank 7 j) (firstRank 7 (bit (acknowledged c k .«in_service»)))) ≡ (r && not m && isAboveAll (acknowledged c k) j (bit (acknowledged c k .«in_service»)))
@@ -138,14 +145,14 @@ stays c k e f a t x y z w =
     let v : (c .full && (c .«auto_eoi» && c .«auto_rotation»)) ≡ false = ap₂ (λ (g h : Bool). g && h) x (ap₂ (λ (g h : Bool). g && h) y z) ∙ w in
     ap (λ (b : Bool). cond (c .full) (cond b k (c .«lowest_line»)) 7) v ∙ e
 
-highest-asks : (c : Chip) (k : ℕ) → Highest c k → lowestBy c ≡ 7 → asks (plainChip (acknowledged c k)) ≡ asks (acknowledged c k)
-highest-asks c k h e = go (c .full) (c .«auto_eoi») (c .«auto_rotation») refl refl refl
+highest-asks : (c : Chip) (k : ℕ) → Highest c k → lowestBy c ≡ 7 → isOrdinary c ≡ true → asks (plainChip (acknowledged c k)) ≡ asks (acknowledged c k)
+highest-asks c k h e o = go (c .full) (c .«auto_eoi») (c .«auto_rotation») refl refl refl
   where
     go : (f a t : Bool) → c .full ≡ f → c .«auto_eoi» ≡ a → c .«auto_rotation» ≡ t → asks (plainChip (acknowledged c k)) ≡ asks (acknowledged c k)
-    go true true true f a t = asks-same (plainChip (acknowledged c k)) (acknowledged c k) (same-counts c k h e f a t)
-    go true true false f a t = plain-asks (acknowledged c k) (stays c k e true true false f a t refl)
-    go true false t f a x = plain-asks (acknowledged c k) (stays c k e true false t f a x refl)
-    go false a t f x y = plain-asks (acknowledged c k) (stays c k e false a t f x y refl)
+    go true true true f a t = asks-same (plainChip (acknowledged c k)) (acknowledged c k) (same-counts c k h o e f a t)
+    go true true false f a t = plain-asks (acknowledged c k) (stays c k e true true false f a t refl) (acknowledged-ordinary c k o)
+    go true false t f a x = plain-asks (acknowledged c k) (stays c k e true false t f a x refl) (acknowledged-ordinary c k o)
+    go false a t f x y = plain-asks (acknowledged c k) (stays c k e false a t f x y refl) (acknowledged-ordinary c k o)
 
 -- ---- the pair
 
@@ -163,12 +170,12 @@ claim-exact p n = by-master (pendingIrq (p .master)) ∙ ap (λ (a : PicPlace). 
     Exact a = byRuleOne (claimAt p a .state) ≡ claimAt (byRuleOne p) a .state
 
     of-master : (k : PicLine) → Exact (Master k)
-    of-master k = settled-exact (chips p (acknowledged (p .master) (k .0)) (p .slave)) _ (n .cascade) (plain-asks (p .slave) (n .slave)) refl
+    of-master k = settled-exact (chips p (acknowledged (p .master) (k .0)) (p .slave)) _ (n .cascade) (plain-asks (p .slave) (n .slave) (n .«slave-mode»)) refl
 
     by-slave : (b : PendingIrq) → pendingIrq (p .slave) ≡ b → Exact (cascadePlace b)
     by-slave (Irq k) q =
         settled-exact (chips p (acknowledged (p .master) (cascadeIrq .0)) (acknowledged (p .slave) (k .0))) _ (n .cascade)
-        (highest-asks (p .slave) (k .0) (pended (p .slave) k q) (n .slave)) refl
+        (highest-asks (p .slave) (k .0) (pended (p .slave) k q) (n .slave) (n .«slave-mode»)) refl
     by-slave Nothing q = of-master cascadeIrq
 
     by-line : (k : PicLine) (b : Bool) → Exact (cond b (cascadePlace (pendingIrq (p .slave))) (Master k))
@@ -177,7 +184,7 @@ claim-exact p n = by-master (pendingIrq (p .master)) ∙ ap (λ (a : PicPlace). 
 
     by-master : (a : PendingIrq) → Exact (placeFrom p a)
     by-master (Irq k) = by-line k (eqb (k .0) (cascadeIrq .0))
-    by-master Nothing = settled-exact p _ (n .cascade) (plain-asks (p .slave) (n .slave)) refl
+    by-master Nothing = settled-exact p _ (n .cascade) (plain-asks (p .slave) (n .slave) (n .«slave-mode»)) refl
 
 raise-exact : (p : PicState) (l : PicLine) → Nested p → byRuleOne (claimIrq p l .state) ≡ claimIrq (byRuleOne p) l .state
 unfolding claimIrq
@@ -198,9 +205,22 @@ restore-slave p (Master k) m s n = n .slave
 restore-slave p (Slave k) m s n = restored-lowest (p .slave) k s ∙ n .slave
 restore-slave p Nowhere m s n = n .slave
 
+restored-ordinary : (c : Chip) (l : PicLine) (f : Bool) → isOrdinary c ≡ true → isOrdinary (unacknowledged c l f) ≡ true
+unfolding unacknowledged pulsed
+restored-ordinary c l f o =
+    both Fine f _ _ (both Fine (ltb (l .0) 8) _ _ (both Fine (ltb (l .0) 8) _ _ o o) (both Fine (ltb (l .0) 8) _ _ o o)) (both Fine (ltb (l .0) 8) _ _ o o)
+  where
+    Fine : Chip → Type 0
+    Fine x = isOrdinary x ≡ true
+
+restore-mode : (p : PicState) (a : PicPlace) (m s : Bool) → Nested p → isOrdinary (restoredAt p a m s .slave) ≡ true
+restore-mode p (Master k) m s n = n .«slave-mode»
+restore-mode p (Slave k) m s n = restored-ordinary (p .slave) k s (n .«slave-mode»)
+restore-mode p Nowhere m s n = n .«slave-mode»
+
 restore-exact : (p : PicState) (a : PicPlace) (m s : Bool) → Nested p → byRuleOne (settled (restoredAt p a m s)) ≡ settled (restoredAt (byRuleOne p) a m s)
 restore-exact p a m s n =
-    settled-exact (restoredAt p a m s) (restoredAt (byRuleOne p) a m s) (restore-cascade p a m s ∙ n .cascade) (plain-asks (restoredAt p a m s .slave) (restore-slave p a m s n))
+    settled-exact (restoredAt p a m s) (restoredAt (byRuleOne p) a m s) (restore-cascade p a m s ∙ n .cascade) (plain-asks (restoredAt p a m s .slave) (restore-slave p a m s n) (restore-mode p a m s n))
     (restore-alike p a m s)
 
 -- nor does a write to another port than the slave's command port turn the slave's
@@ -216,10 +236,44 @@ write-slave p port byte n e = go (eqb port 0x20) (eqb port 0x21) (eqb port 0xa0)
     go false false false true e = fed-keeps (p .slave) byte .lowest ∙ n .slave
     go false false false false e = n .slave
 
-write-exact : (p : PicState) (port byte : ℕ) → Nested p → eqb port 0xa0 ≡ false → byRuleOne (settled (writtenAt p port byte)) ≡ settled (writtenAt (byRuleOne p) port byte)
-write-exact p port byte n e =
-    settled-exact (writtenAt p port byte) (writtenAt (byRuleOne p) port byte) (write-cascade p port byte ∙ n .cascade) (plain-asks (writtenAt p port byte .slave) (write-slave p port byte n e))
-    (write-alike p n port byte)
+-- and a byte at the data port puts no mode on but ICW4 with bit 4
+fed-ordinary : (c : Chip) (v : ℕ) → isOrdinary c ≡ true → setsNested c v ≡ false → isOrdinary (fed c v) ≡ true
+unfolding fed
+fed-ordinary c v o n = go (eqb (c .«init_step») 1) (eqb (c .«init_step») 2) (eqb (c .«init_step») 3) n
+  where
+    off : (not (isSpecial c) && not (c .full && c .cascades && false)) ≡ true
+    off = ap₂ (λ (x y : Bool). not x && not y) (special-off c o) (and-false (c .full && c .cascades))
+
+    icw4-ordinary : bit v 4 ≡ false → isOrdinary (icw4 c v) ≡ true
+    icw4-ordinary z = full (c .full) refl
+      where
+        full : (f : Bool) → c .full ≡ f → isOrdinary (icw4 c v) ≡ true
+        full true q = ap (λ (b : Bool). not (isSpecial c) && not (c .full && c .cascades && b)) (ap (λ (f : Bool). cond f (bit v 4) (c .nested)) q ∙ z) ∙ off
+        full false q = ap (λ (f : Bool). not (f && c .«special_mask») && not (f && c .cascades && cond (c .full) (bit v 4) (c .nested))) q
+
+    go : (x y w : Bool) → (w && bit v 4) ≡ false → isOrdinary (cond x (icw2 c v) (cond y (icw3 c) (cond w (icw4 c v) (ocw1 c v)))) ≡ true
+    go true y w z = o
+    go false true w z = o
+    go false false true z = icw4-ordinary z
+    go false false false z = o
+
+write-mode : (p : PicState) (port byte : ℕ) → Nested p → writesMode p (portAt port) byte ≡ false → eqb port 0xa0 ≡ false → isOrdinary (writtenAt p port byte .slave) ≡ true
+unfolding writtenAt
+write-mode p port byte n m e = go (eqb port 0x20) (eqb port 0x21) (eqb port 0xa0) (eqb port 0xa1) m e
+  where
+    go : (x y z w : Bool) → writesMode p (cond x master-command (cond y master-data (cond z slave-command (cond w slave-data no-port)))) byte ≡ false → z ≡ false
+        → isOrdinary (writtenTo p (cond x master-command (cond y master-data (cond z slave-command (cond w slave-data no-port)))) byte .slave) ≡ true
+    go true y z w m e = n .«slave-mode»
+    go false true z w m e = n .«slave-mode»
+    go false false true w m e = never refl e
+    go false false false true m e = fed-ordinary (p .slave) byte (n .«slave-mode») m
+    go false false false false m e = n .«slave-mode»
+
+write-exact : (p : PicState) (port byte : ℕ) → Nested p → writesMode p (portAt port) byte ≡ false → eqb port 0xa0 ≡ false
+    → byRuleOne (settled (writtenAt p port byte)) ≡ settled (writtenAt (byRuleOne p) port byte)
+write-exact p port byte n m e =
+    settled-exact (writtenAt p port byte) (writtenAt (byRuleOne p) port byte) (write-cascade p port byte ∙ n .cascade)
+    (plain-asks (writtenAt p port byte .slave) (write-slave p port byte n e) (write-mode p port byte n m e)) (write-alike p n port byte m)
 
 -- ---- every call
 
@@ -227,15 +281,17 @@ exact-cond : (b : Bool) (x y u v : Outcome PicState) → byRuleOne (x .state) �
 exact-cond true x y u v h k = h
 exact-cond false x y u v h k = k
 
-call-exact : (p : PicState) (c : Call) → Nested p → commandsSlave c ≡ false → byRuleOne (outcome p c .state) ≡ outcome (byRuleOne p) c .state
+call-exact : (p : PicState) (c : Call) → Nested p → isPolled (p .master) ≡ false → isPolled (p .slave) ≡ false → isModeCall p c ≡ false → commandsSlave c ≡ false → byRuleOne (outcome p c .state) ≡ outcome (byRuleOne p) c .state
 unfolding outcome restored portWritten
-call-exact p (claim-irq l) n e = raise-exact p l n
-call-exact p claim-pending-interrupt n e = claim-exact p n
-call-exact p (pulse-irq l) n e = raise-exact p l n
-call-exact p next-interrupt n e = claim-exact p n
-call-exact p (restore-interrupt c) n e = exact-cond (ltb (c .irq .0) 16) _ _ _ _ (restore-exact p (placeOf (c .irq)) (c .«master_in_service») (c .«slave_in_service») n) refl
-call-exact p (handle-read port width) n e = exact-cond (eqb width 1) _ _ _ _ refl refl
-call-exact p (handle-write port width value) n e = exact-cond (eqb width 1) _ _ _ _ (exact-cond (isPort port) _ _ _ _ (write-exact p port (value % 256) n e) refl) refl
+call-exact p (claim-irq l) n x y m e = raise-exact p l n
+call-exact p claim-pending-interrupt n x y m e = claim-exact p n
+call-exact p (pulse-irq l) n x y m e = raise-exact p l n
+call-exact p next-interrupt n x y m e = claim-exact p n
+call-exact p (restore-interrupt c) n x y m e = exact-cond (ltb (c .irq .0) 16) _ _ _ _ (restore-exact p (placeOf (c .irq)) (c .«master_in_service») (c .«slave_in_service») n) refl
+call-exact p (handle-read port width) n x y m e =
+    let l = left-alike p port x y in
+    exact-cond (eqb width 1) _ _ _ _ (ap byRuleOne (l .0) ∙ sym (l .1)) refl
+call-exact p (handle-write port width value) n x y m e = exact-cond (eqb width 1) _ _ _ _ (exact-cond (isPort port) _ _ _ _ (write-exact p port (value % 256) n m e) refl) refl
 
 pub as-cascade-exactly : AsCascadeExactly
-as-cascade-exactly p c r m s e = call-exact p c (record { cascade = ap (λ (n : ℕ). drives (ruleIn n)) r; master = m; slave = s }) e
+as-cascade-exactly p c h m e = call-exact p c (nested-pair p h) (h .«master-poll») (h .«slave-poll») m e

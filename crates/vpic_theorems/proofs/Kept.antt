@@ -12,10 +12,10 @@ use Rattle.types.specs.declared.PicPlace.{PicPlace}
 use Rattle.types.specs.declared.PicPlace.the-variants.{Master, Slave, Nowhere}
 use Rattle.types.specs.Counters.{placeOf}
 use Rattle.types.specs.Reply.{Outcome}
-use Rattle.vpic_chip.specs.Registers.{Chip, chipIn, fullIn}
-use Rattle.vpic_chip.specs.Chip.{cascadeIrq, firstOf, commanded, fed, pulsed, driven, acknowledged, unacknowledged}
+use Rattle.vpic_chip.specs.Registers.{Chip, withPoll, chipIn, fullIn, placed}
+use Rattle.vpic_chip.specs.Chip.{cascadeIrq, firstOf, blocks, asks, isPolled, polled, commanded, fed, pulsed, driven, acknowledged, unacknowledged}
 use Rattle.vpic.specs.Words.{PicState, chipBy, view}
-use Rattle.vpic.specs.Pair.{StateClaim, isCascade, settled, latchedAt, latched, masterClaim, slaveClaim, pendingPlace, claimAt, claimPending, claimIrq, restoredAt, restored, Port, master-command, master-data, slave-command, slave-data, no-port, portAt, isPort, writtenTo, writtenAt, portWritten}
+use Rattle.vpic.specs.Pair.{StateClaim, isCascade, settled, latchedAt, latched, masterClaim, slaveClaim, pendingPlace, claimAt, claimPending, claimIrq, restoredAt, restored, Port, master-command, master-data, slave-command, slave-data, no-port, portAt, isPort, masterRead, slaveRead, leftBy, portLeft, writtenTo, writtenAt, portWritten}
 use Rattle.vpic_theorems.specs.Statements.{Call, claim-irq, claim-pending-interrupt, pulse-irq, next-interrupt, restore-interrupt, handle-read, handle-write, outcome, spareFrom, CallsKeepRest}
 
 -- ---- one chip
@@ -28,12 +28,16 @@ commanded-same : (c : Chip) (v : ℕ) → Same c (commanded c v)
 unfolding commanded
 commanded-same c v =
     both (Same c) (bit v 4) _ _ (refl, refl)
-    (both (Same c) (bit v 3) _ _ (refl, refl)
-    (both (Same c) (bit v 5) _ _ (both (Same c) (bit v 6) _ _ (refl, refl) (both (Same c) (ltb (firstOf c (bit (c .«in_service»))) 8) _ _ (refl, refl) (refl, refl))) (both (Same c) (bit v 6) _ _ (refl, refl) (refl, refl))))
+    (both (Same c) (bit v 3) _ _ (both (Same c) (c .full) _ _ (refl, refl) (refl, refl))
+    (both (Same c) (bit v 5) _ _ (both (Same c) (bit v 6) _ _ (refl, refl) (both (Same c) (ltb (firstOf c (blocks c)) 8) _ _ (refl, refl) (refl, refl))) (both (Same c) (bit v 6) _ _ (refl, refl) (refl, refl))))
 
 fed-same : (c : Chip) (v : ℕ) → Same c (fed c v)
 unfolding fed
 fed-same c v = both (Same c) (eqb (c .«init_step») 1) _ _ (refl, refl) (both (Same c) (eqb (c .«init_step») 2) _ _ (refl, refl) (both (Same c) (eqb (c .«init_step») 3) _ _ (refl, refl) (refl, refl)))
+
+polled-same : (c : Chip) → Same c (polled c)
+unfolding polled acknowledged
+polled-same c = both (λ (d : Chip). Same c (withPoll d false)) (asks c) _ _ (refl, refl) (refl, refl)
 
 pulsed-same : (c : Chip) (l : PicLine) → Same c (pulsed c l)
 unfolding pulsed
@@ -98,6 +102,23 @@ written-stays p port byte = go (portAt port)
     go slave-data = record { rule = refl; spare = refl; master = (refl, refl); slave = fed-same (p .slave) byte }
     go no-port = same p
 
+left-stays : (p : PicState) (port : ℕ) → Stays p (portLeft p port)
+unfolding portLeft
+left-stays p port = go (portAt port)
+  where
+    of-master : Stays p (masterRead p)
+    of-master = both (Stays p) (isPolled (p .master)) _ _ (settled-stays p _ (record { rule = refl; spare = refl; master = polled-same (p .master); slave = (refl, refl) })) (same p)
+
+    of-slave : Stays p (slaveRead p)
+    of-slave = both (Stays p) (isPolled (p .slave)) _ _ (settled-stays p _ (record { rule = refl; spare = refl; master = (refl, refl); slave = polled-same (p .slave) })) (same p)
+
+    go : (a : Port) → Stays p (leftBy p a)
+    go master-command = of-master
+    go master-data = of-master
+    go slave-command = of-slave
+    go slave-data = of-slave
+    go no-port = same p
+
 abbrev Leaves : PicState → Outcome PicState → Type 0
 Leaves p o = Stays p (o .state)
 
@@ -108,16 +129,16 @@ calls-kept p claim-pending-interrupt = claim-stays p
 calls-kept p (pulse-irq l) = raise-stays p l
 calls-kept p next-interrupt = claim-stays p
 calls-kept p (restore-interrupt c) = both (Leaves p) (ltb (c .irq .0) 16) _ _ (settled-stays p _ (restored-stays p (placeOf (c .irq)) (c .«master_in_service») (c .«slave_in_service»))) (same p)
-calls-kept p (handle-read port width) = both (Leaves p) (eqb width 1) _ _ (same p) (same p)
+calls-kept p (handle-read port width) = both (Leaves p) (eqb width 1) _ _ (left-stays p port) (same p)
 calls-kept p (handle-write port width value) =
     both (Leaves p) (eqb width 1) _ _ (both (Leaves p) (isPort port) _ _ (settled-stays p _ (written-stays p port (value % 256))) (same p)) (same p)
 
 -- where the words of a chip begin to stand for nothing
-left-is : (rule v w : ℕ) → chipBy rule v .spare ≡ chipBy rule w .spare → v / 2 ^ spareFrom rule ≡ w / 2 ^ spareFrom rule
+left-is : (place : Bool) (rule v w : ℕ) → chipBy place rule v .spare ≡ chipBy place rule w .spare → v / 2 ^ spareFrom rule ≡ w / 2 ^ spareFrom rule
 unfolding chipIn
-left-is rule v w = go (eqb rule 2)
+left-is place rule v w = go (eqb rule 2)
   where
-    go : (b : Bool) → cond b (fullIn v) (chipIn v) .spare ≡ cond b (fullIn w) (chipIn w) .spare → v / 2 ^ cond b 48 44 ≡ w / 2 ^ cond b 48 44
+    go : (b : Bool) → cond b (placed place (fullIn v)) (chipIn v) .spare ≡ cond b (placed place (fullIn w)) (chipIn w) .spare → v / 2 ^ cond b 51 44 ≡ w / 2 ^ cond b 51 44
     go true q = omega arith
     go false q = q
 
@@ -127,8 +148,8 @@ calls-keep-rest l m c e =
     let h = calls-kept (view l) c in
     let r : getD m 2 0 ≡ getD l 2 0 = ap (λ (p : PicState). p .rule) e ∙ h .rule in
     record {
-      master = left-is (getD l 2 0) (getD m 0 0) (getD l 0 0) (ap (λ (n : ℕ). chipBy n (getD m 0 0) .spare) (sym r) ∙ ap (λ (p : PicState). p .master .spare) e ∙ h .master .0);
-      slave = left-is (getD l 2 0) (getD m 1 0) (getD l 1 0) (ap (λ (n : ℕ). chipBy n (getD m 1 0) .spare) (sym r) ∙ ap (λ (p : PicState). p .slave .spare) e ∙ h .slave .0);
+      master = left-is true (getD l 2 0) (getD m 0 0) (getD l 0 0) (ap (λ (n : ℕ). chipBy true n (getD m 0 0) .spare) (sym r) ∙ ap (λ (p : PicState). p .master .spare) e ∙ h .master .0);
+      slave = left-is false (getD l 2 0) (getD m 1 0) (getD l 1 0) (ap (λ (n : ℕ). chipBy false n (getD m 1 0) .spare) (sym r) ∙ ap (λ (p : PicState). p .slave .spare) e ∙ h .slave .0);
       rule = r;
       last = ap (λ (p : PicState). p .spare) e ∙ h .spare;
     }

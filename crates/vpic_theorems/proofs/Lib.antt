@@ -4,6 +4,7 @@ pub mod Calls
 pub mod Kept
 pub mod Rule
 pub mod Ring
+pub mod Ordinary
 pub mod Turns
 pub mod Rotation
 pub mod Rounds
@@ -12,3 +13,4 @@ pub mod Plain
 pub mod FullDepartures
 pub mod FullRule
 pub mod Exactly
+pub mod Modes

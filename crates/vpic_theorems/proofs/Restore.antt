@@ -5,31 +5,31 @@ use Prim.Native.Nat.{ℕ, _+_, _-_, _<_}
 use native.Mathlib.Omega.{arith}
 use lib.Dec.{ltb, eqb}
 use lib.ListN.{getD}
-use borrow.Author.Tests.{lt-ltb, le-ltb, eqb-true}
+use borrow.Author.Tests.{lt-ltb, le-ltb, eq-eqb, eqb-true}
 use Rattle.utils.specs.Set.{bit, with, without, outside, lowest}
-use Rattle.utils.proofs.Bools.{both}
-use Rattle.utils.proofs.Laws.{with-without, without-with}
+use Rattle.utils.proofs.Bools.{both, and-false, and-one}
+use Rattle.utils.proofs.Laws.{with-without, without-with, with-member}
 use Rattle.types.specs.declared.PicLine.{PicLine}
 use Rattle.types.specs.declared.Vector.{Vector}
 use Rattle.types.specs.declared.PicPlace.{PicPlace}
 use Rattle.types.specs.declared.PicPlace.the-variants.{Master, Slave, Nowhere}
 use Rattle.types.specs.declared.Reply.the-variants as reply
 use Rattle.types.specs.Counters.{placeOf, lineVector}
-use Rattle.vpic_chip.specs.Registers.{Chip, chipIn, fullIn, withRequest, withInService, withLowest}
+use Rattle.vpic_chip.specs.Registers.{Chip, chipIn, fullIn, placed, withRequest, withInService, withLowest}
 use Rattle.vpic_priority.specs.Ring.{firstRank, firstBy}
 use Rattle.vpic_chip.specs.declared.PendingIrq.{PendingIrq}
 use Rattle.vpic_chip.specs.declared.PendingIrq.the-variants.{Irq, Nothing}
 use Rattle.vpic.specs.Words.{PicState, isFull, view}
 use Rattle.vpic.specs.declared.PicInterruptClaim.{PicInterruptClaim}
 use Rattle.vpic.specs.declared.PicClaim.the-variants.{Claimed, Nothing as NoClaim}
-use Rattle.vpic_chip.specs.Chip.{cascadeIrq, opened, commanded, fed, pulsed, driven, counts, pendingLine, Highest, pendingIrq, acknowledged, unacknowledged}
+use Rattle.vpic_chip.specs.Chip.{cascadeIrq, isNested, opened, commanded, fed, pulsed, driven, counts, pendingLine, Highest, pendingIrq, acknowledged, unacknowledged}
 use Rattle.vpic.specs.Pair.{StateClaim, isCascade, Keeps, chips, grew, newState, settled, latchedAt, latched, masterClaim, slaveClaim, cascadePlace, placeFrom, claimAt, claimPending, claimIrq, portWritten, writtenAt, restoredAt, restored, restoreInterrupt}
 use Rattle.vpic_chip.proofs.Laws.{pended, counted-asked, counted-idle}
 use Rattle.vpic_theorems.specs.Rule.{LatchedKeeps, WrittenKeeps, RestoredKeeps}
 use Rattle.vpic_theorems.proofs.Settled.{settled-between}
 use Rattle.vpic.proofs.Settled.{settled-kept, settled-keeps}
-use Rattle.vpic.proofs.Laws.{none-new, grew-taken}
-use Rattle.vpic_theorems.specs.Statements.{Steady, BothSteady, PlainWords, PlainSteady, RestoredAtOnce, RestoredAfterRaise, PlainRestoredAtOnce, PlainRestoredAfterRaise, Served, ServedBy, HighestServed, SecondCallerUnheard, Flagged, FlagsSay, FlagsSayAfterRaise}
+use Rattle.vpic.proofs.Laws.{none-new, grew-taken, grew-other}
+use Rattle.vpic_theorems.specs.Statements.{Steady, BothSteady, PlainWords, PlainSteady, RestoredAtOnce, RestoredAfterRaise, PlainRestoredAtOnce, PlainRestoredAfterRaise, Served, ServedBy, HighestServed, SecondCallerUnheard, sets, Flagged, FlagsSay, FlagsSayAfterRaise, FlaggedByMode, FlagsByMode}
 
 -- ---- one chip: acknowledged, and taken back
 
@@ -39,18 +39,34 @@ unfolding acknowledged
 steady-taken c k s =
     ap (λ (b : Bool). withLowest (withInService (withRequest c (without (c .request) k)) (cond (c .«auto_eoi») (c .«in_service») (with (c .«in_service») k))) (cond b k (c .«lowest_line»))) s
 
+in-service-kept : (c : Chip) (k : ℕ) → bit (c .«in_service») k ≡ true → acknowledged c k .«in_service» ≡ c .«in_service»
+unfolding acknowledged
+in-service-kept c k e = both (λ (n : ℕ). n ≡ c .«in_service») (c .«auto_eoi») _ _ refl (with-member (c .«in_service») k e)
+
+-- a chip's in-service set grew where its line wasn't there, and automatic EOI mode is off
+pub grew-sets : (c : Chip) (k : ℕ) → k < 8 → grew c (acknowledged c k) ≡ sets c k
+grew-sets c k l = go (bit (c .«in_service») k) refl
+  where
+    go : (b : Bool) → bit (c .«in_service») k ≡ b → grew c (acknowledged c k) ≡ (not (c .«auto_eoi») && not b)
+    go true e =
+        grew-other c k l ∙ ap (λ (n : ℕ). not (eqb n (c .«in_service»))) (in-service-kept c k e) ∙ ap not (eq-eqb (c .«in_service») (c .«in_service») refl)
+        ∙ sym (and-false (not (c .«auto_eoi»)))
+    go false e = grew-taken c k l e ∙ sym (and-one (not (c .«auto_eoi»)))
+
 chip-back : (c : Chip) (k : PicLine) → Steady c → Highest c (k .0) → unacknowledged (acknowledged c (k .0)) k (grew c (acknowledged c (k .0))) ≡ c
 unfolding unacknowledged pulsed
 chip-back c k s h =
-    ap (unacknowledged (acknowledged c (k .0)) k) (grew-taken c (k .0) (h .low) (counted-idle c (k .0) (h .counted)))
-    ∙ ap (λ (d : Chip). unacknowledged d k (not (c .«auto_eoi»))) (steady-taken c (k .0) s) ∙ go (c .«auto_eoi»)
+    ap (unacknowledged (acknowledged c (k .0)) k) (grew-sets c (k .0) (h .low))
+    ∙ ap (λ (d : Chip). unacknowledged d k (sets c (k .0))) (steady-taken c (k .0) s) ∙ go (c .«auto_eoi») (bit (c .«in_service») (k .0)) refl
   where
     asked : bit (c .request) (k .0) ≡ true
     asked = counted-asked c (k .0) (h .counted)
 
-    go : (b : Bool) → unacknowledged (withInService (withRequest c (without (c .request) (k .0))) (cond b (c .«in_service») (with (c .«in_service») (k .0)))) k (not b) ≡ c
-    go true = rw (lt-ltb (k .0) 8 (h .low), with-without (c .request) (k .0) asked)
-    go false = rw (lt-ltb (k .0) 8 (h .low), with-without (c .request) (k .0) asked, without-with (c .«in_service») (k .0) (counted-idle c (k .0) (h .counted)))
+    go : (b d : Bool) → bit (c .«in_service») (k .0) ≡ d
+        → unacknowledged (withInService (withRequest c (without (c .request) (k .0))) (cond b (c .«in_service») (with (c .«in_service») (k .0)))) k (not b && not d) ≡ c
+    go true d e = rw (lt-ltb (k .0) 8 (h .low), with-without (c .request) (k .0) asked)
+    go false true e = rw (lt-ltb (k .0) 8 (h .low), with-without (c .request) (k .0) asked, with-member (c .«in_service») (k .0) e)
+    go false false e = rw (lt-ltb (k .0) 8 (h .low), with-without (c .request) (k .0) asked, without-with (c .«in_service») (k .0) e)
 
 -- ---- the pair: a claim of the master's line, and of the slave's
 
@@ -113,11 +129,11 @@ by-claim P p m s c e = by-master (pendingIrq (p .master)) refl e
     by-master Nothing q f = let z : _≡_ {A = ℕ} 0 1 = cc in absurd (omega arith)
 
 -- the line of a claim
-master-line : (p : PicState) (k : PicLine) (c : PicInterruptClaim) → masterClaim p k .claim ≡ Claimed c → c .irq ≡ k
+pub master-line : (p : PicState) (k : PicLine) (c : PicInterruptClaim) → masterClaim p k .claim ≡ Claimed c → c .irq ≡ k
 unfolding masterClaim
 master-line p k c e = cc
 
-slave-line : (p : PicState) (k : PicLine) (c : PicInterruptClaim) → slaveClaim p k .claim ≡ Claimed c → c .irq .0 ≡ k .0 + 8
+pub slave-line : (p : PicState) (k : PicLine) (c : PicInterruptClaim) → slaveClaim p k .claim ≡ Claimed c → c .irq .0 ≡ k .0 + 8
 unfolding slaveClaim
 slave-line p k c e = let f : c .irq ≡ record { 0 = k .0 + 8 } = cc in ap (λ (l : PicLine). l .0) f
 
@@ -171,10 +187,10 @@ restored-after-raise p l c steady e = go (ltb (l .0) 16) e
 
 pub plain-words : PlainWords
 unfolding view chipIn
-plain-words l e = (go (getD l 0 0), go (getD l 1 0))
+plain-words l e = (go true (getD l 0 0), go false (getD l 1 0))
   where
-    go : (w : ℕ) → cond (isFull (getD l 2 0)) (fullIn w) (chipIn w) .full ≡ false
-    go w = ap (λ (b : Bool). cond b (fullIn w) (chipIn w) .full) e
+    go : (place : Bool) (w : ℕ) → cond (isFull (getD l 2 0)) (placed place (fullIn w)) (chipIn w) .full ≡ false
+    go place w = ap (λ (b : Bool). cond b (placed place (fullIn w)) (chipIn w) .full) e
 
 plain-chip : (c : Chip) → c .full ≡ false → Steady c
 plain-chip c f = ap (λ (b : Bool). b && (c .«auto_eoi» && c .«auto_rotation»)) f
@@ -234,7 +250,8 @@ master-flagged p k c h e =
     let f : c ≡ the-claim p (chips p (acknowledged (p .master) (k .0)) (p .slave)) (lineVector (p .master .«vector_base») k) k = cc in
     let l = h .low in
     rw f (record {
-      master = grew-taken (p .master) (k .0) l (counted-idle (p .master) (k .0) (h .counted));
+      master = λ m. grew-sets (p .master) (k .0) l;
+      cascade = λ m. absurd (omega arith);
       slave = λ m. absurd (omega arith);
       alone = λ m. ap not (none-new (p .slave .«in_service»));
     })
@@ -243,31 +260,63 @@ slave-flagged : (p : PicState) (k : PicLine) (c : PicInterruptClaim) → Highest
 unfolding slaveClaim the-claim
 slave-flagged p k c m h e =
     let f : c ≡ the-claim p (chips p (acknowledged (p .master) 2) (acknowledged (p .slave) (k .0))) (lineVector (p .slave .«vector_base») k) (record { 0 = k .0 + 8 }) = cc in
+    let d : k .0 + 8 - 8 ≡ k .0 = omega arith in
     rw f (record {
-      master = grew-taken (p .master) 2 (m .low) (counted-idle (p .master) 2 (m .counted));
-      slave = λ l. grew-taken (p .slave) (k .0) (h .low) (counted-idle (p .slave) (k .0) (h .counted));
+      master = λ l. absurd (omega arith);
+      cascade = λ l. grew-sets (p .master) 2 (m .low);
+      slave = λ l. grew-sets (p .slave) (k .0) (h .low) ∙ ap (sets (p .slave)) (sym d);
       alone = λ l. absurd (omega arith);
     })
 
 pub flags-say : FlagsSay
 flags-say p = by-claim (λ r c. Flagged p c) p (master-flagged p) (slave-flagged p)
 
--- to latch a line changes no mode
-pulsed-mode : (c : Chip) (l : PicLine) → pulsed c l .«auto_eoi» ≡ c .«auto_eoi»
+-- outside special fully nested mode a line that is claimed wasn't in service
+idle-sets : (c : Chip) (k : ℕ) → Highest c k → isNested c ≡ false → sets c k ≡ not (c .«auto_eoi»)
+idle-sets c k h n =
+    ap (λ (b : Bool). not (c .«auto_eoi») && not b) (counted-idle c k (h .counted) (ap (λ (b : Bool). b && eqb k 2) n)) ∙ and-one (not (c .«auto_eoi»))
+
+pub flags-by-mode : FlagsByMode
+flags-by-mode p = by-claim (λ r c. FlaggedByMode p c) p by-master by-slave
+  where
+    by-master : (k : PicLine) (c : PicInterruptClaim) → Highest (p .master) (k .0) → masterClaim p k .claim ≡ Claimed c → FlaggedByMode p c
+    by-master k c h e =
+        let f = master-flagged p k c h e in
+        let l : c .irq .0 ≡ k .0 = ap (λ (x : PicLine). x .0) (master-line p k c e) in
+        record { master = λ n. f .master (omega (arith, l, h .low)) ∙ ap (sets (p .master)) l ∙ idle-sets (p .master) (k .0) h n; slave = λ n m. absurd (omega (arith, l, h .low)) }
+
+    by-slave : (k : PicLine) (c : PicInterruptClaim) → Highest (p .master) 2 → Highest (p .slave) (k .0) → slaveClaim p k .claim ≡ Claimed c → FlaggedByMode p c
+    by-slave k c m h e =
+        let f = slave-flagged p k c m h e in
+        let l : c .irq .0 ≡ k .0 + 8 = slave-line p k c e in
+        let d : c .irq .0 - 8 ≡ k .0 = omega (arith, l) in
+        record {
+          master = λ n. f .cascade (omega (arith, l)) ∙ idle-sets (p .master) 2 m n;
+          slave = λ n b. f .slave b ∙ ap (sets (p .slave)) d ∙ idle-sets (p .slave) (k .0) h n;
+        }
+
+-- to latch a line changes no mode, and puts nothing into service
+abbrev SameSets : Chip → Chip → Type 0
+SameSets c d = (d .«auto_eoi» ≡ c .«auto_eoi») × (d .«in_service» ≡ c .«in_service»)
+
+pulsed-sets : (c : Chip) (l : PicLine) → SameSets c (pulsed c l)
 unfolding pulsed
-pulsed-mode c l = both (λ (d : Chip). d .«auto_eoi» ≡ c .«auto_eoi») (ltb (l .0) 8) _ _ refl refl
+pulsed-sets c l = both (SameSets c) (ltb (l .0) 8) _ _ (refl, refl) (refl, refl)
 
 abbrev SameMode : PicState → PicState → Type 0
-SameMode p q = (q .master .«auto_eoi» ≡ p .master .«auto_eoi») × (q .slave .«auto_eoi» ≡ p .slave .«auto_eoi»)
+SameMode p q = SameSets (p .master) (q .master) × SameSets (p .slave) (q .slave)
 
 latched-mode : (p : PicState) (l : PicLine) → SameMode p (latched p l)
 unfolding latched settled driven
 latched-mode p l = both (SameMode p) (isCascade (latchedAt p (placeOf l))) _ _ (go (placeOf l)) (go (placeOf l))
   where
     go : (a : PicPlace) → SameMode p (latchedAt p a)
-    go (Master k) = (pulsed-mode (p .master) k, refl)
-    go (Slave k) = (pulsed-mode (p .master) cascadeIrq, pulsed-mode (p .slave) k)
-    go Nowhere = (refl, refl)
+    go (Master k) = (pulsed-sets (p .master) k, (refl, refl))
+    go (Slave k) = (pulsed-sets (p .master) cascadeIrq, pulsed-sets (p .slave) k)
+    go Nowhere = ((refl, refl), (refl, refl))
+
+sets-same : (c d : Chip) (k : ℕ) → SameSets c d → sets d k ≡ sets c k
+sets-same c d k s = ap₂ (λ (b : Bool) (n : ℕ). not b && not (bit n k)) (s .0) (s .1)
 
 pub flags-say-after-raise : FlagsSayAfterRaise
 unfolding claimIrq
@@ -277,5 +326,10 @@ flags-say-after-raise p l c e = go (ltb (l .0) 16) e
     go true f =
         let r = flags-say (latched p l) c f in
         let s = latched-mode p l in
-        record { master = r .master ∙ ap not (s .0); slave = λ m. r .slave m ∙ ap not (s .1); alone = r .alone }
+        record {
+          master = λ m. r .master m ∙ sets-same (p .master) (latched p l .master) (c .irq .0) (s .0);
+          cascade = λ m. r .cascade m ∙ sets-same (p .master) (latched p l .master) 2 (s .0);
+          slave = λ m. r .slave m ∙ sets-same (p .slave) (latched p l .slave) (c .irq .0 - 8) (s .1);
+          alone = r .alone;
+        }
     go false f = let z : _≡_ {A = ℕ} 0 1 = cc in absurd (omega arith)

@@ -8,16 +8,17 @@ use lib.Dec.{ltb, eqb}
 use lib.ListN.{length}
 use borrow.Author.Tests.{ltb-true, eqb-false}
 use Rattle.utils.specs.Set.{bit, with, without}
-use Rattle.utils.proofs.Bools.{never, either, not-is, and-true}
+use Rattle.utils.proofs.Bools.{never, both, either, not-is, and-true}
 use Rattle.utils.proofs.Laws.{bit-none, bit-without-other}
 use Rattle.types.specs.declared.PicLine.{PicLine}
 use Rattle.vpic_chip.specs.Registers.{Chip}
 use Rattle.vpic_priority.specs.Ring.{rank, firstRank, firstBy}
 use Rattle.vpic_priority.proofs.Ring.{rank-lt}
 use Rattle.vpic_chip.specs.Chip.{lowestBy, turned, specificEoi, nonSpecificEoi, autoRotated, icw1, ocw3, counts, pendingLine, asks, acknowledged, pulsed, unacknowledged, commanded, fed}
-use Rattle.vpic_theorems.specs.Rotation.{Event, raise, acknowledge, take-back, command, data-write, after, linesOf, lines, within, keepsTurns, fairly, turns, raises, rounds, FairRounds, LastIsEighth, Needed, Waits, Fair, FairInEight}
+use Rattle.vpic_theorems.specs.Rotation.{Event, raise, acknowledge, take-back, command, data-write, after, linesOf, lines, within, keepsTurns, isOrdinary, fairly, turns, raises, rounds, FairRounds, LastIsEighth, Needed, Waits, Fair, FairInEight}
 use Rattle.vpic_theorems.proofs.Ring.{rank-turn, AllBefore, before, before-le, before-none, all-with, before-with, all-turn, before-turn, all-ended, before-ended}
-use Rattle.vpic_theorems.proofs.Turns.{Becomes, becomes-same, ack-idle, eoi-taken, taken-still, raise-becomes, raise-keeps, ack-turns, ack-serves, fed-keeps, Next, next, asks-for, highestInService, rotatingEoi, turned-not, top-in, top-first}
+use Rattle.vpic_theorems.proofs.Ordinary.{ordinary-ended, ordinary-plainly, idle-plainly}
+use Rattle.vpic_theorems.proofs.Turns.{Becomes, becomes-same, ack-idle, eoi-taken, taken-still, raise-becomes, raise-keeps, ack-turns, ack-serves, fed-keeps, Next, next, asks-for, highestInService, rotatingEoi, eoi-highest, turned-not, top-in, top-first}
 
 -- line n waits: it has asked, and every line in service stands before it
 record Waiting (n : ℕ) (c : Chip) : Type 0 where
@@ -76,8 +77,10 @@ fed-step : (n : ℕ) (c : Chip) (v : ℕ) → Waiting n c → Step n c (fed c v)
 fed-step n c v w = let k = fed-keeps c v in same n c (fed c v) w (k .full) (rw (k .request) (w .asked)) (k .lowest) (k .«in_service»)
 
 -- the plain EOI with rotation
-ended : (n : ℕ) (c : Chip) → n < 8 → Waiting n c → Step n c (rotatingEoi c) 0
-ended n c nlow w = either (λ (e : Chip). Step n c e 0) (ltb (highestInService c) 8) _ _ some (λ e. same n c c w refl (w .asked) refl refl)
+ended : (n : ℕ) (c : Chip) → n < 8 → isOrdinary c ≡ true → Waiting n c → Step n c (rotatingEoi c) 0
+ended n c nlow o w =
+    subst (λ (e : Chip). Step n c e 0) (sym (eoi-highest c (ordinary-ended c o)))
+    (either (λ (e : Chip). Step n c e 0) (ltb (highestInService c) 8) _ _ some (λ e. same n c c w refl (w .asked) refl refl))
   where
     some : ltb (highestInService c) 8 ≡ true → Step n c (turned (specificEoi c (highestInService c)) true (highestInService c)) 0
     some e =
@@ -90,9 +93,9 @@ ended n c nlow w = either (λ (e : Chip). Step n c e 0) (ltb (highestInService c
           turns = rw l (omega (arith, rank-turn (lowestBy c) b n q nlow near, before-ended (lowestBy c) (c .«in_service») n b q nlow (top-in c q) (top-first c) (w .all)));
         }
 
-written : (n : ℕ) (c : Chip) (v : ℕ) → n < 8 → Waiting n c → keepsTurns v ≡ true → Step n c (commanded c v) 0
+written : (n : ℕ) (c : Chip) (v : ℕ) → n < 8 → isOrdinary c ≡ true → Waiting n c → keepsTurns v ≡ true → Step n c (commanded c v) 0
 unfolding commanded
-written n c v nlow w k = go (bit v 4) (bit v 3) (bit v 5) (bit v 6) (bit v 7) k
+written n c v nlow o w k = go (bit v 4) (bit v 3) (bit v 5) (bit v 6) (bit v 7) k
   where
     go : (i o e s r : Bool) → (not i && (o || cond e (not s && r) (not s || not r))) ≡ true
         → Step n c
@@ -101,9 +104,9 @@ written n c v nlow w k = go (bit v 4) (bit v 3) (bit v 5) (bit v 6) (bit v 7) k
         (cond e (cond s (turned (specificEoi c (v % 8)) r (v % 8)) (nonSpecificEoi c r)) (cond s (turned c r (v % 8)) (autoRotated c r)))))
         0
     go true o e s r h = never h refl
-    go false true e s r h = same n c _ w refl (w .asked) refl refl
+    go false true e s r h = both (λ (x : Chip). Step n c x 0) (c .full) _ _ (same n c _ w refl (w .asked) refl refl) (same n c _ w refl (w .asked) refl refl)
     go false false true true r h = never h refl
-    go false false true false true h = ended n c nlow w
+    go false false true false true h = ended n c nlow o w
     go false false true false false h = never h refl
     go false false false true true h = never h refl
     go false false false true false h = same n c _ w refl (w .asked) (turned-not (c .full) (v % 8) (c .«lowest_line»)) refl
@@ -133,25 +136,29 @@ module _ (n : ℕ) (nlow : n < 8) where
   served-by [] c b w f h q = absurd (omega (arith, before-le (lowestBy c) (c .«in_service») n))
   served-by (raise p ∷ l) c b w f h q =
       let s = raised n c p w in
-      served-by l (pulsed c p) b (s .waiting) f (omega (arith, s .turns)) q
-  served-by (take-back p g ∷ l) c b w f h q = never f refl
+      let k = and-true (isOrdinary c) (fairly n (pulsed c p) l) f in
+      served-by l (pulsed c p) b (s .waiting) (k .1) (omega (arith, s .turns)) q
+  served-by (take-back p g ∷ l) c b w f h q = never (and-true (isOrdinary c) false f .1) refl
   served-by (command v ∷ l) c b w f h q =
-      let k = and-true (keepsTurns v) (fairly n (commanded c v) l) f in
-      let s = written n c v nlow w (k .0) in
+      let o = and-true (isOrdinary c) (keepsTurns v && fairly n (commanded c v) l) f in
+      let k = and-true (keepsTurns v) (fairly n (commanded c v) l) (o .1) in
+      let s = written n c v nlow (o .0) w (k .0) in
       served-by l (commanded c v) b (s .waiting) (k .1) (omega (arith, s .turns)) q
   served-by (data-write v ∷ l) c b w f h q =
       let s = fed-step n c v w in
-      served-by l (fed c v) b (s .waiting) f (omega (arith, s .turns)) q
+      let k = and-true (isOrdinary c) (fairly n (fed c v) l) f in
+      served-by l (fed c v) b (s .waiting) (k .1) (omega (arith, s .turns)) q
   served-by (acknowledge ∷ l) c b w f h q =
-      let k = and-true (not (bit (c .mask) n) && turns c) (within n 1 (linesOf c acknowledge) || fairly n (after c acknowledge) l) f in
-      go (asks c) refl (k .1) q (λ e. served-by l e) (k .0)
+      let o = and-true (isOrdinary c) ((not (bit (c .mask) n) && turns c) && (within n 1 (linesOf c acknowledge) || fairly n (after c acknowledge) l)) f in
+      let k = and-true (not (bit (c .mask) n) && turns c) (within n 1 (linesOf c acknowledge) || fairly n (after c acknowledge) l) (o .1) in
+      go (o .0) (asks c) refl (k .1) q (λ e. served-by l e) (k .0)
     where
-      go : (a : Bool) → asks c ≡ a → (within n 1 (cond a (pendingLine c ∷ []) []) || fairly n (cond a (acknowledged c (pendingLine c)) c) l) ≡ true
+      go : isOrdinary c ≡ true → (a : Bool) → asks c ≡ a → (within n 1 (cond a (pendingLine c ∷ []) []) || fairly n (cond a (acknowledged c (pendingLine c)) c) l) ≡ true
           → b ≤ length (cond a (pendingLine c ∷ []) [] ++ lines (cond a (acknowledged c (pendingLine c)) c) l) → ((e : Chip) → ServedBy n e l)
           → (not (bit (c .mask) n) && turns c) ≡ true
           → within n b (cond a (pendingLine c ∷ []) [] ++ lines (cond a (acknowledged c (pendingLine c)) c) l) ≡ true
-      go true e v q r u = served n nlow c l (pendingLine c) b (next c e) (r (acknowledged c (pendingLine c))) w u v h q
-      go false e v q r u = r c b w v h q
+      go o true e v q r u = served n nlow c l (pendingLine c) b (next c (ordinary-plainly c o) e) (r (acknowledged c (pendingLine c))) w u v h q
+      go o false e v q r u = r c b w v h q
 
 -- nothing in service: nothing stands before n
 starts : (c : Chip) (n : ℕ) → Waits c n → Waiting n c
@@ -205,14 +212,14 @@ record Ready (n : ℕ) (c : Chip) : Type 0 where
 
 -- another line k's round
 round-over : (n : ℕ) (c : Chip) (ps : List PicLine) (k : ℕ) → Ready n c → k < 8 → (k ≡ n → ⊥)
-    → Ready n (commanded (raised-all (acknowledged c k) ps) 0xa0) × (lowestBy (commanded (raised-all (acknowledged c k) ps) 0xa0) ≡ k)
-round-over n c ps k r h d =
+    → bit (c .mask) k ≡ false → Ready n (commanded (raised-all (acknowledged c k) ps) 0xa0) × (lowestBy (commanded (raised-all (acknowledged c k) ps) 0xa0) ≡ k)
+round-over n c ps k r h d u =
     let w = r .waits in
     let a = ack-idle c k (w .full) (w .idle) (r .turns) in
     let b = raised-becomes ps (acknowledged c k) in
     let x = raised-all (acknowledged c k) ps in
     let f : x .full ≡ true = b .full ∙ a .full ∙ w .full in
-    let e = eoi-taken x k f h (taken-still (acknowledged c k) x k (b .«in_service») (b .lowest) (a .taken)) in
+    let e = eoi-taken x k f h (ap (λ (s : ℕ). bit s k) (b .mask ∙ a .mask) ∙ u) (taken-still (acknowledged c k) x k (b .«in_service») (b .lowest) (a .taken)) in
     let q : bit (x .request) n ≡ true =
     raised-keeps ps (acknowledged c k) n (ap (λ (s : ℕ). bit s n) (a .request) ∙ bit-without-other (c .request) k n (λ z. d (sym z)) ∙ w .asked) in (
       record {
@@ -241,9 +248,9 @@ rounds-served n (ps ∷ r) c (suc b) w h q =
         → (z || within n b (lines (commanded (raised-all (acknowledged c k) ps) 0xa0) (rounds r))) ≡ true
     go true e rest = refl
     go false e rest =
-        let x = next c a in
+        let x = next c (idle-plainly c (w .waits .idle)) a in
         let d : k ≡ n → ⊥ = eqb-false k n e in
-        let o = round-over n c ps k w (x .low) d in
+        let o = round-over n c ps k w (x .low) d (x .unmasked) in
         let l : rank (lowestBy c) k < rank (lowestBy c) n = x .nearest n (w .waits .low) (w .waits .asked) (w .unmasked) d in
         rest (commanded (raised-all (acknowledged c k) ps) 0xa0) (o .0)
         (subst (λ (m : ℕ). rank m n < b) (sym (o .1)) (omega (arith, rank-turn (lowestBy c) k n (x .low) (w .waits .low) l)))
@@ -259,7 +266,7 @@ unfolding asks pendingLine counts firstBy firstRank acknowledged pulsed commande
 last-is-eighth = refl
 
 pub needed : Needed
-unfolding asks pendingLine counts firstBy firstRank acknowledged unacknowledged pulsed commanded with without
+unfolding asks pendingLine counts firstBy firstRank acknowledged unacknowledged pulsed commanded fed with without
 needed = record {
   «plain-eoi» = refl;
   «specific-eoi» = refl;
@@ -270,6 +277,8 @@ needed = record {
   masked = refl;
   plain = refl;
   initialized = refl;
+  special = refl;
+  nested = refl;
   idle = refl;
   stuck = refl;
 }

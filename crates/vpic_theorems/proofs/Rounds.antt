@@ -25,6 +25,7 @@ use Rattle.vpic_theorems.specs.Statements.{outcome}
 use Rattle.vpic_theorems.specs.Rotation.{within, turns, Round, edge-on, waiting, pairRounds, isKnown, areKnown, claimLine, claims, Rotating, SlaveWaits, MasterWaits, slaveBound, FairSlave, FairMaster, SixtyFour, LastIsSixtyFourth, NeededOnPair}
 use Rattle.vpic_theorems.proofs.Settled.{settled-cascade}
 use Rattle.vpic_theorems.proofs.Ring.{rank-turn}
+use Rattle.vpic_theorems.proofs.Ordinary.{idle-plainly}
 use Rattle.vpic_theorems.proofs.Turns.{Becomes, becomes-same, raise-becomes, raise-keeps, ack-idle, taken-still, eoi-taken, eoi-is, eoi-none, Next, next, asks-for}
 
 -- ---- a chip whose line 2 is driven
@@ -110,11 +111,11 @@ None n = ⊥
 abbrev Two : ℕ → Type 0
 Two n = n ≡ 2
 
-left : (D : ℕ → Type 0) (c x : Chip) (k : ℕ) → Idle c → k < 8 → Like (acknowledged c k) x → ((n : ℕ) → (D n → ⊥) → bit (x .request) n ≡ bit (acknowledged c k .request) n)
+left : (D : ℕ → Type 0) (c x : Chip) (k : ℕ) → Idle c → k < 8 → bit (c .mask) k ≡ false → Like (acknowledged c k) x → ((n : ℕ) → (D n → ⊥) → bit (x .request) n ≡ bit (acknowledged c k .request) n)
     → Left c (commanded x 0xa0) k D
-left D c x k h q b r =
+left D c x k h q u b r =
     let a = ack-idle c k (h .full) (h .idle) (h .turns) in
-    let e = eoi-taken x k (b .full ∙ a .full ∙ h .full) q (taken-still (acknowledged c k) x k (b .«in_service») (b .lowest) (a .taken)) in
+    let e = eoi-taken x k (b .full ∙ a .full ∙ h .full) q (ap (λ (s : ℕ). bit s k) (b .mask ∙ a .mask) ∙ u) (taken-still (acknowledged c k) x k (b .«in_service») (b .lowest) (a .taken)) in
     record {
       idle = record {
         full = e .full ∙ b .full ∙ a .full ∙ h .full;
@@ -127,8 +128,8 @@ left D c x k h q b r =
           ap (λ (s : ℕ). bit s n) (e .request) ∙ r n t ∙ ap (λ (s : ℕ). bit s n) (a .request) ∙ bit-without-other (c .request) k n d ∙ z;
     }
 
-left-slave : (c : Chip) (k : ℕ) → Idle c → k < 8 → Left c (commanded (acknowledged c k) 0xa0) k None
-left-slave c k h q = left None c (acknowledged c k) k h q (becomes-same (acknowledged c k)) (λ n t. refl)
+left-slave : (c : Chip) (k : ℕ) → Idle c → k < 8 → bit (c .mask) k ≡ false → Left c (commanded (acknowledged c k) 0xa0) k None
+left-slave c k h q u = left None c (acknowledged c k) k h q u (becomes-same (acknowledged c k)) (λ n t. refl)
 
 left-driven : (c e : Chip) (k : ℕ) (d : Bool) → Left c e k Two → Left c (driven e 2 d) k Two
 left-driven c e k d l =
@@ -140,11 +141,11 @@ left-driven c e k d l =
       asked = λ n f t z. driven-other e 2 n d t ∙ l .asked n f t z;
     }
 
-left-master : (c : Chip) (k : ℕ) (a b d : Bool) → Idle c → k < 8 → Left c (driven (commanded (driven (driven (acknowledged c k) 2 a) 2 b) 0xa0) 2 d) k Two
-left-master c k a b d h q =
+left-master : (c : Chip) (k : ℕ) (a b d : Bool) → Idle c → k < 8 → bit (c .mask) k ≡ false → Left c (driven (commanded (driven (driven (acknowledged c k) 2 a) 2 b) 0xa0) 2 d) k Two
+left-master c k a b d h q u =
     let m = acknowledged c k in
     left-driven c (commanded (driven (driven m 2 a) 2 b) 0xa0) k d
-    (left Two c (driven (driven m 2 a) 2 b) k h q (like-then m (driven m 2 a) (driven (driven m 2 a) 2 b) (driven-becomes m 2 a) (driven-becomes (driven m 2 a) 2 b))
+    (left Two c (driven (driven m 2 a) 2 b) k h q u (like-then m (driven m 2 a) (driven (driven m 2 a) 2 b) (driven-becomes m 2 a) (driven-becomes (driven m 2 a) 2 b))
     (λ n t. driven-other (driven m 2 a) 2 n b t ∙ driven-other m 2 n a t))
 
 -- nothing was served on c
@@ -180,7 +181,7 @@ unfolding masterClaim
 master-claim p k h n o =
     let y = chips p (acknowledged (p .master) (k .0)) (p .slave) in
     let s : commanded (p .slave) 0xa0 ≡ p .slave = eoi-quiet (p .slave) (slave-of p h) in
-    let l = left-master (p .master) (k .0) (asks (p .slave)) (asks (commanded (p .slave) 0xa0)) (asks (commanded (p .slave) 0xa0)) (master-of p h) (n .low) in
+    let l = left-master (p .master) (k .0) (asks (p .slave)) (asks (commanded (p .slave) 0xa0)) (asks (commanded (p .slave) 0xa0)) (master-of p h) (n .low) (n .unmasked) in
     by-master (k .0) refl (rw (eois-is y (h .cascade)) (record {
       other = o;
       rotates = rotating _ (h .cascade) (final-keeps p _ (commanded (p .slave) 0xa0) (h .cascade)) (l .idle) (rw s (slave-of p h));
@@ -194,8 +195,8 @@ unfolding slaveClaim
 slave-claim p j h m n =
     let t = acknowledged (p .slave) (j .0) in
     let y = chips p (acknowledged (p .master) 2) t in
-    let l = left-master (p .master) 2 (asks t) (asks (commanded t 0xa0)) (asks (commanded t 0xa0)) (master-of p h) (m .low) in
-    let k = left-slave (p .slave) (j .0) (slave-of p h) (n .low) in
+    let l = left-master (p .master) 2 (asks t) (asks (commanded t 0xa0)) (asks (commanded t 0xa0)) (master-of p h) (m .low) (m .unmasked) in
+    let k = left-slave (p .slave) (j .0) (slave-of p h) (n .low) (n .unmasked) in
     by-slave (j .0) refl (rw (eois-is y (h .cascade)) (record {
       rotates = rotating _ (h .cascade) (final-keeps p _ (commanded t 0xa0) (h .cascade)) (l .idle) (k .idle);
       cascade = m;
@@ -218,12 +219,12 @@ claim-made p h a = rw (pending-is (p .master) a) (go (eqb (pendingLine (p .maste
 
     go : (b : Bool) → eqb (pendingLine (p .master)) 2 ≡ b → Claim p (claimAt p (cond b (cascadePlace (pendingIrq (p .slave))) (Master (record { 0 = pendingLine (p .master) }))))
     go true e =
-        let n = next (p .master) a in
+        let n = next (p .master) (idle-plainly (p .master) (h .«master-idle»)) a in
         let two : pendingLine (p .master) ≡ 2 = eqb-true (pendingLine (p .master)) 2 e in
         let n2 : Next (p .master) 2 = subst (Next (p .master)) two n in
         let s : asks (p .slave) ≡ true = sym (h .keeps (h .cascade)) ∙ n2 .asked in
-        rw (pending-is (p .slave) s) (slave-claim p (record { 0 = pendingLine (p .slave) }) h n2 (next (p .slave) s))
-    go false e = master-claim p (record { 0 = pendingLine (p .master) }) h (next (p .master) a) (eqb-false (pendingLine (p .master)) 2 e)
+        rw (pending-is (p .slave) s) (slave-claim p (record { 0 = pendingLine (p .slave) }) h n2 (next (p .slave) (idle-plainly (p .slave) (h .«slave-idle»)) s))
+    go false e = master-claim p (record { 0 = pendingLine (p .master) }) h (next (p .master) (idle-plainly (p .master) (h .«master-idle»)) a) (eqb-false (pendingLine (p .master)) 2 e)
 
 -- ---- an edge before the claim
 

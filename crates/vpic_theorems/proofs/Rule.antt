@@ -1,5 +1,5 @@
 -- Every call keeps the cascade rule, and by it no slave request that counts goes unheard. Assumes nothing.
-use mathlib.Core.Path.{_≡_, refl, sym, ap, _∙_}
+use mathlib.Core.Path.{_≡_, refl, sym, ap, subst, _∙_}
 use mathlib.Core.Bool.{Bool, true, false, cond, not, _&&_, true≢false}
 use mathlib.Core.List.{List, [], _∷_}
 use Prim.Native.Nat.{ℕ, _%_, _<_, _≤_}
@@ -22,10 +22,10 @@ use Rattle.types.specs.Reply.{Outcome, replyNumber}
 use Rattle.vpic_chip.specs.Registers.{Chip}
 use Rattle.vpic.specs.declared.PicRule.the-variants.{Latch, Cascade, Full}
 use Rattle.vpic.specs.Words.{PicState}
-use Rattle.vpic_chip.specs.Chip.{lowestBy, firstOf, isAboveAll, opened, commanded, fed, pulsed, asks, cascadeIrq, driven, counts, pendingLine, Highest, pendingIrq, acknowledged, unacknowledged}
-use Rattle.vpic.specs.Pair.{chips, Keeps, newState, settled, latchedAt, latched, masterClaim, slaveClaim, pendingPlace, claimAt, claimPending, claimIrq, nothingClaimed, restoredAt, restored, isPort, writtenAt, portWritten, portRead, valueReply, refused}
+use Rattle.vpic_chip.specs.Chip.{lowestBy, firstOf, isAboveAll, blocksLine, isPolled, polled, opened, commanded, fed, pulsed, asks, cascadeIrq, driven, counts, pendingLine, Highest, pendingIrq, acknowledged, unacknowledged}
+use Rattle.vpic.specs.Pair.{chips, Keeps, newState, settled, latchedAt, latched, masterClaim, slaveClaim, pendingPlace, claimAt, claimPending, claimIrq, nothingClaimed, restoredAt, restored, Port, master-command, master-data, slave-command, slave-data, no-port, portAt, masterRead, slaveRead, leftBy, portLeft, isPort, writtenAt, portWritten, portRead, valueReply, refused}
 use Rattle.vpic_theorems.specs.Statements.{Call, claim-irq, claim-pending-interrupt, pulse-irq, next-interrupt, restore-interrupt, handle-read, handle-write, outcome}
-use Rattle.vpic_theorems.specs.Rule.{AsksIfCounts, CountsIfAsks, run, NewHasRule, NewKeeps, CallsKeep, CallsKeepNumber, RunsKeep, CallsSettle, ReadsUnchanged, LineTwoLatchesNothing, Clear, SlaveHeard, UnkeptNotRestored}
+use Rattle.vpic_theorems.specs.Rule.{AsksIfCounts, CountsIfAsks, run, NewHasRule, NewKeeps, CallsKeep, CallsKeepNumber, RunsKeep, CallsSettle, ReadsUnchanged, polledAt, LineTwoLatchesNothing, Clear, SlaveHeard, UnkeptNotRestored}
 use Rattle.vpic_theorems.proofs.Settled.{settled-cascade, driven-with}
 use Rattle.vpic.proofs.Settled.{settled-keeps, settled-kept}
 use Rattle.vpic_theorems.proofs.Kept.{calls-kept}
@@ -33,7 +33,7 @@ use Rattle.vpic_theorems.proofs.Kept.{calls-kept}
 -- ---- a chip's output
 
 count-low : (c : Chip) (k : ℕ) → counts c k ≡ true → k < 8
-count-low c k e = rank-low (lowestBy c) k (omega (arith, counted-above c k e, first-rank-le (lowestBy c) (bit (c .«in_service»))))
+count-low c k e = rank-low (lowestBy c) k (omega (arith, counted-above c k e, first-rank-le (lowestBy c) (blocksLine c k)))
 
 pub asks-if-counts : AsksIfCounts
 unfolding asks pendingLine
@@ -88,6 +88,38 @@ raise-keeps p l keeps = go (ltb (l .0) 16)
     go true = claim-keeps (latched p l)
     go false = keeps
 
+-- a poll settles the pair, and another read leaves it
+read-settles : (p : PicState) (a : Port) → polledAt p a ≡ true → Keeps (leftBy p a)
+read-settles p a e = go a e
+  where
+    of-master : isPolled (p .master) ≡ true → Keeps (masterRead p)
+    of-master q = rw q (settled-keeps (chips p (polled (p .master)) (p .slave)))
+
+    of-slave : isPolled (p .slave) ≡ true → Keeps (slaveRead p)
+    of-slave q = rw q (settled-keeps (chips p (p .master) (polled (p .slave))))
+
+    go : (a : Port) → polledAt p a ≡ true → Keeps (leftBy p a)
+    go master-command q = of-master q
+    go master-data q = of-master q
+    go slave-command q = of-slave q
+    go slave-data q = of-slave q
+    go no-port q = absurd (true≢false (sym q))
+
+read-leaves : (p : PicState) (a : Port) → polledAt p a ≡ false → leftBy p a ≡ p
+read-leaves p master-command e = ap (λ (b : Bool). cond b (settled (chips p (polled (p .master)) (p .slave))) p) e
+read-leaves p master-data e = ap (λ (b : Bool). cond b (settled (chips p (polled (p .master)) (p .slave))) p) e
+read-leaves p slave-command e = ap (λ (b : Bool). cond b (settled (chips p (p .master) (polled (p .slave)))) p) e
+read-leaves p slave-data e = ap (λ (b : Bool). cond b (settled (chips p (p .master) (polled (p .slave)))) p) e
+read-leaves p no-port e = refl
+
+read-keeps : (p : PicState) (port : ℕ) → Keeps p → Keeps (portLeft p port)
+unfolding portLeft
+read-keeps p port keeps = go (polledAt p (portAt port)) refl
+  where
+    go : (b : Bool) → polledAt p (portAt port) ≡ b → Keeps (leftBy p (portAt port))
+    go true e = read-settles p (portAt port) e
+    go false e = subst Keeps (sym (read-leaves p (portAt port) e)) keeps
+
 -- a test between an outcome whose pair keeps the rule, and a refusal
 or-kept : (P : PicState → Type 0) (p : PicState) (why : Refusal) (b : Bool) (o : Outcome PicState) → P (o .state) → P p → P (cond b o (refused p why) .state)
 or-kept P p why true o h k = h
@@ -101,7 +133,7 @@ calls-keep p (pulse-irq l) keeps = raise-keeps p l keeps
 calls-keep p next-interrupt keeps = claim-keeps p
 calls-keep p (restore-interrupt c) keeps =
     or-kept Keeps p OutOfRange (ltb (c .irq .0) 16) _ (settled-keeps (restoredAt p (placeOf (c .irq)) (c .«master_in_service») (c .«slave_in_service»))) keeps
-calls-keep p (handle-read port width) keeps = or-kept Keeps p Unsupported (eqb width 1) _ keeps keeps
+calls-keep p (handle-read port width) keeps = or-kept Keeps p Unsupported (eqb width 1) _ (read-keeps p port keeps) keeps
 calls-keep p (handle-write port width value) keeps =
     or-kept Keeps p Unsupported (eqb width 1) _ (or-kept Keeps p Unsupported (isPort port) _ (settled-keeps (writtenAt p port (value % 256))) keeps) keeps
 
@@ -116,14 +148,14 @@ or-settled p why true o r h n = h n
 or-settled p why false o r h n = absurd (r n)
 
 pub calls-settle : CallsSettle
-unfolding outcome restored portWritten
+unfolding outcome restored portWritten portLeft
 calls-settle p (claim-irq l) s n = raise-settles p l s
 calls-settle p claim-pending-interrupt s n = claim-keeps p
 calls-settle p (pulse-irq l) s n = raise-settles p l s
 calls-settle p next-interrupt s n = claim-keeps p
 calls-settle p (restore-interrupt c) s n =
     or-settled p OutOfRange (ltb (c .irq .0) 16) _ (λ z. omega arith) (λ d. settled-keeps (restoredAt p (placeOf (c .irq)) (c .«master_in_service») (c .«slave_in_service»))) n
-calls-settle p (handle-read port width) s n = absurd (true≢false (sym s))
+calls-settle p (handle-read port width) s n = or-settled p Unsupported (eqb width 1) _ (λ z. omega arith) (λ d. read-settles p (portAt port) s) n
 calls-settle p (handle-write port width value) s n =
     or-settled p Unsupported (eqb width 1) _ (λ z. omega arith) (or-settled p Unsupported (isPort port) _ (λ z. omega arith) (λ d. settled-keeps (writtenAt p port (value % 256)))) n
 
@@ -139,10 +171,11 @@ runs-keep rule l = go (newState rule) l (new-keeps rule)
     go p (c ∷ t) keeps = go (outcome p c .state) t (calls-keep p c keeps)
 
 pub reads-unchanged : ReadsUnchanged
-reads-unchanged p port width = go (eqb width 1)
+unfolding portLeft
+reads-unchanged p port width e = go (eqb width 1)
   where
-    go : (b : Bool) → cond b (record { state = p; reply = valueReply (portRead p port) }) (refused p Unsupported) .state ≡ p
-    go true = refl
+    go : (b : Bool) → cond b (record { state = leftBy p (portAt port); reply = valueReply (portRead p port) }) (refused p Unsupported) .state ≡ p
+    go true = read-leaves p (portAt port) e
     go false = refl
 
 pub line-two-latches-nothing : LineTwoLatchesNothing
@@ -160,24 +193,24 @@ line-two-next : (m : Chip) → Clear m → bit (m .request) 2 ≡ true → pendi
 unfolding pendingLine counts above
 line-two-next m clear e =
     by-is (lowestBy m) (counts m) 2 (omega arith)
-    (rw (e, clear .unmasked) (lt-ltb (rank (lowestBy m) 2) (firstRank (lowestBy m) (bit (m .«in_service»))) idle))
-    (λ j l. and-left-no (bit (m .request) j && not (bit (m .mask) j)) (isAboveAll m j (bit (m .«in_service»))) (unasked j (lt-ltb (rank (lowestBy m) j) (rank (lowestBy m) 2) l) (bit (m .request) j) refl))
+    (rw (e, clear .unmasked) (lt-ltb (rank (lowestBy m) 2) (firstRank (lowestBy m) (blocksLine m 2)) idle))
+    (λ j l. and-left-no (bit (m .request) j && not (bit (m .mask) j)) (isAboveAll m j (blocksLine m j)) (unasked j (lt-ltb (rank (lowestBy m) j) (rank (lowestBy m) 2) l) (bit (m .request) j) refl))
   where
     two : ℕ
     two = rank (lowestBy m) 2
 
-    served : (b : Bool) → ltb two (firstRank (lowestBy m) (bit (m .«in_service»))) ≡ b → two < firstRank (lowestBy m) (bit (m .«in_service»))
-    served true h = ltb-true two (firstRank (lowestBy m) (bit (m .«in_service»))) h
+    served : (b : Bool) → ltb two (firstRank (lowestBy m) (blocksLine m 2)) ≡ b → two < firstRank (lowestBy m) (blocksLine m 2)
+    served true h = ltb-true two (firstRank (lowestBy m) (blocksLine m 2)) h
     served false h =
-        let low : firstRank (lowestBy m) (bit (m .«in_service»)) ≤ two = ltb-false two (firstRank (lowestBy m) (bit (m .«in_service»))) h in
-        let k = firstOf m (bit (m .«in_service»)) in
-        let same : rank (lowestBy m) k ≡ firstRank (lowestBy m) (bit (m .«in_service»)) = by-rank (lowestBy m) (bit (m .«in_service»)) in
-        let in' : bit (m .«in_service») k ≡ true =
-        by-holds (lowestBy m) (bit (m .«in_service»)) (rank-low (lowestBy m) k (omega (arith, rank-lt (lowestBy m) 2 (omega arith)))) in
+        let low : firstRank (lowestBy m) (blocksLine m 2) ≤ two = ltb-false two (firstRank (lowestBy m) (blocksLine m 2)) h in
+        let k = firstOf m (blocksLine m 2) in
+        let same : rank (lowestBy m) k ≡ firstRank (lowestBy m) (blocksLine m 2) = by-rank (lowestBy m) (blocksLine m 2) in
+        let in' : blocksLine m 2 k ≡ true =
+        by-holds (lowestBy m) (blocksLine m 2) (rank-low (lowestBy m) k (omega (arith, rank-lt (lowestBy m) 2 (omega arith)))) in
         absurd (true≢false (sym in' ∙ clear .idle k (le-ltb two (rank (lowestBy m) k) (omega arith))))
 
-    idle : two < firstRank (lowestBy m) (bit (m .«in_service»))
-    idle = served (ltb two (firstRank (lowestBy m) (bit (m .«in_service»)))) refl
+    idle : two < firstRank (lowestBy m) (blocksLine m 2)
+    idle = served (ltb two (firstRank (lowestBy m) (blocksLine m 2))) refl
 
     unasked : (j : ℕ) → above (lowestBy m) j 2 ≡ true → (b : Bool) → bit (m .request) j ≡ b → (b && not (bit (m .mask) j)) ≡ false
     unasked j l true h = rw (clear .quiet j l h)

@@ -7,7 +7,7 @@ use lib.Dec.{ltb}
 use borrow.Author.Tests.{lt-ltb}
 use Rattle.utils.specs.Set.{bit, with, without, outside}
 use Rattle.utils.proofs.Bools.{both}
-use Rattle.utils.proofs.Laws.{with-without, without-with}
+use Rattle.utils.proofs.Laws.{with-without, without-with, with-member}
 use Rattle.types.specs.declared.PicLine.{PicLine}
 use Rattle.types.specs.declared.Reply.the-variants as reply
 use Rattle.types.specs.Counters.{lineVector}
@@ -15,14 +15,13 @@ use Rattle.vpic_priority.specs.Ring.{above, firstRank, firstBy}
 use Rattle.vpic_chip.specs.Registers.{Chip, withRequest, withInService, withLowest}
 use Rattle.vpic_chip.specs.declared.PendingIrq.the-variants.{Nothing}
 use Rattle.vpic_chip.specs.Chip.{Highest, cascadeIrq, pulsed, driven, counts, asks, pendingLine, pendingIrq, acknowledged, unacknowledged}
-use Rattle.vpic_chip.proofs.Laws.{counted-asked, counted-idle}
+use Rattle.vpic_chip.proofs.Laws.{counted-asked}
 use Rattle.vpic.specs.Words.{PicState}
 use Rattle.vpic.specs.declared.PicInterruptClaim.{PicInterruptClaim}
 use Rattle.vpic.specs.declared.PicClaim.the-variants.{Claimed}
 use Rattle.vpic.specs.Pair.{StateClaim, chips, grew, isCascade, settled, masterClaim, slaveClaim, claimPending, claimIrq, nothingClaimed, latched, restored, restoreInterrupt}
-use Rattle.vpic.proofs.Laws.{grew-taken}
 use Rattle.vpic_theorems.proofs.Settled.{settled-between}
-use Rattle.vpic_theorems.proofs.Restore.{place-low, place-high, the-claim, by-claim, below-16}
+use Rattle.vpic_theorems.proofs.Restore.{grew-sets, place-low, place-high, the-claim, by-claim, below-16}
 use Rattle.vpic_theorems.specs.Rotation.{withPriorities, RestoredButPriorities, RestoredAfterRaiseButPriorities, RequestTwoLost}
 
 -- ---- one chip: acknowledged, and taken back
@@ -31,19 +30,18 @@ chip-back : (c : Chip) (k : PicLine) → Highest c (k .0)
     → unacknowledged (acknowledged c (k .0)) k (grew c (acknowledged c (k .0))) ≡ withLowest c (acknowledged c (k .0) .«lowest_line»)
 unfolding unacknowledged acknowledged pulsed
 chip-back c k h =
-    ap (unacknowledged (acknowledged c (k .0)) k) (grew-taken c (k .0) (h .low) (counted-idle c (k .0) (h .counted)))
-    ∙ go (c .«auto_eoi») (cond (c .full && (c .«auto_eoi» && c .«auto_rotation»)) (k .0) (c .«lowest_line»))
+    ap (unacknowledged (acknowledged c (k .0)) k) (grew-sets c (k .0) (h .low))
+    ∙ go (c .«auto_eoi») (cond (c .full && (c .«auto_eoi» && c .«auto_rotation»)) (k .0) (c .«lowest_line»)) (bit (c .«in_service») (k .0)) refl
   where
     asked : bit (c .request) (k .0) ≡ true
     asked = counted-asked c (k .0) (h .counted)
 
-    idle : bit (c .«in_service») (k .0) ≡ false
-    idle = counted-idle c (k .0) (h .counted)
-
-    go : (b : Bool) (l : ℕ)
-        → unacknowledged (withLowest (withInService (withRequest c (without (c .request) (k .0))) (cond b (c .«in_service») (with (c .«in_service») (k .0)))) l) k (not b) ≡ withLowest c l
-    go true l = rw (lt-ltb (k .0) 8 (h .low), with-without (c .request) (k .0) asked)
-    go false l = rw (lt-ltb (k .0) 8 (h .low), with-without (c .request) (k .0) asked, without-with (c .«in_service») (k .0) idle)
+    go : (b : Bool) (l : ℕ) (d : Bool) → bit (c .«in_service») (k .0) ≡ d
+        → unacknowledged (withLowest (withInService (withRequest c (without (c .request) (k .0))) (cond b (c .«in_service») (with (c .«in_service») (k .0)))) l) k (not b && not d)
+        ≡ withLowest c l
+    go true l d e = rw (lt-ltb (k .0) 8 (h .low), with-without (c .request) (k .0) asked)
+    go false l true e = rw (lt-ltb (k .0) 8 (h .low), with-without (c .request) (k .0) asked, with-member (c .«in_service») (k .0) e)
+    go false l false e = rw (lt-ltb (k .0) 8 (h .low), with-without (c .request) (k .0) asked, without-with (c .«in_service») (k .0) e)
 
 -- ---- the pair: a claim of the master's line, and of the slave's
 

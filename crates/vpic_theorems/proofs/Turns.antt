@@ -6,27 +6,18 @@ use native.Mathlib.Omega.{arith}
 use lib.Dec.{ltb, eqb}
 use borrow.Author.Tests.{lt-ltb, ltb-true, ltb-false, eqb-true, eqb-false}
 use Rattle.utils.specs.Set.{bit, with, without}
-use Rattle.utils.proofs.Bools.{never, both}
+use Rattle.utils.proofs.Bools.{never, both, and-false, and-one}
 use Rattle.utils.proofs.Laws.{bit-none, bit-with-same, bit-with-other, without-with}
 use Rattle.types.specs.declared.PicLine.{PicLine}
 use Rattle.vpic_chip.specs.Registers.{Chip, withRequest, withInService}
 use Rattle.vpic_priority.specs.Ring.{rank, firstRank, firstBy}
 use Rattle.vpic_priority.proofs.Ring.{rank-lt, by-rank, by-holds, by-before, by-is, by-none}
-use Rattle.vpic_chip.proofs.Laws.{counted-asked, counted-above}
-use Rattle.vpic_chip.specs.Chip.{lowestBy, firstOf, isAboveAll, turned, specificEoi, nonSpecificEoi, counts, pendingLine, asks, acknowledged, pulsed, commanded, fed}
+use Rattle.vpic_chip.proofs.Laws.{first-top, counted-asked, counted-open}
+use Rattle.vpic_chip.specs.Chip.{lowestBy, firstOf, isAboveAll, isSpecial, blocks, turned, specificEoi, nonSpecificEoi, counts, pendingLine, asks, acknowledged, pulsed, commanded, fed}
 use Rattle.vpic_theorems.specs.Rotation.{turns}
 use Rattle.vpic_theorems.proofs.Ring.{rank-same, Above, Top}
 use Rattle.vpic_theorems.proofs.Rule.{asks-if-counts}
-
--- ---- the first line by ranks at which a test holds
-
--- a line at which it holds is none before the first
-first-top : (l : ℕ) (p : ℕ → Bool) (j : ℕ) → p j ≡ true → firstRank l p ≤ rank l j
-first-top l p j e = go (ltb (rank l j) (firstRank l p)) refl
-  where
-    go : (b : Bool) → ltb (rank l j) (firstRank l p) ≡ b → firstRank l p ≤ rank l j
-    go true d = never e (by-before l p j (ltb-true (rank l j) (firstRank l p) d))
-    go false d = ltb-false (rank l j) (firstRank l p) d
+use Rattle.vpic_theorems.proofs.Ordinary.{Ended, Plainly, idle-ended, idle-plainly, plainly-counts, plainly-above, ended-highest}
 
 -- ---- the line that is acknowledged
 
@@ -34,17 +25,17 @@ first-top l p j e = go (ltb (rank l j) (firstRank l p)) refl
 pub record Next (c : Chip) (k : ℕ) : Type 0 where
   pub low : k < 8
   pub asked : bit (c .request) k ≡ true
+  pub unmasked : bit (c .mask) k ≡ false
   pub above : Above (lowestBy c) (c .«in_service») k
   pub nearest : (n : ℕ) → n < 8 → bit (c .request) n ≡ true → bit (c .mask) n ≡ false → (k ≡ n → ⊥) → rank (lowestBy c) k < rank (lowestBy c) n
 
 -- a line counts where it is requested, unmasked and before all that are in service
-pub count-is : (c : Chip) (n : ℕ) → bit (c .request) n ≡ true → bit (c .mask) n ≡ false → isAboveAll c n (bit (c .«in_service»)) ≡ true → counts c n ≡ true
-unfolding counts
-count-is c n r m t = rw (r, m) t
+pub count-is : (c : Chip) (n : ℕ) → Plainly c → bit (c .request) n ≡ true → bit (c .mask) n ≡ false → isAboveAll c n (bit (c .«in_service»)) ≡ true → counts c n ≡ true
+count-is c n p r m t = plainly-counts c p n ∙ rw (r, m) t
 
-pub next : (c : Chip) → asks c ≡ true → Next c (pendingLine c)
+pub next : (c : Chip) → Plainly c → asks c ≡ true → Next c (pendingLine c)
 unfolding asks pendingLine
-next c e =
+next c p e =
     let l = lowestBy c in
     let k = firstOf c (counts c) in
     let h : k < 8 = ltb-true k 8 e in
@@ -52,8 +43,9 @@ next c e =
     record {
       low = h;
       asked = counted-asked c k s;
-      above = λ j q i. omega (arith, counted-above c k s, first-top l (bit (c .«in_service»)) j i);
-      nearest = λ n q r m d. near n q r m d h (counted-above c k s) (isAboveAll c n (bit (c .«in_service»))) refl;
+      unmasked = counted-open c k s;
+      above = λ j q i. omega (arith, plainly-above c p k s, first-top l (bit (c .«in_service»)) j i);
+      nearest = λ n q r m d. near n q r m d h (plainly-above c p k s) (isAboveAll c n (bit (c .«in_service»))) refl;
     }
   where
     near : (n : ℕ) → n < 8 → bit (c .request) n ≡ true → bit (c .mask) n ≡ false → (firstOf c (counts c) ≡ n → ⊥) → firstOf c (counts c) < 8
@@ -62,7 +54,7 @@ next c e =
     near n q r m d h s true t =
         let l = lowestBy c in
         let u : rank l (firstOf c (counts c)) ≡ rank l n → ⊥ = λ w. d (rank-same l (firstOf c (counts c)) n h q w) in
-        omega (arith, by-rank l (counts c), first-top l (counts c) n (count-is c n r m t), u)
+        omega (arith, by-rank l (counts c), first-top l (counts c) n (count-is c n p r m t), u)
     near n q r m d h s false t = omega (arith, ltb-false (rank (lowestBy c) n) (firstRank (lowestBy c) (bit (c .«in_service»))) t)
 
 -- with nothing in service, a line that is requested and unmasked makes the chip ask
@@ -76,7 +68,7 @@ pub asks-for : (c : Chip) (n : ℕ) → n < 8 → bit (c .request) n ≡ true �
 asks-for c n q r m i =
     let l = lowestBy c in
     let f : firstRank l (bit (c .«in_service»)) ≡ 8 = ap (λ (s : ℕ). firstRank l (bit s)) i ∙ none-first l in
-    asks-if-counts c n (count-is c n r m (lt-ltb (rank l n) (firstRank l (bit (c .«in_service»))) (omega (arith, rank-lt l n q))))
+    asks-if-counts c n (count-is c n (idle-plainly c i) r m (lt-ltb (rank l n) (firstRank l (bit (c .«in_service»))) (omega (arith, rank-lt l n q))))
 
 -- ---- the line that a plain EOI ends
 
@@ -188,10 +180,15 @@ eoi-is c = refl
 ended-at : Chip → ℕ → Chip
 ended-at c b = cond (ltb b 8) (turned (specificEoi c b) true b) c
 
+-- where every line in service can end by it
+pub eoi-highest : (c : Chip) → Ended c → rotatingEoi c ≡ cond (ltb (highestInService c) 8) (turned (specificEoi c (highestInService c)) true (highestInService c)) c
+unfolding ended-at
+eoi-highest c h = ap (ended-at c) (ended-highest c h)
+
 -- nothing is in service
 pub eoi-none : (c : Chip) → c .«in_service» ≡ 0 → rotatingEoi c ≡ c
 unfolding ended-at
-eoi-none c i = ap (ended-at c) (ap (λ (s : ℕ). firstBy (lowestBy c) (bit s)) i ∙ none-by (lowestBy c))
+eoi-none c i = ap (ended-at c) (ended-highest c (idle-ended c i) ∙ ap (λ (s : ℕ). firstBy (lowestBy c) (bit s)) i ∙ none-by (lowestBy c))
 
 -- one line is: it ends, and becomes the lowest
 one-by : (l k : ℕ) → k < 8 → firstBy l (bit (with 0 k)) ≡ k
@@ -199,9 +196,9 @@ one-by l k h =
     by-is l (bit (with 0 k)) k h (bit-with-same 0 k)
     (λ j q. bit-with-other 0 k j (λ e. let z : rank l j ≡ rank l k = ap (rank l) e in absurd (omega arith)) ∙ bit-none j)
 
-pub eoi-one : (c : Chip) (k : ℕ) → c .full ≡ true → k < 8 → c .«in_service» ≡ with 0 k → Becomes c (rotatingEoi c) (c .request) 0 k
+pub eoi-one : (c : Chip) (k : ℕ) → c .full ≡ true → k < 8 → bit (c .mask) k ≡ false → c .«in_service» ≡ with 0 k → Becomes c (rotatingEoi c) (c .request) 0 k
 unfolding ended-at
-eoi-one c k f h i = rw here (record {
+eoi-one c k f h u i = rw here (record {
   full = refl;
   mask = refl;
   «auto_eoi» = refl;
@@ -211,8 +208,20 @@ eoi-one c k f h i = rw here (record {
   lowest = ap (λ (b : Bool). cond b (cond (b && true) k (c .«lowest_line»)) 7) f;
 })
   where
-    here : ended-at c (highestInService c) ≡ turned (specificEoi c k) true k
-    here = ap (ended-at c) (ap (λ (s : ℕ). firstBy (lowestBy c) (bit s)) i ∙ one-by (lowestBy c) k h) ∙ rw (lt-ltb k 8 h)
+    -- it is unmasked, so that it can end in special mask mode too
+    can-end : Ended c
+    can-end j = go (eqb j k) refl
+      where
+        go : (b : Bool) → eqb j k ≡ b → blocks c j ≡ bit (c .«in_service») j
+        go true e =
+            ap (λ (b : Bool). bit (c .«in_service») j && not (isSpecial c && b)) (ap (bit (c .mask)) (eqb-true j k e) ∙ u)
+            ∙ ap (λ (b : Bool). bit (c .«in_service») j && not b) (and-false (isSpecial c)) ∙ and-one (bit (c .«in_service») j)
+        go false e =
+            let z : bit (c .«in_service») j ≡ false = ap (λ (s : ℕ). bit s j) i ∙ bit-with-other 0 k j (eqb-false j k e) ∙ bit-none j in
+            ap (λ (b : Bool). b && not (isSpecial c && bit (c .mask) j)) z ∙ sym z
+
+    here : ended-at c (firstOf c (blocks c)) ≡ turned (specificEoi c k) true k
+    here = ap (ended-at c) (ended-highest c can-end ∙ ap (λ (s : ℕ). firstBy (lowestBy c) (bit s)) i ∙ one-by (lowestBy c) k h) ∙ rw (lt-ltb k 8 h)
 
 -- ---- a round: line k is acknowledged, and the plain EOI with rotation follows
 
@@ -246,6 +255,6 @@ pub taken-still : (c e : Chip) (k : ℕ) → e .«in_service» ≡ c .«in_servi
 taken-still c e k i l (serving h) = serving (i ∙ h)
 taken-still c e k i l (rotated h j) = rotated (i ∙ h) (l ∙ j)
 
-pub eoi-taken : (e : Chip) (k : ℕ) → e .full ≡ true → k < 8 → Taken e k → Becomes e (commanded e 0xa0) (e .request) 0 k
-eoi-taken e k f h (serving i) = rw (eoi-is e) (eoi-one e k f h i)
-eoi-taken e k f h (rotated i l) = rw (eoi-is e, eoi-none e i) (record { full = refl; mask = refl; «auto_eoi» = refl; «auto_rotation» = refl; request = refl; «in_service» = i; lowest = l })
+pub eoi-taken : (e : Chip) (k : ℕ) → e .full ≡ true → k < 8 → bit (e .mask) k ≡ false → Taken e k → Becomes e (commanded e 0xa0) (e .request) 0 k
+eoi-taken e k f h u (serving i) = rw (eoi-is e) (eoi-one e k f h u i)
+eoi-taken e k f h u (rotated i l) = rw (eoi-is e, eoi-none e i) (record { full = refl; mask = refl; «auto_eoi» = refl; «auto_rotation» = refl; request = refl; «in_service» = i; lowest = l })

@@ -1,3 +1,4 @@
 pub mod Statements
 pub mod Rule
 pub mod Rotation
+pub mod Modes

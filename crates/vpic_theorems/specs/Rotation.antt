@@ -1,7 +1,7 @@
 -- Theorems about rotating priority (8259A, OCW2: automatic rotation, for devices of equal priority; specific rotation) and the full profile, rule 2: each line that asks is
--- served in its turn, on one chip and on the pair; the cascade rule is kept; what a restored claim leaves; that rule 2 answers as rule 1 where line 7 is lowest; and where the
--- profile does other than the data sheet.
-use Prim.Native.Nat.{ℕ, zero, suc, _+_, _*_, _<_, _≤_}
+-- served in its turn, on one chip and on the pair; the cascade rule is kept; what a restored claim leaves; that rule 2 answers as rule 1 where line 7 is lowest and no mode is on; and
+-- where the profile does other than the data sheet.
+use Prim.Native.Nat.{ℕ, zero, suc, _+_, _*_, _%_, _<_, _≤_}
 use mathlib.Core.Path.{_≡_}
 use mathlib.Core.Bool.{Bool, true, false, not, cond, _&&_, _||_}
 use mathlib.Core.List.{List, [], _∷_, _++_}
@@ -13,14 +13,14 @@ use Rattle.types.specs.declared.Reply.the-variants as reply
 use Rattle.types.specs.Reply.{Outcome, flag, replyValues}
 use Rattle.types.specs.Departure.{Departure, Shown}
 use Rattle.vpic_priority.specs.Ring.{rank}
-use Rattle.vpic_chip.specs.Registers.{Chip, registers, withRequest, withStep, withReadIsr, withLowest, asFull}
-use Rattle.vpic_chip.specs.Chip.{cascadeIrq, lowestBy, opened, commanded, fed, commandRead, pulsed, pendingLine, asks, pendingIrq, pendingReply, acknowledged, acknowledge as chipAcknowledge, unacknowledged}
-use Rattle.vpic.specs.declared.PicRule.the-variants.{Full}
+use Rattle.vpic_chip.specs.Registers.{Chip, registers, plainRegisters, withRequest, withStep, withReadIsr, withLowest, withNested, asFull, placed}
+use Rattle.vpic_chip.specs.Chip.{cascadeIrq, lowestBy, isSpecial, isNested, isPolled, opened, commanded, fed, commandRead, pulsed, pendingLine, asks, pendingIrq, pendingReply, acknowledged, acknowledge as chipAcknowledge, unacknowledged}
+use Rattle.vpic.specs.declared.PicRule.the-variants.{Cascade, Full}
 use Rattle.vpic.specs.declared.PicInterruptClaim.{PicInterruptClaim}
 use Rattle.vpic.specs.declared.PicClaim.{PicClaim}
 use Rattle.vpic.specs.declared.PicClaim.the-variants.{Claimed, Nothing as NoClaim}
 use Rattle.vpic.specs.Words.{PicState}
-use Rattle.vpic.specs.Pair.{chips, isCascade, Keeps, newState, settled, latched, claimIrq, claimPending, portWritten, restoreInterrupt, claimReply}
+use Rattle.vpic.specs.Pair.{Port, master-command, master-data, slave-command, slave-data, no-port, portAt, handleRead, chips, isCascade, Keeps, newState, settled, latched, claimIrq, claimPending, portWritten, restoreInterrupt, claimReply}
 use Rattle.vpic.specs.Departures.{at, line, pair, open', writes, claimedVector, seventh}
 use Rattle.vpic_theorems.specs.Statements.{Call, claim-irq, claim-pending-interrupt, pulse-irq, next-interrupt, restore-interrupt, handle-read, handle-write, outcome}
 use Rattle.vpic_theorems.specs.Rule.{run}
@@ -69,8 +69,12 @@ keepsTurns v = not (bit v 4) && (bit v 3 || cond (bit v 5) (not (bit v 6) && bit
 abbrev pub turns : Chip → Bool
 turns c = not (c .«auto_eoi») || c .«auto_rotation»
 
+-- neither special mask mode nor special fully nested mode is on
+abbrev pub isOrdinary : Chip → Bool
+isOrdinary c = not (isSpecial c) && not (isNested c)
+
 -- what is asked of each event as long as line n waits: at an acknowledgement the line is unmasked, and the chip turns; nothing is taken back. Edges on any lines, and any writes
--- to the data port
+-- to the data port; but no mode is on
 abbrev pub lets : ℕ → Chip → Event → Bool
 lets n c (raise l) = true
 lets n c acknowledge = not (bit (c .mask) n) && turns c
@@ -81,7 +85,7 @@ lets n c (data-write v) = true
 -- until n is served
 abbrev pub fairly : ℕ → Chip → List Event → Bool
 fairly n c [] = true
-fairly n c (e ∷ l) = lets n c e && (within n 1 (linesOf c e) || fairly n (after c e) l)
+fairly n c (e ∷ l) = isOrdinary c && (lets n c e && (within n 1 (linesOf c e) || fairly n (after c e) l))
 
 -- line n of a chip of the full profile has asked, and nothing is in service
 pub record Waits (c : Chip) (n : ℕ) : Type 0 where
@@ -100,7 +104,7 @@ Fair =
 abbrev pub FairInEight : Type 0
 FairInEight = (c : Chip) (n : ℕ) (l : List Event) → Waits c n → fairly n c l ≡ true → 8 ≤ length (lines c l) → within n 8 (lines c l) ≡ true
 
--- and it does come to acknowledgements. A guest's round: an acknowledgement, edges on any lines, the plain EOI with rotation (0xa0)
+-- and it does come to acknowledgements, in every mode. A guest's round: an acknowledgement, edges on any lines, the plain EOI with rotation (0xa0)
 abbrev pub raises : List PicLine → List Event → List Event
 raises [] l = l
 raises (p ∷ ps) l = raise p ∷ raises ps l
@@ -116,9 +120,14 @@ FairRounds =
 
 -- ---- eight is met, and each premise is needed
 
--- a chip of the full profile at base 0 with these requests, mask, and lines in service, initialized, line 7 lowest; in automatic EOI mode or not
+-- a chip of the full profile by its registers, with no mode on: base, mask, requests, lines in service, step of initialization, ICW4 announced, automatic EOI mode, lowest line,
+-- rotation in automatic EOI mode
+abbrev pub fullChip : ℕ → ℕ → ℕ → ℕ → ℕ → Bool → Bool → ℕ → Bool → Chip
+fullChip base imr irr isr step icw4 aeoi low rot = registers base imr irr isr step icw4 false aeoi false true false low rot false false false 0
+
+-- at base 0 with these requests, mask, and lines in service, initialized, line 7 lowest; in automatic EOI mode or not
 abbrev pub fullAt : ℕ → ℕ → ℕ → Bool → Chip
-fullAt irr imr isr aeoi = registers 0 imr irr isr 0 false false aeoi false true 7 false 0
+fullAt irr imr isr aeoi = fullChip 0 imr irr isr 0 false aeoi 7 false
 
 abbrev pub edge : ℕ → Event
 edge k = raise (line k)
@@ -153,6 +162,11 @@ pub record Needed : Type 0 where
   pub plain : starves (at 3 0 0) (command 0xa0 ∷ [])
   -- ICW1, after which line 1 asks again
   pub initialized : starves (fullAt 3 0 0 false) (command 0x12 ∷ edge 1 ∷ [])
+  -- special mask mode: line 0 is masked while line 1 is served and ended, and its own EOI turns the priorities back to it; line 2, of rank 2, would be the third at the latest
+  pub special :
+      lines (fullAt 7 0 0 false) (acknowledge ∷ command 0x68 ∷ data-write 1 ∷ acknowledge ∷ command 0xa0 ∷ data-write 0 ∷ command 0xa0 ∷ edge 1 ∷ acknowledge ∷ []) ≡ 0 ∷ 1 ∷ 1 ∷ []
+  -- special fully nested mode: the master's line 2 comes again and again; line 3, of rank 3, would be the fourth at the latest
+  pub nested : lines (withNested (placed true (fullAt 12 0 0 false)) true) (often 4 (acknowledge ∷ edge 2 ∷ [])) ≡ often 4 (2 ∷ [])
   -- line 7 was in service at the start: its EOI makes it lowest, and line 1 isn't the second; with an EOI to each acknowledgement alone, no line is the third
   pub idle : lines (fullAt 3 0 0x80 false) (acknowledge ∷ command 0xa0 ∷ command 0xa0 ∷ edge 0 ∷ acknowledge ∷ []) ≡ 0 ∷ 0 ∷ []
   pub stuck : lines (fullAt 3 0 0x80 false) (often 2 (acknowledge ∷ command 0xa0 ∷ edge 0 ∷ edge 1 ∷ []) ++ often 8 (acknowledge ∷ [])) ≡ 0 ∷ 1 ∷ []
@@ -248,7 +262,7 @@ SixtyFour =
 
 -- which is met: every line has asked and is raised again by the claim after its own, the master's line 2 and the slave's line 7 are lowest
 abbrev pub allAsk : PicState
-allAsk = record { rule = 2; master = registers 0 0 255 0 0 false false false false true 2 false 0; slave = fullAt 255 0 0 false; spare = 0 }
+allAsk = record { rule = 2; master = fullChip 0 0 255 0 0 false false 2 false; slave = fullAt 255 0 0 false; spare = 0 }
 
 abbrev pub on : ℕ → Round
 on k = edge-on (line k)
@@ -338,7 +352,7 @@ RestoredAfterRaiseButPriorities =
 
 -- and that request may go: the slave, in automatic EOI mode with rotation, has line 1 in service, and line 0 is claimed and restored: now line 0 is lowest, below line 1
 abbrev pub slaveTurns : Chip
-slaveTurns = registers 0 0 1 2 0 false false true false true 7 true 0
+slaveTurns = fullChip 0 0 1 2 0 false true 7 true
 
 abbrev pub turning : PicState
 turning = record { rule = 2; master = fullAt 4 0 0 false; slave = slaveTurns; spare = 0 }
@@ -354,10 +368,10 @@ pub record RequestTwoLost : Type 0 where
 
 -- ---- where line 7 is lowest, rule 2 answers as rule 1
 
--- the chip without rotation's words, and the pair by rule 1
+-- the chip without the full profile's words, and the pair by rule 1
 abbrev pub plainChip : Chip → Chip
 plainChip c =
-    registers (c .«vector_base») (c .mask) (c .request) (c .«in_service») (c .«init_step») (c .«needs_icw4») (c .single) (c .«auto_eoi») (c .«read_isr») false 7 false (c .spare)
+    plainRegisters (c .«vector_base») (c .mask) (c .request) (c .«in_service») (c .«init_step») (c .«needs_icw4») (c .single) (c .«auto_eoi») (c .«read_isr») (c .spare)
 
 abbrev pub byRuleOne : PicState → PicState
 byRuleOne p = record { rule = 1; master = plainChip (p .master); slave = plainChip (p .slave); spare = p .spare }
@@ -366,16 +380,48 @@ byRuleOne p = record { rule = 1; master = plainChip (p .master); slave = plainCh
 abbrev pub butTwo : PicState → PicState
 butTwo p = chips p (withRequest (p .master) (without (p .master .request) (cascadeIrq .0))) (p .slave)
 
--- what a call answers and leaves by rule 2, x, and by rule 1, y: the same answer; and the same pair but for rotation's words and the master's request 2, and that too where line 7
--- is the slave's lowest still
+-- what a call answers and leaves by rule 2, x, and by rule 1, y: the same answer; and the same pair but for the full profile's words and the master's request 2, and that too where line 7
+-- is the slave's lowest still and no mode is on there
 pub record Alike (x y : Outcome PicState) : Type 0 where
   pub reply : x .reply ≡ y .reply
   pub state : butTwo (byRuleOne (x .state)) ≡ butTwo (y .state)
-  pub exact : lowestBy (x .state .slave) ≡ 7 → byRuleOne (x .state) ≡ y .state
+  pub exact : lowestBy (x .state .slave) ≡ 7 → isOrdinary (x .state .slave) ≡ true → byRuleOne (x .state) ≡ y .state
+
+-- before the call line 7 is lowest on both chips, no mode of T-06 is on, and no poll waits
+pub record Ordinary (p : PicState) : Type 0 where
+  pub rule : p .rule ≡ 2
+  pub master : lowestBy (p .master) ≡ 7
+  pub slave : lowestBy (p .slave) ≡ 7
+  pub «master-mode» : isOrdinary (p .master) ≡ true
+  pub «slave-mode» : isOrdinary (p .slave) ≡ true
+  pub «master-poll» : isPolled (p .master) ≡ false
+  pub «slave-poll» : isPolled (p .slave) ≡ false
+
+-- the bytes that profile 2 takes otherwise: ICW1, which clears the mask, and OCW3, which chooses modes and polls; and ICW4 with bit 4
+abbrev pub choosesMode : ℕ → Bool
+choosesMode v = bit v 4 || bit v 3
+
+abbrev pub setsNested : Chip → ℕ → Bool
+setsNested c v = eqb (c .«init_step») 3 && bit v 4
+
+abbrev pub writesMode : PicState → Port → ℕ → Bool
+writesMode p master-command byte = choosesMode byte
+writesMode p master-data byte = setsNested (p .master) byte
+writesMode p slave-command byte = choosesMode byte
+writesMode p slave-data byte = setsNested (p .slave) byte
+writesMode p no-port byte = false
+
+abbrev pub isModeCall : PicState → Call → Bool
+isModeCall p (claim-irq l) = false
+isModeCall p claim-pending-interrupt = false
+isModeCall p (pulse-irq l) = false
+isModeCall p next-interrupt = false
+isModeCall p (restore-interrupt c) = false
+isModeCall p (handle-read port width) = false
+isModeCall p (handle-write port width value) = writesMode p (portAt port) (value % 256)
 
 abbrev pub AsCascade : Type 0
-AsCascade =
-    (p : PicState) (c : Call) → p .rule ≡ 2 → lowestBy (p .master) ≡ 7 → lowestBy (p .slave) ≡ 7 → Alike (outcome p c) (outcome (byRuleOne p) c)
+AsCascade = (p : PicState) (c : Call) → Ordinary p → isModeCall p c ≡ false → Alike (outcome p c) (outcome (byRuleOne p) c)
 
 -- and that request too after every call but a write to the slave's command port: no other call turns the slave's priorities so that another set of its requests counts
 abbrev pub commandsSlave : Call → Bool
@@ -389,8 +435,23 @@ commandsSlave (handle-write port width value) = eqb port 0xa0
 
 abbrev pub AsCascadeExactly : Type 0
 AsCascadeExactly =
-    (p : PicState) (c : Call) → p .rule ≡ 2 → lowestBy (p .master) ≡ 7 → lowestBy (p .slave) ≡ 7 → commandsSlave c ≡ false
-    → byRuleOne (outcome p c .state) ≡ outcome (byRuleOne p) c .state
+    (p : PicState) (c : Call) → Ordinary p → isModeCall p c ≡ false → commandsSlave c ≡ false → byRuleOne (outcome p c .state) ≡ outcome (byRuleOne p) c .state
+
+-- without each of the three bytes it is false. ICW1: the mask is shown, 0 and 255. OCW3: the register that is shown, the requests and what is in service. ICW4 with bit 4: line 2 is in
+-- service, and the slave's line 1 is claimed through it, or not
+abbrev pub shownAt : PicState → ℕ → List ℕ
+shownAt p port = replyValues (handleRead p port 1 .reply)
+
+abbrev pub beforeIcw4 : PicState
+beforeIcw4 = pair 2 (placed true (fullChip 0 0 4 4 3 true false 7 false)) (fullAt 2 0 0 false)
+
+pub record ModesNeeded : Type 0 where
+  pub «icw1-full» : shownAt (portWritten (newState Full) 0x20 0x10) 0x21 ≡ 0 ∷ []
+  pub «icw1-cascade» : shownAt (portWritten (newState Cascade) 0x20 0x10) 0x21 ≡ 255 ∷ []
+  pub «ocw3-full» : shownAt (portWritten (pair 2 (fullAt 2 0 1 false) (fullAt 0 0 0 false)) 0x20 0x0a) 0x20 ≡ 2 ∷ []
+  pub «ocw3-cascade» : shownAt (portWritten (byRuleOne (pair 2 (fullAt 2 0 1 false) (fullAt 0 0 0 false))) 0x20 0x0a) 0x20 ≡ 1 ∷ []
+  pub «icw4-full» : replyValues (claimReply (claimPending (portWritten beforeIcw4 0x21 0x11) .claim)) ≡ 1 ∷ 9 ∷ 2 ∷ []
+  pub «icw4-cascade» : replyValues (claimReply (claimPending (portWritten (byRuleOne beforeIcw4) 0x21 0x11) .claim)) ≡ []
 
 -- such a write may: the slave's line 1 is in service and its line 0 waits; set priority makes line 0 lowest, and by rule 2 it no longer asks
 abbrev pub slaveAsks : PicState
@@ -403,21 +464,15 @@ RequestTwoTurned = (portWritten slaveAsks 0xa0 0xc0 .master .request ≡ 0) × (
 
 -- a full chip by its registers, with nothing requested or in service: base, step of initialization, ICW4 announced, automatic EOI mode, rotation in it
 abbrev pub fullWith : ℕ → ℕ → Bool → Bool → Bool → Chip
-fullWith base step icw4 aeoi rot = registers base 0 0 0 step icw4 false aeoi false true 7 rot 0
+fullWith base step icw4 aeoi rot = fullChip base 0 0 0 step icw4 aeoi 7 rot
 
--- as in docs/DIFFERENCES.md, each at its smallest case by rule 2. D-01, D-05, D-06, D-07 and D-10 are request T-06's; D-08 and D-13 are gone
+-- as in docs/DIFFERENCES.md, each at its smallest case by rule 2. D-01, D-05, D-06, D-07, D-08, D-10 and D-13 are gone
 unfoldable pub fullDepartures : List Departure
 fullDepartures =
-    record { number = 1; computed = commanded (asFull (opened 0)) 0x11 .mask ∷ []; ours = 255 ∷ []; text = 0 ∷ [] }
-    ∷ record { number = 2; computed = commanded (fullAt 0 0 1 false) 0x11 .«in_service» ∷ []; ours = 0 ∷ []; text = 1 ∷ [] }
+    record { number = 2; computed = commanded (fullAt 0 0 1 false) 0x11 .«in_service» ∷ []; ours = 0 ∷ []; text = 1 ∷ [] }
     ∷ record { number = 3; computed = flag (commanded (fullWith 0 0 true true false) 0x11 .«auto_eoi») ∷ []; ours = 0 ∷ []; text = 1 ∷ [] }
     ∷ record { number = 4; computed = acknowledged (pulsed (fed (commanded (asFull (opened 0)) 0x1a) 0) (line 0)) 0 .request ∷ []; ours = 0 ∷ []; text = 1 ∷ [] }
-    ∷ record { number = 5; computed = commandRead (commanded (fullAt 2 0 1 false) 0x0a) ∷ []; ours = 1 ∷ []; text = 2 ∷ [] }
-    ∷ record { number = 5; computed = commandRead (commanded (withReadIsr (fullAt 2 0 1 false) true) 0x08) ∷ []; ours = 2 ∷ []; text = 1 ∷ [] }
-    ∷ record { number = 6; computed = pendingLine (commanded (fullAt 2 1 1 false) 0x68) ∷ []; ours = 8 ∷ []; text = 1 ∷ [] }
-    ∷ record { number = 7; computed = commandRead (commanded (fullAt 1 0 0 false) 0x0c) ∷ []; ours = 1 ∷ []; text = 0x80 ∷ [] }
     ∷ record { number = 9; computed = claimedVector (writes (writes (open' Full) 0x20 (0x11 ∷ [])) 0x21 (0x08 ∷ 0 ∷ 1 ∷ [])) 8; ours = 0x70 ∷ []; text = 0x0a ∷ [] }
-    ∷ record { number = 10; computed = pendingLine (fed (withStep (fullAt 4 0 4 false) 3) 0x11) ∷ []; ours = 8 ∷ []; text = 2 ∷ [] }
     ∷ record {
       number = 11;
       computed = replyValues (chipAcknowledge (pulsed (fed (fullWith 0x20 3 true false false) 0) (line 0)) (line 0) .reply);
@@ -434,21 +489,29 @@ fullDepartures =
     ∷ record { number = 19; computed = claimedVector (pair 2 (fullWith 0x08 1 true false false) (fullAt 0 0 0 false)) 0; ours = 0x08 ∷ []; text = [] }
     -- rotation in automatic EOI mode isn't among what ICW1 resets
     ∷ record { number = 20; computed = flag (commanded (fullWith 0 0 true false true) 0x11 .«auto_rotation») ∷ []; ours = 0 ∷ []; text = 1 ∷ [] }
+    -- special fully nested mode, and an ICW1 that announces ICW4
+    ∷ record { number = 21; computed = flag (commanded (withNested (fullWith 0 0 true false false) true) 0x11 .nested) ∷ []; ours = 0 ∷ []; text = 1 ∷ [] }
     ∷ []
 
 abbrev pub FullDeparts : Type 0
 FullDeparts = Shown fullDepartures
 
--- D-08's cases and D-13's: by rule 2 they give what the text gives
+-- the other departures' cases: by rule 2 they give what the text gives
 abbrev pub Cured : List Departure → Type 0
 Cured [] = Unit
 Cured (d ∷ ds) = (d .computed ≡ d .text) × Cured ds
 
 unfoldable pub fullCured : List Departure
 fullCured =
-    record { number = 8; computed = pendingLine (commanded (fullAt 3 0 1 false) 0xa0) ∷ []; ours = 0 ∷ []; text = 1 ∷ [] }
+    record { number = 1; computed = commanded (asFull (opened 0)) 0x11 .mask ∷ []; ours = 255 ∷ []; text = 0 ∷ [] }
+    ∷ record { number = 5; computed = commandRead (commanded (fullAt 2 0 1 false) 0x0a) ∷ []; ours = 1 ∷ []; text = 2 ∷ [] }
+    ∷ record { number = 5; computed = commandRead (commanded (withReadIsr (fullAt 2 0 1 false) true) 0x08) ∷ []; ours = 2 ∷ []; text = 1 ∷ [] }
+    ∷ record { number = 6; computed = pendingLine (commanded (fullAt 2 1 1 false) 0x68) ∷ []; ours = 8 ∷ []; text = 1 ∷ [] }
+    ∷ record { number = 7; computed = shownAt (portWritten (pair 2 (fullAt 1 0 0 false) (fullAt 0 0 0 false)) 0x20 0x0c) 0x20; ours = 1 ∷ []; text = 0x80 ∷ [] }
+    ∷ record { number = 8; computed = pendingLine (commanded (fullAt 3 0 1 false) 0xa0) ∷ []; ours = 0 ∷ []; text = 1 ∷ [] }
     ∷ record { number = 8; computed = pendingLine (commanded (fullAt 3 0 0 false) 0xc0) ∷ []; ours = 0 ∷ []; text = 1 ∷ [] }
     ∷ record { number = 8; computed = pendingLine (pulsed (acknowledged (commanded (fullAt 3 0 0 true) 0x80) 0) (line 0)) ∷ []; ours = 0 ∷ []; text = 1 ∷ [] }
+    ∷ record { number = 10; computed = pendingLine (fed (placed true (withStep (fullAt 4 0 4 false) 3)) 0x11) ∷ []; ours = 8 ∷ []; text = 2 ∷ [] }
     ∷ record { number = 13; computed = replyValues (claimReply (claimPending (seventh Full) .claim)); ours = []; text = 0x76 ∷ 14 ∷ 3 ∷ [] }
     ∷ []
 

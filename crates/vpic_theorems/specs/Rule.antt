@@ -14,8 +14,8 @@ use Rattle.vpic.specs.declared.PicRule.{PicRule}
 use Rattle.vpic.specs.declared.PicRule.the-variants.{Cascade}
 use Rattle.vpic.specs.declared.PicInterruptClaim.{PicInterruptClaim}
 use Rattle.vpic.specs.declared.PicClaim.the-variants.{Claimed}
-use Rattle.vpic_chip.specs.Chip.{isAbove, asks, counts, pendingLine, Highest, cascadeIrq}
-use Rattle.vpic.specs.Pair.{ruleIn, newState, isCascade, Keeps, slaveClaim, claimPending, latched, restored, portWritten, restoreInterrupt, handleRead}
+use Rattle.vpic_chip.specs.Chip.{isAbove, blocksLine, isPolled, asks, counts, pendingLine, Highest, cascadeIrq}
+use Rattle.vpic.specs.Pair.{Port, master-command, master-data, slave-command, slave-data, no-port, portAt, ruleIn, newState, isCascade, Keeps, slaveClaim, claimPending, latched, restored, portWritten, restoreInterrupt, handleRead}
 use Rattle.vpic.specs.Departures.{at, line}
 use Rattle.vpic_theorems.specs.Statements.{Call, claim-irq, claim-pending-interrupt, pulse-irq, next-interrupt, restore-interrupt, handle-read, handle-write, outcome}
 
@@ -54,18 +54,30 @@ CallsKeepNumber = (p : PicState) (c : Call) → outcome p c .state .rule ≡ p .
 abbrev pub RunsKeep : Type 0
 RunsKeep = (rule : PicRule) (l : List Call) → Keeps (run (newState rule) l)
 
--- the calls that leave it kept whatever the pair was before, where they aren't refused: all but a read, and a claim of a line that the pair hasn't, which change nothing
-abbrev pub settles : Call → Bool
-settles (claim-irq l) = ltb (l .0) 16
-settles claim-pending-interrupt = true
-settles (pulse-irq l) = ltb (l .0) 16
-settles next-interrupt = true
-settles (restore-interrupt c) = true
-settles (handle-read port width) = false
-settles (handle-write port width value) = true
+-- whether a poll waits on the chip of a port
+abbrev pub polledAt : PicState → Port → Bool
+polledAt p master-command = isPolled (p .master)
+polledAt p master-data = isPolled (p .master)
+polledAt p slave-command = isPolled (p .slave)
+polledAt p slave-data = isPolled (p .slave)
+polledAt p no-port = false
+
+abbrev pub pollWaits : PicState → ℕ → Bool
+pollWaits p port = polledAt p (portAt port)
+
+-- the calls that leave it kept whatever the pair was before, where they aren't refused: all but a read without a poll, and a claim of a line that the pair hasn't, which change
+-- nothing
+abbrev pub settles : PicState → Call → Bool
+settles p (claim-irq l) = ltb (l .0) 16
+settles p claim-pending-interrupt = true
+settles p (pulse-irq l) = ltb (l .0) 16
+settles p next-interrupt = true
+settles p (restore-interrupt c) = true
+settles p (handle-read port width) = pollWaits p port
+settles p (handle-write port width value) = true
 
 abbrev pub CallsSettle : Type 0
-CallsSettle = (p : PicState) (c : Call) → settles c ≡ true → replyNumber (outcome p c .reply) ≡ 0 → Keeps (outcome p c .state)
+CallsSettle = (p : PicState) (c : Call) → settles p c ≡ true → replyNumber (outcome p c .reply) ≡ 0 → Keeps (outcome p c .state)
 
 -- so a pair keeps it with a line latched before anything is claimed, with any byte written to any port, and with any claim restored
 abbrev pub LatchedKeeps : Type 0
@@ -77,9 +89,9 @@ WrittenKeeps = (p : PicState) (port byte : ℕ) → Keeps (portWritten p port by
 abbrev pub RestoredKeeps : Type 0
 RestoredKeeps = (p : PicState) (c : PicInterruptClaim) → Keeps (restored p c)
 
--- a read changes nothing
+-- a read changes nothing unless a poll waits on its chip
 abbrev pub ReadsUnchanged : Type 0
-ReadsUnchanged = (p : PicState) (port width : ℕ) → handleRead p port width .state ≡ p
+ReadsUnchanged = (p : PicState) (port width : ℕ) → pollWaits p port ≡ false → handleRead p port width .state ≡ p
 
 -- line 2 raised by hand latches nothing
 abbrev pub LineTwoLatchesNothing : Type 0
@@ -87,10 +99,10 @@ LineTwoLatchesNothing = (p : PicState) → isCascade p ≡ true → Keeps p → 
 
 -- ---- no slave request that counts goes unheard
 
--- nothing on the master stands before its line 2: it is unmasked, it is above every line in service, and no unmasked request of a line above it waits
+-- nothing on the master stands before its line 2: it is unmasked, it is above every line that is in its way, and no unmasked request of a line above it waits
 pub record Clear (m : Chip) : Type 0 where
   pub unmasked : bit (m .mask) (cascadeIrq .0) ≡ false
-  pub idle : (k : ℕ) → isAbove m (cascadeIrq .0) k ≡ false → bit (m .«in_service») k ≡ false
+  pub idle : (k : ℕ) → isAbove m (cascadeIrq .0) k ≡ false → blocksLine m (cascadeIrq .0) k ≡ false
   pub quiet : (k : ℕ) → isAbove m k (cascadeIrq .0) ≡ true → bit (m .request) k ≡ true → bit (m .mask) k ≡ true
 
 -- the slave answers for its line k, the highest of its requests that count: its vector, line k + 8

@@ -1,7 +1,7 @@
 -- Theorems about the pair that belong to no one call: a refusal changes nothing, a claim can be taken back, and the highest request is served; what a claim's flags say.
 use Prim.Native.Nat.{ℕ, _-_, _/_, _^_, _<_, _≤_}
 use mathlib.Core.Path.{_≡_}
-use mathlib.Core.Bool.{true, false, not, cond, _&&_}
+use mathlib.Core.Bool.{Bool, true, false, not, cond, _&&_}
 use lib.Dec.{eqb}
 use mathlib.Core.List.{List}
 use lib.ListN.{getD, length}
@@ -13,7 +13,8 @@ use Rattle.vpic.specs.Words.{PicState, isFull, view}
 use Rattle.vpic.specs.declared.PicRule.the-variants.{Latch}
 use Rattle.vpic.specs.declared.PicInterruptClaim.{PicInterruptClaim}
 use Rattle.vpic.specs.declared.PicClaim.the-variants.{Claimed, Nothing as NoClaim}
-use Rattle.vpic_chip.specs.Chip.{counts, Highest, cascadeIrq, acknowledged}
+use Rattle.utils.specs.Set.{bit}
+use Rattle.vpic_chip.specs.Chip.{isNested, counts, Highest, cascadeIrq, acknowledged}
 use Rattle.vpic.specs.Pair.{chips, settled, Keeps, claimPending, claimIrq, latched, restoreInterrupt, withClaim, withVector, handleRead, handleWrite}
 use Rattle.vpic.specs.Departures.{seventh}
 
@@ -46,9 +47,9 @@ abbrev pub RefusedKeepsWords : Type 0
 RefusedKeepsWords =
     (l m : List ℕ) (c : Call) → length l ≡ 4 → length m ≡ 4 → view m ≡ outcome (view l) c .state → (replyNumber (outcome (view l) c .reply) ≡ 0 → ⊥) → m ≡ l
 
--- the first bit of a chip's word that stands for nothing: 44, and by rule 2, where the priorities come before, 48
+-- the first bit of a chip's word that stands for nothing: 44, and by rule 2, where the full profile's registers come before, 51
 abbrev pub spareFrom : ℕ → ℕ
-spareFrom rule = cond (eqb rule 2) 48 44
+spareFrom rule = cond (eqb rule 2) 51 44
 
 -- every call keeps what stands for nothing, the bits of a chip's word from there up and the last word, and the rule's word as it was
 pub record Kept (l m : List ℕ) : Type 0 where
@@ -120,10 +121,15 @@ HighestServed = (p : PicState) (c : PicInterruptClaim) → claimPending p .claim
 abbrev pub SecondCallerUnheard : Type 0
 SecondCallerUnheard = (counts (seventh Latch .slave) 6 ≡ true) × (claimPending (seventh Latch) .claim ≡ NoClaim) × (seventh Latch .master .«in_service» ≡ 0)
 
--- a claim's flags: its line is in service now on each chip that answered for it, but in automatic EOI mode; the slave answers from line 8 up alone
+-- a claim's flags name the in-service bits that it set: the line of each chip that answered for it, where that wasn't in service already, nor the chip in automatic EOI mode;
+-- the slave answers from line 8 up alone, through the master's line 2
+abbrev pub sets : Chip → ℕ → Bool
+sets c k = not (c .«auto_eoi») && not (bit (c .«in_service») k)
+
 pub record Flagged (p : PicState) (c : PicInterruptClaim) : Type 0 where
-  pub master : c .«master_in_service» ≡ not (p .master .«auto_eoi»)
-  pub slave : 8 ≤ c .irq .0 → c .«slave_in_service» ≡ not (p .slave .«auto_eoi»)
+  pub master : c .irq .0 < 8 → c .«master_in_service» ≡ sets (p .master) (c .irq .0)
+  pub cascade : 8 ≤ c .irq .0 → c .«master_in_service» ≡ sets (p .master) (cascadeIrq .0)
+  pub slave : 8 ≤ c .irq .0 → c .«slave_in_service» ≡ sets (p .slave) (c .irq .0 - 8)
   pub alone : c .irq .0 < 8 → c .«slave_in_service» ≡ false
 
 -- of any pair, of every rule: where what waits is claimed, and where a line is raised
@@ -132,3 +138,11 @@ FlagsSay = (p : PicState) (c : PicInterruptClaim) → claimPending p .claim ≡ 
 
 abbrev pub FlagsSayAfterRaise : Type 0
 FlagsSayAfterRaise = (p : PicState) (l : PicLine) (c : PicInterruptClaim) → claimIrq p l .claim ≡ Claimed c → Flagged p c
+
+-- only in special fully nested mode can a line be claimed that is in service, and that is the master's line 2: outside it the flags say no more than the modes, as before T-06
+pub record FlaggedByMode (p : PicState) (c : PicInterruptClaim) : Type 0 where
+  pub master : isNested (p .master) ≡ false → c .«master_in_service» ≡ not (p .master .«auto_eoi»)
+  pub slave : isNested (p .slave) ≡ false → 8 ≤ c .irq .0 → c .«slave_in_service» ≡ not (p .slave .«auto_eoi»)
+
+abbrev pub FlagsByMode : Type 0
+FlagsByMode = (p : PicState) (c : PicInterruptClaim) → claimPending p .claim ≡ Claimed c → FlaggedByMode p c

@@ -37,7 +37,7 @@ unsafe extern "C" {
     pub safe fn sillwander_pic_pulse_irq(words: &mut Pic, irq: u64) -> u64;
     pub safe fn sillwander_pic_next_interrupt(words: &mut Pic) -> u64;
     pub safe fn sillwander_pic_restore_interrupt(words: &mut Pic, claim: u64) -> u64;
-    pub safe fn sillwander_pic_handle_read(words: &Pic, port: u64, width: u64) -> u64;
+    pub safe fn sillwander_pic_handle_read(words: &mut Pic, port: u64, width: u64) -> u64;
     pub safe fn sillwander_pic_handle_write(words: &mut Pic, port: u64, width: u64, value: u64) -> u64;
 }
 

@@ -1,7 +1,8 @@
 //! The pair of 8259s.
 //!
 //! The names and signatures are those of vpic.rs of x86_vlapic 0.5.4 (Copyright The Axvisor Team, Apache License 2.0; `NOTICE`); behind them are calls of the archive.
-//! The original has one rule of the cascade, and no rotation: [`PicRule`] and [`EmulatedPic::new_rule`] are ours.
+//! The original has one rule of the cascade, and neither rotation nor polls: [`PicRule`] and [`EmulatedPic::new_rule`] are ours, and a read takes `&mut self`, since a poll is an
+//! acknowledgement; a pair that several share goes into [`Locked`](crate::Locked).
 
 use crate::{
     archives::*,
@@ -60,7 +61,7 @@ impl Debug for PicInterruptClaim {
     }
 }
 
-/// What the slave does to the master's line 2, and whether the chips take rotation. The discriminant is the archive's number.
+/// What the slave does to the master's line 2, and whether the chips are full 8259As. The discriminant is the archive's number.
 #[derive(Clone, Copy, Debug, Default, Eq, PartialEq, Hash)]
 #[repr(u8)]
 pub enum PicRule {
@@ -69,7 +70,8 @@ pub enum PicRule {
     Latch = 0,
     /// The 8259A's: it is requested exactly while a request of the slave counts.
     Cascade = 1,
-    /// The same, and each chip's priorities rotate: it takes all eight OCW2 commands. A restored claim doesn't turn priorities back.
+    /// The same, and each chip is a full 8259A: its priorities rotate by all eight OCW2 commands, and it takes special mask mode, polls and special fully nested mode. A restored
+    /// claim doesn't turn priorities back.
     Full = 2,
 }
 
@@ -154,10 +156,11 @@ impl EmulatedPic {
         debug_assert!(code == 0, "a claim is a claim's code");
     }
 
-    /// A port read. [`Unsupported`](crate::X86VlapicError::Unsupported) for a width other than a byte, or a port that the pair doesn't have.
+    /// A port read. By [`PicRule::Full`], where a poll waits on the port's chip, it is an acknowledgement, and shows 0x80 plus the line, or 0; no other read changes the
+    /// pair. [`Unsupported`](crate::X86VlapicError::Unsupported) for a width other than a byte, or a port that the pair doesn't have.
     #[inline]
-    pub fn handle_read(&self, port: X86Port, width: X86AccessWidth) -> X86VlapicResult<usize> {
-        done(sillwander_pic_handle_read(&self.words, port.number().into(), width.size() as u64)).map(value)
+    pub fn handle_read(&mut self, port: X86Port, width: X86AccessWidth) -> X86VlapicResult<usize> {
+        done(sillwander_pic_handle_read(&mut self.words, port.number().into(), width.size() as u64)).map(value)
     }
 
     /// A port write, of the value's low 8 bits. Refused as a read is.

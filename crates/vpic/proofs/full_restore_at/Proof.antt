@@ -1,4 +1,5 @@
 use Rattle.vpic.proofs.Laws.{back-master, back-slave, back-nowhere}
+use Rattle.vpic_chip.proofs.Full.{full-back}
 use borrow.Author.Needs.{needs}
 use Rattle.vpic.proofs.full_restore_at.Statement.{statement}
 use Rattle.vpic.proofs.full_restore_at.Tie as tie
@@ -9,8 +10,8 @@ enum-known-place c = search needs
 full-master-requires : tie.Need-full-master-requires
 full-master-requires c κs = search needs
 
-full-unacknowledge-requires : tie.Need-full-unacknowledge-requires
-full-unacknowledge-requires c κs = search needs
+unacknowledge-requires : tie.Need-unacknowledge-requires
+unacknowledge-requires c κs = search needs
 
 full-set-master-requires : tie.Need-full-set-master-requires
 full-set-master-requires c κs = search needs
@@ -21,8 +22,8 @@ enum-known-place-2 c = search needs
 full-master-requires-2 : tie.Need-full-master-requires-2
 full-master-requires-2 c κs = search needs
 
-full-unacknowledge-requires-2 : tie.Need-full-unacknowledge-requires-2
-full-unacknowledge-requires-2 c κs = search needs
+unacknowledge-requires-2 : tie.Need-unacknowledge-requires-2
+unacknowledge-requires-2 c κs = search needs
 
 full-set-master-requires-2 : tie.Need-full-set-master-requires-2
 full-set-master-requires-2 c κs = search needs
@@ -30,8 +31,8 @@ full-set-master-requires-2 c κs = search needs
 full-slave-requires : tie.Need-full-slave-requires
 full-slave-requires c κs = search needs
 
-full-unacknowledge-requires-3 : tie.Need-full-unacknowledge-requires-3
-full-unacknowledge-requires-3 c κs = search needs
+unacknowledge-requires-3 : tie.Need-unacknowledge-requires-3
+unacknowledge-requires-3 c κs = search needs
 
 full-set-slave-requires : tie.Need-full-set-slave-requires
 full-set-slave-requires c κs = search needs
@@ -40,10 +41,10 @@ enum-told : tie.Need-enum-told
 enum-told c = search needs
 
 returns : tie.Need-returns
-returns c = search back-master
+returns c = search (back-master, full-back)
 
 returns-2 : tie.Need-returns-2
-returns-2 c = search back-slave
+returns-2 c = search (back-slave, full-back)
 
 returns-3 : tie.Need-returns-3
 returns-3 c = search back-nowhere
@@ -54,14 +55,14 @@ full-restore-at-spec =
     (tie.spec
     enum-known-place
     full-master-requires
-    full-unacknowledge-requires
+    unacknowledge-requires
     full-set-master-requires
     enum-known-place-2
     full-master-requires-2
-    full-unacknowledge-requires-2
+    unacknowledge-requires-2
     full-set-master-requires-2
     full-slave-requires
-    full-unacknowledge-requires-3
+    unacknowledge-requires-3
     full-set-slave-requires
     enum-told
     returns

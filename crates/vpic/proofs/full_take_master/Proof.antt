@@ -1,5 +1,6 @@
+use Rattle.vpic.proofs.Laws.{full-master-taken}
+use Rattle.vpic_chip.proofs.Full.{placed-acknowledge}
 use borrow.Author.Needs.{needs}
-use Rattle.vpic.proofs.Laws.{master-taken}
 use Rattle.vpic.proofs.full_take_master.Statement.{statement}
 use Rattle.vpic.proofs.full_take_master.Tie as tie
 
@@ -12,14 +13,14 @@ full-acknowledge-requires c κs = search needs
 full-set-master-requires : tie.Need-full-set-master-requires
 full-set-master-requires c κs = search needs
 
-auto-eoi-requires : tie.Need-auto-eoi-requires
-auto-eoi-requires c κs = search needs
+grew-requires : tie.Need-grew-requires
+grew-requires c κs = search needs
 
 claimed-requires : tie.Need-claimed-requires
 claimed-requires c κs = search needs
 
 returns : tie.Need-returns
-returns c = search master-taken
+returns c = search (full-master-taken, placed-acknowledge)
 
 pub full-take-master-spec : {M : Type 1} → statement M
 full-take-master-spec =
@@ -28,6 +29,6 @@ full-take-master-spec =
     full-master-requires
     full-acknowledge-requires
     full-set-master-requires
-    auto-eoi-requires
+    grew-requires
     claimed-requires
     returns)

@@ -1,4 +1,5 @@
 use Rattle.vpic.proofs.Laws.{write-master-command, write-master-data, write-slave-command, write-slave-data, write-none}
+use Rattle.vpic_chip.proofs.Full.{placed-command, placed-data}
 use borrow.Author.Needs.{needs}
 use Rattle.vpic.proofs.full_write_at.Statement.{statement}
 use Rattle.vpic.proofs.full_write_at.Tie as tie
@@ -16,7 +17,7 @@ full-set-master-requires : tie.Need-full-set-master-requires
 full-set-master-requires c κs = search needs
 
 returns : tie.Need-returns
-returns c = search write-master-command
+returns c = search (write-master-command, placed-command)
 
 cast-if2 : tie.Need-cast-if2
 cast-if2 c = search needs
@@ -31,7 +32,7 @@ full-set-master-requires-2 : tie.Need-full-set-master-requires-2
 full-set-master-requires-2 c κs = search needs
 
 returns-2 : tie.Need-returns-2
-returns-2 c = search write-master-data
+returns-2 c = search (write-master-data, placed-data)
 
 cast-if3 : tie.Need-cast-if3
 cast-if3 c = search needs

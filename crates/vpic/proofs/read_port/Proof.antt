@@ -1,3 +1,4 @@
+use Rattle.vpic_chip.proofs.Packing.{plain}
 use Rattle.utils.specs.Cases.{cases}
 use Rattle.vpic.specs.Pair.{portRead}
 use Rattle.vpic.proofs.Laws.{read-master-command, read-master-data, read-slave-command, read-slave-data}
@@ -15,7 +16,7 @@ read-command-requires : tie.Need-read-command-requires
 read-command-requires c κs = search needs
 
 returns : tie.Need-returns
-returns c = search read-master-command
+returns c = search (read-master-command, plain)
 
 cast-if2 : tie.Need-cast-if2
 cast-if2 c = search needs
@@ -27,7 +28,7 @@ mask-requires : tie.Need-mask-requires
 mask-requires c κs = search needs
 
 returns-2 : tie.Need-returns-2
-returns-2 c = search read-master-data
+returns-2 c = search (read-master-data, plain)
 
 cast-if3 : tie.Need-cast-if3
 cast-if3 c = search needs
@@ -39,7 +40,7 @@ read-command-requires-2 : tie.Need-read-command-requires-2
 read-command-requires-2 c κs = search needs
 
 returns-3 : tie.Need-returns-3
-returns-3 c = search read-slave-command
+returns-3 c = search (read-slave-command, plain)
 
 cast-if4 : tie.Need-cast-if4
 cast-if4 c = search needs
@@ -51,7 +52,7 @@ mask-requires-2 : tie.Need-mask-requires-2
 mask-requires-2 c κs = search needs
 
 returns-4 : tie.Need-returns-4
-returns-4 c = search read-slave-data
+returns-4 c = search (read-slave-data, plain)
 
 returns-5 : tie.Need-returns-5
 unfolding portRead

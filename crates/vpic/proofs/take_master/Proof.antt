@@ -1,3 +1,4 @@
+use Rattle.vpic_chip.proofs.Packing.{plain}
 use borrow.Author.Needs.{needs}
 use Rattle.vpic.proofs.Laws.{master-taken}
 use Rattle.vpic.proofs.take_master.Statement.{statement}
@@ -19,7 +20,7 @@ claimed-requires : tie.Need-claimed-requires
 claimed-requires c κs = search needs
 
 returns : tie.Need-returns
-returns c = search master-taken
+returns c = search (master-taken, plain)
 
 pub take-master-spec : {M : Type 1} → statement M
 take-master-spec =

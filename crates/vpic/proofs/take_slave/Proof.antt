@@ -1,3 +1,4 @@
+use Rattle.vpic_chip.proofs.Packing.{plain}
 use borrow.Author.Needs.{needs}
 use Rattle.vpic.proofs.Laws.{slave-taken}
 use Rattle.vpic.proofs.Ready.{low-slave}
@@ -36,7 +37,7 @@ claimed-requires : tie.Need-claimed-requires
 claimed-requires c κs = search needs
 
 returns : tie.Need-returns
-returns c = search slave-taken
+returns c = search (slave-taken, plain)
 
 pub take-slave-spec : {M : Type 1} → statement M
 take-slave-spec =

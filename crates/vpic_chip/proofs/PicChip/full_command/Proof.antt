@@ -1,6 +1,5 @@
 use Rattle.utils.specs.Cases.{cases}
 use Rattle.vpic_chip.specs.Chip.{commanded}
-use Rattle.vpic_chip.proofs.Full.{full-ocw3}
 use borrow.Author.Needs.{needs}
 use Rattle.vpic_chip.proofs.PicChip.full_command.Statement.{statement}
 use Rattle.vpic_chip.proofs.PicChip.full_command.Tie as tie
@@ -12,12 +11,12 @@ returns : tie.Need-returns
 unfolding commanded
 returns c = search cases
 
-ocw3-requires : tie.Need-ocw3-requires
-ocw3-requires c κs = search needs
+full-ocw3-requires : tie.Need-full-ocw3-requires
+full-ocw3-requires c κs = search needs
 
 returns-2 : tie.Need-returns-2
 unfolding commanded
-returns-2 c = search (cases, full-ocw3)
+returns-2 c = search cases
 
 full-ocw2-requires : tie.Need-full-ocw2-requires
 full-ocw2-requires c κs = search needs
@@ -29,4 +28,4 @@ returns-3 c = search cases
 pub full-command-spec : {M : Type 1} → statement M
 full-command-spec =
     tie.close
-    (tie.spec full-icw1-requires returns ocw3-requires returns-2 full-ocw2-requires returns-3)
+    (tie.spec full-icw1-requires returns full-ocw3-requires returns-2 full-ocw2-requires returns-3)

@@ -6,8 +6,8 @@ use Rattle.vpic_chip.proofs.PicChip.full_end_highest.Tie as tie
 lowest-line-requires : tie.Need-lowest-line-requires
 lowest-line-requires c κs = search needs
 
-in-service-requires : tie.Need-in-service-requires
-in-service-requires c κs = search needs
+blocking-requires : tie.Need-blocking-requires
+blocking-requires c κs = search needs
 
 first-line-requires : tie.Need-first-line-requires
 first-line-requires c κs = search needs
@@ -26,7 +26,7 @@ full-end-highest-spec =
     tie.close
     (tie.spec
     lowest-line-requires
-    in-service-requires
+    blocking-requires
     first-line-requires
     returns
     full-end-requires

@@ -1,4 +1,4 @@
-use Rattle.vpic_chip.proofs.Full.{full-irq-some, full-irq-none}
+use Rattle.vpic_chip.proofs.Full.{full-irq-none, full-irq-some}
 use borrow.Author.Needs.{needs}
 use Rattle.vpic_chip.proofs.PicChip.full_pending_irq.Statement.{statement}
 use Rattle.vpic_chip.proofs.PicChip.full_pending_irq.Tie as tie

@@ -21,8 +21,8 @@ lowest-line-requires c κs = search needs
 first-line-requires : tie.Need-first-line-requires
 first-line-requires c κs = search needs
 
-in-service-requires : tie.Need-in-service-requires
-in-service-requires c κs = search needs
+blocking-line-requires : tie.Need-blocking-line-requires
+blocking-line-requires c κs = search needs
 
 first-line-requires-2 : tie.Need-first-line-requires-2
 first-line-requires-2 c κs = search needs
@@ -46,7 +46,7 @@ full-pending-line-spec =
     returns
     lowest-line-requires
     first-line-requires
-    in-service-requires
+    blocking-line-requires
     first-line-requires-2
     is-above-requires
     returns-2
