@@ -63,3 +63,4 @@ kind!(
     LocalWords = LocalWords::new(1, 8),
     sillwander::EmulatedLocalApic = our_local()
 );
+kind!(board, InTurn = InTurn::new(), BoardWords = BoardWords::new(), sillwander::EmulatedBoard = Default::default());

@@ -387,6 +387,43 @@ row!(icr_physical_known, local_known, |local| flat_to::<KNOWN>(local, 3), write_
 row!(icr_logical, local, |local| flat_to::<SUMS>(local, 2), write_icr::<SUMS>, [0x300, 0x850]);
 row!(tpr_write_ppr_read, local, flat::<SUMS>, write_tpr_and_read_ppr, [0x80, 0xa0, 0x20]);
 
+// ---- the board
+
+/// An interrupt from its line to its EOI.
+#[inline(always)]
+fn line_accept_eoi(board: &mut impl Board<Ended: Tell>, caller: &mut impl Caller, [gsi, vector]: &mut [u64; 2]) {
+    caller.took(board.set_level(*gsi, true));
+    caller.took(board.accept());
+    caller.took(board.set_level(*gsi, false));
+    board_eoi(board, caller, &mut [*vector]);
+}
+
+#[inline(always)]
+fn accept_eoi_again(board: &mut impl Board<Ended: Tell>, caller: &mut impl Caller, vector: &mut [u64; 1]) {
+    caller.took(board.accept());
+    board_eoi(board, caller, vector);
+}
+
+#[inline(always)]
+fn board_eoi(board: &mut impl Board<Ended: Tell>, caller: &mut impl Caller, [vector]: &mut [u64; 1]) {
+    match board.eoi() {
+        Some(ended) => ended.tell(*vector, caller),
+        None => caller.nothing(),
+    }
+}
+
+row!(board_line_accept_eoi, board, |board| board.program(&LEVEL_2), line_accept_eoi, [2, 0x30]);
+row!(
+    board_accept_eoi_resend,
+    board,
+    |board| {
+        board.program(&LEVEL_2);
+        board.set_level(2, true).expect("it is sent");
+    },
+    accept_eoi_again,
+    [0x30]
+);
+
 pub const ROWS: &[&Row] = &[
     &empty::ROW,
     &line_edge_2::ROW,
@@ -450,6 +487,8 @@ pub const ROWS: &[&Row] = &[
     &icr_physical_known::ROW,
     &icr_logical::ROW,
     &tpr_write_ppr_read::ROW,
+    &board_line_accept_eoi::ROW,
+    &board_accept_eoi_resend::ROW,
     &address_range::ROW,
     &io_new::ROW,
     &pic_new::ROW,

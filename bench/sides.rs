@@ -599,3 +599,122 @@ impl<const HOST: u8, L: Lend<sillwander::EmulatedLocalApic>> Local<HOST> for L {
         made.map(|local| self.lend(|old| *old = local)).map(|()| [])
     }
 }
+
+// ---- the board
+
+/// A whole board. The original has none: beside it stand its I/O APIC and its local APIC, called in turn by a host that keeps what was sent until the processor accepts it.
+pub trait Board {
+    type Ended: Ended;
+
+    /// Vector and level.
+    fn set_level(&mut self, gsi: u64, is_up: bool) -> Option<[u64; 2]>;
+    /// The vector that is in service then.
+    fn accept(&mut self) -> Option<[u64; 1]>;
+    fn eoi(&mut self) -> Option<Self::Ended>;
+    fn write(&mut self, addr: u64, value: u64);
+
+    /// Registers of the I/O APIC, and what the guest writes to them.
+    fn program(&mut self, setup: &[(u64, u64)]) {
+        for (register, word) in setup {
+            self.write(SELECT, *register);
+            self.write(WINDOW, *word);
+        }
+    }
+}
+
+/// The original's two chips, and what the host keeps: vector and level.
+pub struct InTurn {
+    io: Plain<x86_vlapic::EmulatedIoApic>,
+    local: Plain<x86_vlapic::EmulatedLocalApic<Host<{ crate::host::SUMS }>>>,
+    sent: Option<[u64; 2]>,
+}
+
+impl InTurn {
+    pub fn new() -> Self {
+        Self { io: Plain(x86_vlapic::EmulatedIoApic::new_default()), local: Plain(x86_vlapic::EmulatedLocalApic::new(0, 1)), sent: None }
+    }
+}
+
+impl Board for Plain<InTurn> {
+    type Ended = Line;
+
+    #[inline(always)]
+    fn set_level(&mut self, gsi: u64, is_up: bool) -> Option<[u64; 2]> {
+        let sent = self.0.io.set_level(gsi, is_up);
+        if sent.is_some() {
+            self.0.sent = sent;
+        }
+        sent
+    }
+    #[inline(always)]
+    fn accept(&mut self) -> Option<[u64; 1]> {
+        let [vector, level] = self.0.sent.take()?;
+        self.0.local.accept(vector, level != 0);
+        Some([vector])
+    }
+    #[inline(always)]
+    fn eoi(&mut self) -> Option<Line> {
+        let [vector] = self.0.local.eoi()?;
+        let ended = self.0.io.eoi(vector)?;
+        if ended.sent.is_some() {
+            self.0.sent = ended.sent;
+        }
+        Some(ended)
+    }
+    fn write(&mut self, addr: u64, value: u64) {
+        self.0.io.write(addr, Width::Dword, value).ok().expect("the window takes it");
+    }
+}
+
+pub struct BoardWords([u64; IOAPIC_WORDS], [u64; LAPIC_WORDS]);
+
+impl BoardWords {
+    pub fn new() -> Self {
+        let mut board = Self([0; IOAPIC_WORDS], [0; LAPIC_WORDS]);
+        sillwander_board_new(&mut board.0, &mut board.1);
+        board
+    }
+}
+
+impl Board for BoardWords {
+    type Ended = Lines;
+
+    #[inline(always)]
+    fn set_level(&mut self, gsi: u64, is_up: bool) -> Option<[u64; 2]> {
+        let code = sillwander_board_set_gsi_level(&mut self.0, &mut self.1, gsi, is_up.into());
+        (code != 0).then(|| of_two(code))
+    }
+    #[inline(always)]
+    fn accept(&mut self) -> Option<[u64; 1]> {
+        byte(sillwander_board_accept_interrupt(&mut self.1))
+    }
+    #[inline(always)]
+    fn eoi(&mut self) -> Option<Lines> {
+        Lines::of(sillwander_board_handle_eoi(&mut self.0, &mut self.1))
+    }
+    fn write(&mut self, addr: u64, value: u64) {
+        sillwander_board_handle_write(&mut self.0, &mut self.1, addr, Width::Dword as u64, value);
+    }
+}
+
+impl<B: Lend<sillwander::EmulatedBoard>> Board for B {
+    type Ended = Lines;
+
+    #[inline(always)]
+    fn set_level(&mut self, gsi: u64, is_up: bool) -> Option<[u64; 2]> {
+        let sent = self.lend(|board| board.set_gsi_level(gsi as usize, is_up));
+        sent.map(|sent| [sent.vector.into(), sent.level_triggered.into()])
+    }
+    #[inline(always)]
+    fn accept(&mut self) -> Option<[u64; 1]> {
+        self.lend(|board| board.accept_interrupt()).map(|vector| [vector.into()])
+    }
+    #[inline(always)]
+    fn eoi(&mut self) -> Option<Lines> {
+        self.lend(|board| board.handle_eoi()).map(Lines::from)
+    }
+    fn write(&mut self, addr: u64, value: u64) {
+        let wrote = self.lend(|board| board.handle_write((addr as usize).into(), Width::Dword.into(), value as usize));
+        wrote.expect("the window takes it");
+    }
+}

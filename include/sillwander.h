@@ -200,6 +200,39 @@ uint64_t sillwander_lapic_handle_write(uint64_t words[48], uint64_t offset, uint
                                        uint64_t active_vcpus, uint64_t ipi[1]);
 
 /*
+ * ---- A whole board: an I/O APIC of version 0x20, one local APIC and its request register
+ *
+ * The board's words are those of its two chips, in the layouts above: `ioapic` has 32, `apic` has 48, IRR with them. They may lie anywhere, but not one over the other. What goes from chip to
+ * chip is the board's: what the I/O APIC sends becomes a request (IRR), which sets or clears its trigger bit (TMR); acceptance moves the highest request into service (ISR); an EOI goes back to
+ * the I/O APIC. A new board's SVR is 0xff, and no call of the board writes it; where a caller sets its bit 12, EOIs aren't broadcast.
+ *
+ * The reading calls of the chips may be made on these words. Their other calls would go past the board: sillwander_lapic_accept_interrupt, say, leaves no request, and a local register's write
+ * PPR as it was. On words whose version isn't 0x20 the I/O APIC is one of version 0x11; a board that began as a new one has none such.
+ */
+
+/* A new board: the I/O APIC at 0xfec00000, of size 0x1000; the local APIC of vCPU 0 in xAPIC mode, nothing requested. Answers 0. */
+uint64_t sillwander_board_new(uint64_t ioapic[32], uint64_t apic[48]);
+
+/* Moves a line up or down, and requests what it sends. Two values, vector and 1 for level or 0 for edge, or none. */
+uint64_t sillwander_board_set_gsi_level(uint64_t ioapic[32], uint64_t apic[48], uint64_t gsi, uint64_t asserted);
+
+/* The guest accepts the highest request, if its class is above PPR's: one value, the vector, which is in service then; or none. */
+uint64_t sillwander_board_accept_interrupt(uint64_t apic[48]);
+
+/* The guest's EOI ends the highest vector in service. If that is level-triggered, the I/O APIC hears of it: two values, the set of lines that it ended and the set of those whose interrupt is sent
+   again, and so requested. None where no vector is in service, it is edge-triggered, or no line in flight has it. */
+uint64_t sillwander_board_handle_eoi(uint64_t ioapic[32], uint64_t apic[48]);
+
+/* A write of TPR, of the value's low 8 bits; PPR follows. Answers 0. */
+uint64_t sillwander_board_write_tpr(uint64_t apic[48], uint64_t value);
+
+/* A memory write to the I/O APIC, and a request of what it sends. Answers and is refused as sillwander_ioapic_handle_write in version 0x20. */
+uint64_t sillwander_board_handle_write(uint64_t ioapic[32], uint64_t apic[48], uint64_t addr, uint64_t width, uint64_t value);
+
+/* A message: the request of a device without a line. Answers 0. A vector below 16 is dropped, and noted in word 8 (bit 6, receive illegal vector). Refused: 5 for a vector above 255. */
+uint64_t sillwander_board_receive(uint64_t apic[48], uint64_t vector, uint64_t level_triggered);
+
+/*
  * ---- Vectors that don't collide
  *
  * A setup tool's lines want a vector each: `lines` of them, each with a range, a word made by SILLWANDER_RANGE. Vectors already taken are a set of 256 in four

@@ -428,7 +428,7 @@ def check_readme(checks, program):
     """Each command in the README's story prints what stands below it."""
     blocks = re.findall(r"^    \$ (.*)\n((?:    .*\n)*)", (TOP / "README.md").read_text(encoding="utf-8"), re.M)
     blocks = [(line, below) for line, below in blocks if "tools/script-text" in line]
-    checks.true(f"the README has commands with their output ({len(blocks)})", len(blocks) == 5)
+    checks.true(f"the README has commands with their output ({len(blocks)})", len(blocks) == 6)
     for line, below in blocks:
         whole = re.sub(r"tools/script-text (run|diff)", lambda found: f'{found[0]} --program "$PROGRAM"', line)
         ran = subprocess.run(["sh", "-c", whole], cwd=TOP, env={**os.environ, "PROGRAM": program}, stdout=subprocess.PIPE, text=True)

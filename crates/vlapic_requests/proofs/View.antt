@@ -2,72 +2,23 @@
 use Prim.Native.Nat.{ℕ, _+_, _/_, _%_, _^_, _≤_, _<_}
 use native.Mathlib.Nat.{mod-lt}
 use native.Mathlib.Omega.{arith}
-use mathlib.Core.Bool.{Bool, true, false, not, cond}
+use mathlib.Core.Bool.{Bool, true, false, not}
 use mathlib.Core.List.{List}
 use mathlib.Core.Logic.{inr}
 use mathlib.Core.Path.{_≡_, refl, sym, ap, _∙_}
-use lib.Dec.{eqb, ltb}
+use lib.Dec.{eqb}
 use lib.ListN.{length, getD, set}
 use lib.Seq.{getD-set-other}
-use borrow.Author.Tests.{ltb-true}
 use Rattle.utils.specs.Set.{marked}
 use Rattle.utils.proofs.Marked.{marked-lt}
 use Rattle.vlapic_regs.specs.Register.{priority}
-use Rattle.vlapic.specs.declared.VirtualApicRegs.{VirtualApicRegs}
 use Rattle.vlapic_words.specs.Words.{word, eight, view}
 use Rattle.vlapic_words.specs.Calls.{Stored}
 use Rattle.vlapic_words.specs.Steps.{markedIn}
 use Rattle.vlapic_words.proofs.Runs.{at-from, from-other, from-set}
-use Rattle.vlapic_words.proofs.View.{cut-small, put-view, moved, priority-small, stored-set}
+use Rattle.vlapic_words.proofs.View.{cut-small, of, view-of, put-view, moved, priority-small, stored-set}
 use Rattle.vlapic_requests.specs.Requests.{withIrr, highest, ranked}
 use Rattle.vlapic_requests.specs.Promise.{rankedWords}
-
--- registers by their words
-abbrev of : Bool → (ℕ → ℕ) → List ℕ → List ℕ → List ℕ → VirtualApicRegs
-of x w isr tmr irr = record {
-  x2apic = x;
-  «vapic_id» = w 1;
-  tpr = w 2;
-  ppr = w 3;
-  ldr = w 4;
-  dfr = w 5;
-  svr = w 6;
-  esr = w 7;
-  «esr_pending» = w 8;
-  «icr_lo» = w 9;
-  «icr_hi» = w 10;
-  «lvt_cmci» = w 11;
-  «lvt_timer» = w 12;
-  «lvt_thermal» = w 13;
-  «lvt_pmi» = w 14;
-  «lvt_lint0» = w 15;
-  «lvt_lint1» = w 16;
-  «lvt_error» = w 17;
-  isr = isr;
-  tmr = tmr;
-  irr = irr;
-}
-
--- of a function the values below 18
-abbrev low : (ℕ → ℕ) → ℕ → ℕ
-low w k = cond (ltb k 18) (w k) 0
-
-low-same : (v w : ℕ → ℕ) → ((k : ℕ) → k < 18 → v k ≡ w k) → (k : ℕ) → low v k ≡ low w k
-low-same v w h k = go (ltb k 18) refl
-  where
-    go : (b : Bool) → ltb k 18 ≡ b → cond b (v k) 0 ≡ cond b (w k) 0
-    go true e = h k (ltb-true k 18 e)
-    go false e = refl
-
-view-of : (m : List ℕ) (x : Bool) (w : ℕ → ℕ) (isr tmr irr : List ℕ)
-    → not (eqb (getD m 0 0) 0) ≡ x
-    → ((k : ℕ) → k < 18 → word m k ≡ w k)
-    → eight m 18 ≡ isr
-    → eight m 26 ≡ tmr
-    → eight m 34 ≡ irr
-    → view m ≡ of x w isr tmr irr
-unfolding view
-view-of m x w isr tmr irr p q r s t = λ i. of (p i) (λ (k : ℕ). low-same (word m) w q k i) (r i) (s i) (t i)
 
 -- a word of IRR
 irr-view : (l : List ℕ) → length l ≡ 48 → (i x : ℕ) → i < 8 → x < 2 ^ 32 → view (set l (34 + i) x) ≡ withIrr (view l) (set (view l .irr) i x)

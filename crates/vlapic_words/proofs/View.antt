@@ -29,7 +29,7 @@ cut-small x = mod-lt x (omega arith)
 
 -- ---- registers by their words
 
-abbrev of : Bool → (ℕ → ℕ) → List ℕ → List ℕ → List ℕ → VirtualApicRegs
+abbrev pub of : Bool → (ℕ → ℕ) → List ℕ → List ℕ → List ℕ → VirtualApicRegs
 of x w isr tmr irr = record {
   x2apic = x;
   «vapic_id» = w 1;
@@ -65,7 +65,7 @@ low-same v w h k = go (ltb k 18) refl
     go true e = h k (ltb-true k 18 e)
     go false e = refl
 
-view-of : (m : List ℕ) (x : Bool) (w : ℕ → ℕ) (isr tmr irr : List ℕ)
+pub view-of : (m : List ℕ) (x : Bool) (w : ℕ → ℕ) (isr tmr irr : List ℕ)
     → not (eqb (getD m 0 0) 0) ≡ x
     → ((k : ℕ) → k < 18 → word m k ≡ w k)
     → eight m 18 ≡ isr

@@ -60,6 +60,18 @@ unsafe extern "C" {
     ) -> u64;
 }
 
+// SAFETY: as above. Two arrays that are lent at once are apart, as two `&mut` are.
+#[link(name = "board_c", kind = "static")]
+unsafe extern "C" {
+    pub safe fn sillwander_board_new(ioapic: &mut IoApic, apic: &mut Lapic) -> u64;
+    pub safe fn sillwander_board_set_gsi_level(ioapic: &mut IoApic, apic: &mut Lapic, gsi: u64, asserted: u64) -> u64;
+    pub safe fn sillwander_board_accept_interrupt(apic: &mut Lapic) -> u64;
+    pub safe fn sillwander_board_handle_eoi(ioapic: &mut IoApic, apic: &mut Lapic) -> u64;
+    pub safe fn sillwander_board_write_tpr(apic: &mut Lapic, value: u64) -> u64;
+    pub safe fn sillwander_board_handle_write(ioapic: &mut IoApic, apic: &mut Lapic, addr: u64, width: u64, value: u64) -> u64;
+    pub safe fn sillwander_board_receive(apic: &mut Lapic, vector: u64, level_triggered: u64) -> u64;
+}
+
 // SAFETY: as above. Each pointer has as many elements behind it as the number after it says.
 #[link(name = "planner_c", kind = "static")]
 unsafe extern "C" {

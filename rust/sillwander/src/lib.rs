@@ -22,6 +22,7 @@
 #![deny(missing_docs, unsafe_op_in_unsafe_fn)]
 
 mod archives;
+mod board;
 mod code;
 mod locked;
 mod planner;
@@ -31,6 +32,7 @@ mod vlapic;
 mod vpic;
 
 pub use self::{
+    board::EmulatedBoard,
     locked::Locked,
     planner::{TakenVectors, VectorRange, VectorShortage, check_vectors, plan_vectors, vector_shortage},
     types::{

@@ -60,7 +60,7 @@ impl IoApicEois {
 
     /// None where no line was in flight with the vector.
     #[inline]
-    fn of(code: u64) -> Option<Self> {
+    pub(crate) fn of(code: u64) -> Option<Self> {
         (code != 0).then(|| Self { cleared: set_of_two(code, 0), sent: set_of_two(code, 1) })
     }
 }
@@ -74,6 +74,18 @@ pub enum IoApicWritten {
     Sent(IoApicInterrupt),
     /// What a write of the EOI register, at offset 0x40, ended.
     Ended(IoApicEois),
+}
+
+impl IoApicWritten {
+    /// Of a done write at an address of the I/O APIC in these words. Either answer has two values: which it is goes by the address.
+    #[inline]
+    pub(crate) fn of(code: u64, words: &[u64; IOAPIC_WORDS], addr: u64) -> Self {
+        if addr.wrapping_sub(words[BASE]) == IOEOI {
+            IoApicEois::of(code).map_or(Self::Done, Self::Ended)
+        } else {
+            sent(code).map_or(Self::Done, Self::Sent)
+        }
+    }
 }
 
 /// The lines of a set, from the lowest up.
@@ -116,7 +128,7 @@ pub struct EmulatedIoApic20 {
 
 /// None, or vector and level.
 #[inline]
-fn sent(code: u64) -> Option<IoApicInterrupt> {
+pub(crate) fn sent(code: u64) -> Option<IoApicInterrupt> {
     (code != 0).then(|| IoApicInterrupt { vector: of_two(code, 0), level_triggered: of_two(code, 1) != 0 })
 }
 
@@ -234,13 +246,7 @@ impl EmulatedIoApic20 {
     #[inline]
     pub fn handle_write(&mut self, addr: X86GuestPhysAddr, width: X86AccessWidth, val: usize) -> X86VlapicResult<IoApicWritten> {
         let addr = addr.as_usize() as u64;
-        // Either answer has two values: which it is goes by the address.
-        let is_eoi = addr.wrapping_sub(self.words[BASE]) == IOEOI;
         let code = done(sillwander_ioapic_handle_write(&mut self.words, addr, width.size() as u64, val as u64))?;
-        Ok(if is_eoi {
-            IoApicEois::of(code).map_or(IoApicWritten::Done, IoApicWritten::Ended)
-        } else {
-            sent(code).map_or(IoApicWritten::Done, IoApicWritten::Sent)
-        })
+        Ok(IoApicWritten::of(code, &self.words, addr))
     }
 }

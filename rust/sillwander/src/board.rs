@@ -1,0 +1,97 @@
+//! A whole board: an I/O APIC of version 0x20, one local APIC and its request register. The original has none: the names are ours, after those of its chips.
+
+use crate::{
+    archives::*,
+    code::{done, value},
+    types::{X86AccessWidth, X86GuestPhysAddr, X86VlapicResult},
+    vioapic::{IoApicEois, IoApicInterrupt, IoApicWritten, sent},
+};
+
+/// An I/O APIC of version 0x20, one local APIC and its request register as one: what the I/O APIC sends becomes a request, the guest accepts the highest one whose class is
+/// above that of PPR, and its EOI goes back to the I/O APIC.
+///
+/// ```
+/// # use sillwander::{EmulatedBoard, IoApicEois, X86AccessWidth::Dword, X86GuestPhysAddr};
+/// let mut board = EmulatedBoard::new();
+/// board.handle_write(X86GuestPhysAddr::from_usize(0xfec0_0000), Dword, 0x16)?; // entry 3, low word
+/// board.handle_write(X86GuestPhysAddr::from_usize(0xfec0_0010), Dword, 0x8041)?; // level, vector 0x41
+/// board.set_gsi_level(3, true);
+/// assert_eq!(board.accept_interrupt(), Some(0x41));
+/// board.set_gsi_level(3, false);
+/// assert_eq!(board.handle_eoi(), Some(IoApicEois { cleared: 0b1000, sent: 0 }));
+/// # Ok::<(), sillwander::X86VlapicError>(())
+/// ```
+#[derive(Debug)]
+pub struct EmulatedBoard {
+    ioapic: [u64; IOAPIC_WORDS],
+    apic: [u64; LAPIC_WORDS],
+}
+
+impl EmulatedBoard {
+    /// A new board: the I/O APIC at 0xfec00000, the local APIC of vCPU 0 in xAPIC mode, nothing requested.
+    pub fn new() -> Self {
+        let mut board = Self { ioapic: [0; IOAPIC_WORDS], apic: [0; LAPIC_WORDS] };
+        sillwander_board_new(&mut board.ioapic, &mut board.apic);
+        board
+    }
+
+    /// Moves a line up or down, and requests what it sends: that is answered, and is nothing to inject.
+    #[inline]
+    pub fn set_gsi_level(&mut self, gsi: usize, asserted: bool) -> Option<IoApicInterrupt> {
+        sent(sillwander_board_set_gsi_level(&mut self.ioapic, &mut self.apic, gsi as u64, asserted.into()))
+    }
+
+    /// The guest accepts the highest request, whose vector is in service then. None where nothing is requested, or its class isn't above that of PPR.
+    #[inline]
+    pub fn accept_interrupt(&mut self) -> Option<u8> {
+        let code = sillwander_board_accept_interrupt(&mut self.apic);
+        (code != 0).then_some(code as u8)
+    }
+
+    /// The guest's EOI of the highest vector in service. What it ended in the I/O APIC; what is sent again is requested. None where the vector is edge-triggered, no line in
+    /// flight has it, or nothing is in service.
+    #[inline]
+    pub fn handle_eoi(&mut self) -> Option<IoApicEois> {
+        IoApicEois::of(sillwander_board_handle_eoi(&mut self.ioapic, &mut self.apic))
+    }
+
+    /// The guest writes TPR, and PPR follows.
+    #[inline]
+    pub fn write_tpr(&mut self, value: u8) {
+        sillwander_board_write_tpr(&mut self.apic, value.into());
+    }
+
+    /// A memory write to the I/O APIC, of the value's low 32 bits, and a request of what it sends. [`Unsupported`](crate::X86VlapicError::Unsupported) for a width of 1 or 2
+    /// bytes; then [`InvalidAddress`](crate::X86VlapicError::InvalidAddress) for an address below the base.
+    #[inline]
+    pub fn handle_write(&mut self, addr: X86GuestPhysAddr, width: X86AccessWidth, val: usize) -> X86VlapicResult<IoApicWritten> {
+        let addr = addr.as_usize() as u64;
+        let code = done(sillwander_board_handle_write(&mut self.ioapic, &mut self.apic, addr, width.size() as u64, val as u64))?;
+        Ok(IoApicWritten::of(code, &self.ioapic, addr))
+    }
+
+    /// A message, the request of a device without a line. A vector below 16 is dropped, and noted among the pending errors.
+    #[inline]
+    pub fn receive(&mut self, vector: u8, level_triggered: bool) {
+        sillwander_board_receive(&mut self.apic, vector.into(), level_triggered.into());
+    }
+
+    /// A memory read of the I/O APIC. Refused as a write is.
+    #[inline]
+    pub fn handle_read(&self, addr: X86GuestPhysAddr, width: X86AccessWidth) -> X86VlapicResult<usize> {
+        done(sillwander_ioapic_handle_read(&self.ioapic, addr.as_usize() as u64, width.size() as u64)).map(value)
+    }
+
+    /// A register of the local APIC, by its offset: TPR 0x80, PPR 0xa0, in service from 0x100 and trigger bits from 0x180, a word of 32 vectors every 0x10.
+    /// [`InvalidInput`](crate::X86VlapicError::InvalidInput) for one that can't be read.
+    #[inline]
+    pub fn read_local(&self, offset: usize) -> X86VlapicResult<usize> {
+        done(sillwander_lapic_handle_read(&self.apic, offset as u64)).map(value)
+    }
+}
+
+impl Default for EmulatedBoard {
+    fn default() -> Self {
+        Self::new()
+    }
+}
