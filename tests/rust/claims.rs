@@ -1,6 +1,8 @@
 //! What a claim doesn't let a caller do. tests/rust/run compiles this file as it stands, and then once for each `--cfg`, which rustc must refuse with the error that
 //! stands behind it.
 
+#![allow(dead_code)]
+
 use sillwander::{EmulatedPic, PicInterruptClaim};
 
 pub fn restored_once(pic: &mut EmulatedPic, claim: PicInterruptClaim) {
