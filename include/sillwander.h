@@ -2,10 +2,10 @@
  * Sillwander: the interrupt controllers of a small hypervisor, proved.
  *
  * A chip's state is an array of words that the caller owns and lends for a call. There is no allocation, no global and no lock: two calls
- * that lend the same words must not overlap in time. Any words may be lent and every call takes any numbers: nothing faults. What words that no
- * state has stand for is said at each layout.
+ * that lend the same words must not overlap in time. Any words may be lent (but for the flags of several vCPUs' records, below) and every
+ * call takes any numbers: nothing faults. What words that no state has stand for is said at each layout.
  *
- * Every call answers one number, its code:
+ * Every call answers one number, its code (that of several vCPUs has a mask beside it):
  *
  *   bits 63..56   why the call was refused (the numbers below), or 0: done
  *   bits 55..48   how many values it answers: 0, 1, 2 or 3
@@ -23,8 +23,10 @@
 #ifndef SILLWANDER_H
 #define SILLWANDER_H
 
+#include <stdbool.h>
 #include <stddef.h>
 #include <stdint.h>
+#include <string.h>
 
 #ifdef __cplusplus
 extern "C" {
@@ -231,6 +233,63 @@ uint64_t sillwander_board_handle_write(uint64_t ioapic[32], uint64_t apic[48], u
 
 /* A message: the request of a device without a line. Answers 0. A vector below 16 is dropped, and noted in word 8 (bit 6, receive illegal vector). Refused: 5 for a vector above 255. */
 uint64_t sillwander_board_receive(uint64_t apic[48], uint64_t vector, uint64_t level_triggered);
+
+ * ---- Several vCPUs: an array of records
+ *
+ * One record a vCPU, up to 64, and a vCPU's id is its record's place in the array; the `id` of its registers isn't asked. A record has the registers of
+ * a local APIC, as the 48 words above have them, in the same order, and beside them what waits for the processor. The caller takes a waiting NMI, INIT or
+ * start-up by storing false; a request by clearing its bit of irr (isr, tmr and ppr are the caller's too, or sillwander_lapic_ calls': below).
+ *
+ * A bool has to be 0 or 1, as C's own stores leave it: nothing else in this file asks that of lent memory. The array may not be null, also where the count is 0. The
+ * layout is C's on x86-64: 172 bytes, x2apic the byte at 0, id the four bytes at 4, .., irr those from 136 on, nmi at 168, init 169, startup 170, startup_vector 171.
+ */
+typedef struct sillwander_lapic_registers {
+    bool x2apic; /* else xAPIC mode */
+    uint32_t id, tpr, ppr, ldr, dfr, svr, esr, esr_pending, icr_lo, icr_hi;
+    uint32_t lvt_cmci, lvt_timer, lvt_thermal, lvt_pmi, lvt_lint0, lvt_lint1, lvt_error;
+    uint32_t isr[8], tmr[8], irr[8]; /* vector v is bit v % 32 of word v / 32 */
+} sillwander_lapic_registers;
+
+typedef struct sillwander_vcpu {
+    sillwander_lapic_registers regs;
+    bool nmi, init, startup; /* an NMI, an INIT, a start-up IPI waits */
+    uint8_t startup_vector;  /* of the last start-up IPI */
+} sillwander_vcpu;
+
+/* A code as every call answers one, and the vCPUs that an IPI was sent to. */
+typedef struct sillwander_sent {
+    uint64_t code;
+    uint64_t mask;
+} sillwander_sent;
+
+/* A write of the ICR (offset 0x300) or of SELF IPI (0x3f0) by vCPU `sender`, `width` bytes wide, where the vCPUs in the mask `active` are active. Each vCPU is held
+   against the destination by its own mode, LDR and DFR. An IPI answers two values, kind (0 fixed, 4 NMI, 5 INIT, 6 startup) and vector, and its mask; everything
+   else answers mask 0. Changed: the sender's ICR words (by the ICR), its esr_pending (an illegal vector), and of the vCPUs in the mask an edge request (fixed), nmi,
+   init, or startup and startup_vector. The other fields and the other records are as they were.
+   Refused, in this order: 5 for a count above 64 or a sender that isn't below the count; 2 for another offset, for the ICR by 8 bytes in xAPIC mode or by another
+   width in x2APIC mode, for SELF IPI in xAPIC mode; and then, with the ICR's words stored, 3 for delivery mode 3 or 7, 5 for a physical destination above 63, 3 for a logical one
+   while some active vCPU in xAPIC mode has a DFR model other than 15 and 0. */
+sillwander_sent sillwander_vcpus_send(sillwander_vcpu *records, size_t count, uint64_t sender, uint64_t offset, uint64_t value, uint64_t width, uint64_t active);
+
+/* A record's registers as the 48 words of a local APIC, and back, so that the calls above serve a record. Plain copies, in C: words 1 to 41 are the 41 words from
+   `id` on. The spare words aren't touched. */
+static inline void sillwander_vcpu_to_words(const sillwander_vcpu *vcpu, uint64_t words[48])
+{
+    uint32_t own[41];
+    memcpy(own, (const char *)vcpu + offsetof(sillwander_vcpu, regs.id), sizeof own);
+    words[0] = vcpu->regs.x2apic;
+    for (int k = 0; k < 41; k++)
+        words[k + 1] = own[k];
+}
+
+static inline void sillwander_vcpu_from_words(sillwander_vcpu *vcpu, const uint64_t words[48])
+{
+    uint32_t own[41];
+    for (int k = 0; k < 41; k++)
+        own[k] = (uint32_t)words[k + 1];
+    vcpu->regs.x2apic = words[0] != 0;
+    memcpy((char *)vcpu + offsetof(sillwander_vcpu, regs.id), own, sizeof own);
+}
 
 /*
  * ---- Vectors that don't collide

@@ -30,7 +30,8 @@ use vlapic_regs::lvt;
 use vlapic_regs::register;
 use vlapic_regs::vectors;
 
-// The registers of one vCPU's local APIC.
+// The registers of one vCPU's local APIC, laid out in memory as they stand here (a caller in C lends them: crate vcpus).
+#[repr(C)]
 pub struct VirtualApicRegs {
     // x2APIC mode; else xAPIC mode.
     pub x2apic: bool,

@@ -54,7 +54,7 @@ pub enum IcrAnswer {
 
 impl InterruptCommand {
     // The logical destination against this APIC's own LDR and DFR.
-    fn is_dest_field_matched(self, dest: u32) -> DestMatch
+    pub fn is_dest_field_matched(self, dest: u32) -> DestMatch
         ensures { λ r. ⌜ r ≡ destFieldMatched self dest ⌝ }
     {
         if self.x2apic {
@@ -153,7 +153,8 @@ fn deliver(lo: u32, dest: Dest, vcpu_num: usize) -> IcrAnswer
     }
 }
 
-fn send(lo: u32, mask: u64) -> IcrAnswer
+// An empty mask, lowest priority and SMI send nothing.
+pub fn send(lo: u32, mask: u64) -> IcrAnswer
     ensures { λ r. ⌜ r ≡ send lo mask ⌝ }
 {
     if mask == 0 {

@@ -118,7 +118,7 @@ modes (suc (suc (suc (suc (suc (suc (suc zero))))))) h low self all = reserved-s
 modes (suc (suc (suc (suc (suc (suc (suc (suc m)))))))) h low self all = absurd (omega arith)
 
 -- a kind is sent if nothing stops it
-kind-sent : (lo : ℕ) → isSent lo ≡ (not (isReserved lo) && (not (isNoted lo) && (not (isInvalidShorthand lo) && not (isUnsent lo))))
+pub kind-sent : (lo : ℕ) → isSent lo ≡ (not (isReserved lo) && (not (isNoted lo) && (not (isInvalidShorthand lo) && not (isUnsent lo))))
 unfolding going free
 kind-sent lo =
     ap (λ (b : Bool). (eqb (deliveryMode lo) 0 && b) || ((leb 4 (deliveryMode lo) && leb (deliveryMode lo) 6) && not (isToSelfToo lo))) (leb-not 16 (vectorField lo))

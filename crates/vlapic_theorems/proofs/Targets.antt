@@ -92,14 +92,14 @@ common w m a b h =
 
 -- ---- the two models of xAPIC mode
 
-flat-same : (ldr d : ℕ) → ltb (first 8 (λ k. bit (ldr / 0x1000000) k && bit (d % 256) k)) 8 ≡ flat ldr d
+pub flat-same : (ldr d : ℕ) → ltb (first 8 (λ k. bit (ldr / 0x1000000) k && bit (d % 256) k)) 8 ≡ flat ldr d
 flat-same ldr d =
     first-any 8 (λ k. bit (ldr / 0x1000000) k && bit (d % 256) k)
     ∙ any-cut 8 8 (λ k. bit (ldr / 0x1000000) k && bit (d % 256) k) (λ k. bit (ldr / 0x1000000) k && bit d k) (omega arith)
     (λ k l. ap (λ (b : Bool). bit (ldr / 0x1000000) k && b) (bit-cut d 8 k l))
     (λ k l. ap (λ (b : Bool). bit (ldr / 0x1000000) k && b) (bit-above 8 (d % 256) k (mod-lt d (pow-pos 8)) l) ∙ and-false (bit (ldr / 0x1000000) k))
 
-cluster-same : (ldr d : ℕ) → inCluster ldr d ≡ cluster ldr d
+pub cluster-same : (ldr d : ℕ) → inCluster ldr d ≡ cluster ldr d
 cluster-same ldr d = go (eqb (ldr / 0x10000000) (d / 16 % 16))
   where
     go : (b : Bool) → (b && ltb (first 8 (λ k. bit (ldr / 0x1000000 % 16) k && bit (d % 16) k)) 8) ≡ (b && any 4 (λ k. bit (ldr / 0x1000000) k && bit d k))

@@ -1,7 +1,9 @@
 //! The functions of the archives, as include/sillwander.h declares them.
 //!
 //! They are safe to call: it is proved that each takes any words and any numbers, and touches nothing but the words that it is lent. A reference to an
-//! array is the pointer that C passes. The planner's take pointers with a count, and are called with those of slices.
+//! array is the pointer that C passes. The planner's and that of several vCPUs take pointers with a count, and are called with those of slices.
+
+use crate::vcpus::Vcpu;
 
 pub const IOAPIC_WORDS: usize = 32;
 pub const PIC_WORDS: usize = 4;
@@ -78,4 +80,25 @@ unsafe extern "C" {
     pub fn sillwander_plan_check(ranges: *const u16, lines: usize, taken: &[u64; 4], plan: *const u8, bytes: usize) -> u64;
     pub fn sillwander_plan(ranges: *const u16, lines: usize, taken: &[u64; 4], plan: *mut u8, bytes: usize) -> u64;
     pub fn sillwander_plan_shortage(ranges: *const u16, lines: usize, taken: &[u64; 4], set: &mut [u64; 1]) -> u64;
+}
+
+/// What [`sillwander_vcpus_send`] answers: a code, and the vCPUs that an IPI was sent to.
+#[repr(C)]
+pub struct Sent {
+    pub code: u64,
+    pub mask: u64,
+}
+
+// SAFETY: as above. The pointer has `count` records behind it, whose layout is C's (`repr(C)`).
+#[link(name = "vcpus", kind = "static")]
+unsafe extern "C" {
+    pub fn sillwander_vcpus_send(
+        records: *mut Vcpu,
+        count: usize,
+        sender: u64,
+        offset: u64,
+        value: u64,
+        width: u64,
+        active: u64,
+    ) -> Sent;
 }

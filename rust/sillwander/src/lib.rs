@@ -27,6 +27,7 @@ mod code;
 mod locked;
 mod planner;
 mod types;
+mod vcpus;
 mod vioapic;
 mod vlapic;
 mod vpic;
@@ -39,6 +40,7 @@ pub use self::{
         X86AccessWidth, X86GuestPhysAddr, X86GuestPhysAddrRange, X86InterruptVector, X86MsrAddr, X86MsrAddrRange, X86Port,
         X86PortRange, X86VcpuId, X86VlapicError, X86VlapicResult,
     },
+    vcpus::{LocalApicRegisters, SendingRegister, Vcpu, send_ipi},
     vioapic::{EmulatedIoApic, EmulatedIoApic20, IoApicEoi, IoApicEois, IoApicInterrupt, IoApicWritten},
     vlapic::{EmulatedLocalApic, Ipi, IpiKind},
     vpic::{EmulatedPic, PicInterruptClaim, PicRule},

@@ -102,18 +102,7 @@ impl EmulatedLocalApic {
             active_vcpus,
             &mut vcpus,
         ))?;
-        Ok((count(code) == 2).then(|| {
-            let kind = match of_two(code, 0) {
-                0 => IpiKind::Fixed,
-                4 => IpiKind::Nmi,
-                5 => IpiKind::Init,
-                kind => {
-                    debug_assert!(kind == 6);
-                    IpiKind::StartUp
-                }
-            };
-            Ipi { kind, vector: of_two(code, 1), vcpus: vcpus[0] }
-        }))
+        Ok(ipi_of(code, vcpus[0]))
     }
 
     /// The addresses of the register page in xAPIC mode.
@@ -176,6 +165,23 @@ impl Default for EmulatedLocalApic {
         sillwander_lapic_new(&mut words);
         Self { words }
     }
+}
+
+/// The IPI in a done write's code, whose mask stands beside it.
+#[inline]
+pub fn ipi_of(code: u64, vcpus: u64) -> Option<Ipi> {
+    (count(code) == 2).then(|| {
+        let kind = match of_two(code, 0) {
+            0 => IpiKind::Fixed,
+            4 => IpiKind::Nmi,
+            5 => IpiKind::Init,
+            kind => {
+                debug_assert!(kind == 6);
+                IpiKind::StartUp
+            }
+        };
+        Ipi { kind, vector: of_two(code, 1), vcpus }
+    })
 }
 
 /// No register stands outside the page.

@@ -3,4 +3,5 @@
 #define KIT_STDDEF_H
 typedef unsigned long size_t;
 #define NULL ((void *)0)
+#define offsetof(type, member) __builtin_offsetof(type, member)
 #endif

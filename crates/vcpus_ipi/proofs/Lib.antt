@@ -1,0 +1,4 @@
+pub mod Members
+pub mod Destinations
+pub mod Looking
+pub mod Whole

@@ -1,0 +1,4 @@
+pub mod Vcpu
+pub mod Ipi
+pub mod Steps
+pub mod Cases

@@ -1,0 +1,1 @@
+// Theorems about interrupt commands among several vCPUs: see specs/ (the statements) and proofs/.

@@ -1,0 +1,136 @@
+//! Interrupt commands among several vCPUs: each is matched by its own local APIC's registers. The original has none of this: there the sender's decide for all.
+
+use crate::{
+    archives::*,
+    code::done,
+    types::{X86AccessWidth, X86InterruptVector, X86VcpuId, X86VlapicResult},
+    vlapic::{Ipi, ipi_of},
+};
+
+/// The registers of a vCPU's local APIC, in the order of the words of an [`EmulatedLocalApic`](crate::EmulatedLocalApic).
+#[derive(Clone, Copy, Debug, Eq, PartialEq)]
+#[repr(C)]
+#[allow(missing_docs)] // the registers' own names
+pub struct LocalApicRegisters {
+    /// x2APIC mode; else xAPIC mode.
+    pub x2apic: bool,
+    /// Isn't asked: a vCPU's id is its record's place.
+    pub id: u32,
+    pub tpr: u32,
+    pub ppr: u32,
+    pub ldr: u32,
+    pub dfr: u32,
+    pub svr: u32,
+    pub esr: u32,
+    /// Errors since `esr` was last written.
+    pub esr_pending: u32,
+    pub icr_lo: u32,
+    pub icr_hi: u32,
+    pub lvt_cmci: u32,
+    pub lvt_timer: u32,
+    pub lvt_thermal: u32,
+    pub lvt_pmi: u32,
+    pub lvt_lint0: u32,
+    pub lvt_lint1: u32,
+    pub lvt_error: u32,
+    /// Vector v is bit v % 32 of word v / 32, here and below: in service, level-triggered, requested.
+    pub isr: [u32; 8],
+    pub tmr: [u32; 8],
+    pub irr: [u32; 8],
+}
+
+/// One vCPU's record.
+#[derive(Clone, Copy, Debug, Eq, PartialEq)]
+#[repr(C)]
+pub struct Vcpu {
+    /// Its local APIC.
+    pub regs: LocalApicRegisters,
+    /// An NMI waits.
+    pub nmi: bool,
+    /// An INIT waits.
+    pub init: bool,
+    /// A start-up IPI waits.
+    pub startup: bool,
+    /// The vector of the last start-up IPI.
+    pub startup_vector: X86InterruptVector,
+}
+
+impl Vcpu {
+    /// A vCPU whose local APIC is as after a reset, with nothing waiting.
+    pub const fn new(x2apic: bool) -> Self {
+        const MASKED: u32 = 0x10000;
+        Self {
+            regs: LocalApicRegisters {
+                x2apic,
+                id: 0,
+                tpr: 0,
+                ppr: 0,
+                ldr: 0,
+                dfr: 0xffff_ffff,
+                svr: 0xff,
+                esr: 0,
+                esr_pending: 0,
+                icr_lo: 0,
+                icr_hi: 0,
+                lvt_cmci: MASKED,
+                lvt_timer: MASKED,
+                lvt_thermal: MASKED,
+                lvt_pmi: MASKED,
+                lvt_lint0: MASKED,
+                lvt_lint1: MASKED,
+                lvt_error: MASKED,
+                isr: [0; 8],
+                tmr: [0; 8],
+                irr: [0; 8],
+            },
+            nmi: false,
+            init: false,
+            startup: false,
+            startup_vector: 0,
+        }
+    }
+}
+
+/// A register whose write sends IPIs.
+#[derive(Clone, Copy, Debug, Eq, PartialEq, Hash)]
+pub enum SendingRegister {
+    /// The interrupt command register: its low word in xAPIC mode, the whole in x2APIC mode.
+    Icr,
+    /// SELF IPI, in x2APIC mode.
+    SelfIpi,
+}
+
+/// A write of a register that sends, by the vCPU at place `sender`, where those in the mask `active_vcpus` are active. What is sent is in the records of those whom it
+/// reaches: an edge request, or what waits. The answer says whom.
+///
+/// [`OutOfRange`](crate::X86VlapicError::OutOfRange) for more than 64 records or a sender that isn't among them; then
+/// [`InvalidInput`](crate::X86VlapicError::InvalidInput) for a register that can't be written so; then, with the ICR's words stored,
+/// [`InvalidData`](crate::X86VlapicError::InvalidData) for a reserved delivery mode, [`OutOfRange`](crate::X86VlapicError::OutOfRange) for a physical destination above
+/// 63, and [`InvalidData`](crate::X86VlapicError::InvalidData) for a logical one while an active vCPU in xAPIC mode has a reserved DFR model.
+#[inline]
+pub fn send_ipi(
+    vcpus: &mut [Vcpu],
+    sender: X86VcpuId,
+    register: SendingRegister,
+    val: usize,
+    width: X86AccessWidth,
+    active_vcpus: u64,
+) -> X86VlapicResult<Option<Ipi>> {
+    let offset = match register {
+        SendingRegister::Icr => 0x300,
+        SendingRegister::SelfIpi => 0x3f0,
+    };
+    // SAFETY: the pointer has as many records behind it as the number says, and they are lent for writing.
+    let sent = unsafe {
+        sillwander_vcpus_send(
+            vcpus.as_mut_ptr(),
+            vcpus.len(),
+            sender as u64,
+            offset,
+            val as u64,
+            width.size() as u64,
+            active_vcpus,
+        )
+    };
+    Ok(ipi_of(done(sent.code)?, sent.mask))
+}
