@@ -74,7 +74,7 @@ fn put_lines(script: &[u8], out: &mut [u8]) -> usize
 }
 
 // The last line of a run that ended at a place, if it has one.
-fn put_stop(out: &mut [u8], at: usize, stop: Stop, place: usize) -> usize
+pub fn put_stop(out: &mut [u8], at: usize, stop: Stop, place: usize) -> usize
     ensures { λ r. ⌜ Puts (now (out .entry)) at (inRoom (length (now (out .entry))) at (stopText stop place)) (now (out .exit)) r ⌝ }
     ensures { λ r. ⌜ r ≤ at + 80 ⌝ }
 {
