@@ -1,5 +1,6 @@
 """Tests of tools/run, tools/prove and tools/archives: what they print, and their exit statuses. A kit that proves nothing stands in
 for Rattle's, in a repository of its own, so that a test takes no time."""
+import itertools
 import os
 import pathlib
 import platform
@@ -35,11 +36,11 @@ class Repository:
     def __init__(self, folder):
         self.top = folder / "a repository"
         self.kit = folder / "kit"
-        for crate in ("script", "plan", "pair_examples"):
+        for crate in ("script", "states", "plan", "pair_examples"):
             self.write(f"crates/{crate}/src/main.rt", "")
         self.write("crates/utils/src/lib.rt", "")
         self.write("crates.txt", "vioapic_c: types io\nvpic_c: types vpic\nvlapic_c: vlapic\nboard_c: vlapic\nvcpus: vlapic\nplanner_c: planner\n")
-        for tool in ("run", "prove", "archives", "script-text", "script_fields.py", "script_words.py"):
+        for tool in ("run", "prove", "archives", "script-text", "script_fields.py", "script_words.py", "board_words.py", "board_page.py"):
             (self.top / "tools").mkdir(exist_ok=True)
             shutil.copy(TOP / "tools" / tool, self.top / "tools")
         self.answer("")
@@ -82,7 +83,7 @@ def check_starting(checks, folder):
     there = Repository(folder)
     for word in ("--help", "-h"):
         status, out, _ = there.tool("run", word, with_rt=False)
-        checks.same(f"tools/run {word}: status, programs named", (status, "pair_examples plan script" in out), (0, True))
+        checks.same(f"tools/run {word}: status, programs named", (status, "pair_examples plan script states" in out), (0, True))
     for words in ((), ("--print",)):
         status, out, said = there.tool("run", *words)
         checks.same(f"tools/run {' '.join(words)}", (status, out, said.startswith("usage: ")), (2, "", True))
@@ -133,16 +134,17 @@ def check_text(checks, folder):
 
 def check_statuses(checks, folder):
     there = Repository(folder)
-    there.tool("run", "script")
-    for lines, status, words in (
+    for name, (lines, status, words) in itertools.product(("script", "states"), (
         ("", 0, ""),
         ("12 0 -\n13 0 -\n", 0, ""),
         ("12 0 -\nbad 14\n", 1, "the script ended early, at the bad field at offset 14"),
         ("7\n", 1, "the script has more than 65,536 bytes, and nothing of it was performed"),
-    ):
+    )):
+        there.answer("")
+        there.tool("run", name)
         there.answer(lines)
-        found, out, said = there.tool("run", "script")
-        checks.same(f"tools/run script that prints {lines!r}", (found, out), (status, lines))
+        found, out, said = there.tool("run", name)
+        checks.same(f"tools/run {name} that prints {lines!r}", (found, out), (status, lines))
         checks.true(f"{words!r} in {said!r}", said.startswith(f"tools/run: {words}") and said.count("\n") == 1 if words else said == "")
     there.answer("12 0 -\n", 3)
     checks.same("the program's own status", there.tool("run", "script"), (3, "12 0 -\n", ""))
