@@ -14,7 +14,7 @@
  *   three values  16 bits each: bits 15..0, 31..16 and 47..32
  *
  * so that 0 is "done, and nothing to say". A refused call leaves all lent words as they were, but for an interrupt command that is refused for its kind
- * or destination, which has stored its command words.
+ * or destination, which has stored its command words, and for a claim whose vector found no place in a waiting list, which is restored.
  *
  * Flags come in as numbers: any but 0 is up. Other numbers come in at full width, and one that doesn't fit is refused, never cut.
  *
@@ -47,6 +47,7 @@ extern "C" {
 #define SILLWANDER_INVALID_ADDRESS 4  /* an address below the I/O APIC, or a base and size whose sum doesn't fit in 64 bits */
 #define SILLWANDER_OUT_OF_RANGE 5     /* a vector, destination, vCPU count or id, or PIC line that is too large; more than 24 lines to plan */
 #define SILLWANDER_NO_PLAN 8          /* lines that can't each have a vector of their own */
+#define SILLWANDER_LIST_FULL 9        /* a vCPU's waiting list with no place left */
 #define SILLWANDER_TOO_SHORT 11       /* a lent buffer with fewer bytes than what goes into it */
 
 /*
@@ -315,6 +316,45 @@ uint64_t sillwander_plan(const uint16_t *ranges, size_t lines, const uint64_t ta
 /* Why sillwander_plan refuses with 8. Two values, the ends of a range of vectors that has fewer free ones than there are lines confined to it; those lines go
    to set[0], bit k for line k. None where there is a plan, and set[0] stays. Refused: 5, then 2, as above. */
 uint64_t sillwander_plan_shortage(const uint16_t *ranges, size_t lines, const uint64_t taken[4], uint64_t set[1]);
+
+/*
+ * ---- Interrupts that wait for a stopped vCPU: 66 bytes a vCPU
+ *
+ *    0..63   the places of a ring: a vector each
+ *   64       the place of the oldest; another byte stands for its remainder by 64
+ *   65       how many wait; a byte above 64 stands for 64
+ *
+ * 66 zeros are an empty list. The lists of a host's vCPUs lie one behind the other in `bytes` bytes, vCPU k's from byte 66 * k on: there are bytes / 66 vCPUs, and no
+ * more than 64. A host that locks each vCPU by itself lends that vCPU's 66 bytes alone, and calls it vCPU 0. Lists and a pair's words may not overlap.
+ *
+ * Every call refuses an unknown vCPU with 5 before it does anything else.
+ */
+#define SILLWANDER_LIST_BYTES 66
+#define SILLWANDER_LIST_PLACES 64
+
+/* The vCPU's list is empty: what waited is gone. */
+uint64_t sillwander_waiting_new(uint8_t *lists, size_t bytes, size_t vcpu_id);
+
+/* Takes a vector in, behind those that wait. Refused: 5 for a number above 255 too; 9 exactly if 64 wait. */
+uint64_t sillwander_waiting_take(uint8_t *lists, size_t bytes, size_t vcpu_id, uint64_t vector);
+
+/* Delivers the oldest. One value, the vector; none if nothing waits. */
+uint64_t sillwander_waiting_deliver(uint8_t *lists, size_t bytes, size_t vcpu_id);
+
+/* Cancels the oldest of a vector. One value, the vector; none if it doesn't wait. Refused: 5 for a number above 255 too. */
+uint64_t sillwander_waiting_cancel(uint8_t *lists, size_t bytes, size_t vcpu_id, uint64_t vector);
+
+/* One value: how many wait. */
+uint64_t sillwander_waiting_count(const uint8_t *lists, size_t bytes, size_t vcpu_id);
+
+/* One value: the vector that waits behind `place` others; none if so many don't wait. */
+uint64_t sillwander_waiting_peek(const uint8_t *lists, size_t bytes, size_t vcpu_id, size_t place);
+
+/* As sillwander_pic_claim_irq and sillwander_pic_claim_pending_interrupt on the pair's words, and the claimed vector goes into the vCPU's list: the same three values. Refused:
+   5 before the line is raised; 9 if something was claimed and 64 wait: the claim is restored then, as sillwander_pic_restore_interrupt would, and the raised line stays
+   latched. A claim that finds nothing is done, also with a full list. */
+uint64_t sillwander_waiting_claim_irq(uint8_t *lists, size_t bytes, uint64_t pic[4], size_t vcpu_id, uint64_t irq);
+uint64_t sillwander_waiting_claim_pending_interrupt(uint8_t *lists, size_t bytes, uint64_t pic[4], size_t vcpu_id);
 
 #ifdef __cplusplus
 }

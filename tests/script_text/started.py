@@ -39,7 +39,7 @@ class Repository:
         for crate in ("script", "states", "plan", "pair_examples"):
             self.write(f"crates/{crate}/src/main.rt", "")
         self.write("crates/utils/src/lib.rt", "")
-        self.write("crates.txt", "vioapic_c: types io\nvpic_c: types vpic\nvlapic_c: vlapic\nboard_c: vlapic\nvcpus: vlapic\nplanner_c: planner\n")
+        self.write("crates.txt", "vioapic_c: types io\nvpic_c: types vpic\nvlapic_c: vlapic\nboard_c: vlapic\nvcpus: vlapic\nwaiting_c: vpic\nplanner_c: planner\n")
         for tool in ("run", "prove", "archives", "script-text", "script_fields.py", "script_words.py", "board_words.py", "board_page.py"):
             (self.top / "tools").mkdir(exist_ok=True)
             shutil.copy(TOP / "tools" / tool, self.top / "tools")
@@ -183,7 +183,7 @@ def check_archives(checks, folder):
     checks.same("tools/archives", (status, out), (0, f"{there.top}/target/staticlib\n"))
     checks.same("what rt was asked", there.asked(),
                 ["check io planner types vlapic vpic", "staticlib vioapic_c", "staticlib vpic_c", "staticlib vlapic_c", "staticlib board_c",
-                 "staticlib vcpus", "staticlib planner_c"])
+                 "staticlib vcpus", "staticlib waiting_c", "staticlib planner_c"])
     checks.true(f"how long it takes: {said!r}", SLOW in said.splitlines()[0])
     checks.same("lines for crates", said.splitlines()[1:3], ["  utils proved (12 s)", "  io proved (3 s)"])
     checks.same("the second time", (there.tool("archives"), there.asked()), ((0, f"{there.top}/target/staticlib\n", ""), []))

@@ -117,6 +117,8 @@ pub enum Refusal {
     ScriptTooLong,
     // Lines that can't each have a vector of their own.
     NoPlan,
+    // A vCPU's waiting list with no place left.
+    ListFull,
     // A lent buffer with fewer bytes than what goes into it.
     TooShort,
 }
@@ -134,6 +136,7 @@ impl Refusal {
             Refusal::BadField => 6,
             Refusal::ScriptTooLong => 7,
             Refusal::NoPlan => 8,
+            Refusal::ListFull => 9,
             Refusal::TooShort => 11,
         }
     }

@@ -1,7 +1,7 @@
 //! The functions of the archives, as include/sillwander.h declares them.
 //!
 //! They are safe to call: it is proved that each takes any words and any numbers, and touches nothing but the words that it is lent. A reference to an
-//! array is the pointer that C passes. The planner's and that of several vCPUs take pointers with a count, and are called with those of slices.
+//! array is the pointer that C passes. The planner's, the waiting lists' and that of several vCPUs take pointers with a count, and are called with those of slices.
 
 use crate::vcpus::Vcpu;
 
@@ -101,4 +101,17 @@ unsafe extern "C" {
         width: u64,
         active: u64,
     ) -> Sent;
+}
+
+// SAFETY: as above.
+#[link(name = "waiting_c", kind = "static")]
+unsafe extern "C" {
+    pub fn sillwander_waiting_new(lists: *mut u8, bytes: usize, vcpu_id: usize) -> u64;
+    pub fn sillwander_waiting_take(lists: *mut u8, bytes: usize, vcpu_id: usize, vector: u64) -> u64;
+    pub fn sillwander_waiting_deliver(lists: *mut u8, bytes: usize, vcpu_id: usize) -> u64;
+    pub fn sillwander_waiting_cancel(lists: *mut u8, bytes: usize, vcpu_id: usize, vector: u64) -> u64;
+    pub fn sillwander_waiting_count(lists: *const u8, bytes: usize, vcpu_id: usize) -> u64;
+    pub fn sillwander_waiting_peek(lists: *const u8, bytes: usize, vcpu_id: usize, place: usize) -> u64;
+    pub fn sillwander_waiting_claim_irq(lists: *mut u8, bytes: usize, pic: &mut [u64; PIC_WORDS], vcpu_id: usize, irq: u64) -> u64;
+    pub fn sillwander_waiting_claim_pending_interrupt(lists: *mut u8, bytes: usize, pic: &mut [u64; PIC_WORDS], vcpu_id: usize) -> u64;
 }

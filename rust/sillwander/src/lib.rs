@@ -31,6 +31,7 @@ mod vcpus;
 mod vioapic;
 mod vlapic;
 mod vpic;
+mod waiting;
 
 pub use self::{
     board::EmulatedBoard,
@@ -44,4 +45,5 @@ pub use self::{
     vioapic::{EmulatedIoApic, EmulatedIoApic20, IoApicEoi, IoApicEois, IoApicInterrupt, IoApicWritten},
     vlapic::{EmulatedLocalApic, Ipi, IpiKind},
     vpic::{EmulatedPic, PicInterruptClaim, PicRule},
+    waiting::WaitingLists,
 };

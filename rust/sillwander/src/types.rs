@@ -29,6 +29,8 @@ pub enum X86VlapicError {
     OutOfRange = 5,
     /// Lines that can't each have a vector of its own.
     NoPlan = 8,
+    /// A vCPU's waiting list with no place left.
+    ListFull = 9,
     /// A lent buffer with fewer bytes than what goes into it.
     TooShort = 11,
 }
@@ -39,7 +41,7 @@ impl X86VlapicError {
         self as u8
     }
 
-    /// The archives' refusals are 1 to 5, 8 and 11.
+    /// The archives' refusals are 1 to 5, 8, 9 and 11.
     #[inline]
     pub(crate) const fn of_number(number: u8) -> Self {
         match number {
@@ -48,6 +50,7 @@ impl X86VlapicError {
             3 => Self::InvalidData,
             4 => Self::InvalidAddress,
             8 => Self::NoPlan,
+            9 => Self::ListFull,
             11 => Self::TooShort,
             _ => {
                 debug_assert!(number == 5);
@@ -66,6 +69,7 @@ impl core::fmt::Display for X86VlapicError {
             Self::InvalidAddress => "an address below the I/O APIC, or beyond 64 bits",
             Self::OutOfRange => "a destination, vCPU count or vCPU id is too large, or there are too many lines",
             Self::NoPlan => "there aren't enough free vectors for the lines",
+            Self::ListFull => "64 interrupts wait for the vCPU already",
             Self::TooShort => "the lent buffer is too short",
         })
     }

@@ -115,6 +115,12 @@ impl EmulatedPic {
         Self { words }
     }
 
+    /// The words, for the waiting lists' claims.
+    #[inline]
+    pub(crate) fn words(&mut self) -> &mut [u64; PIC_WORDS] {
+        &mut self.words
+    }
+
     /// The command and data port of the master, and of the slave.
     pub fn port_ranges() -> [X86PortRange; 2] {
         let mut ranges = [0; 4];
