@@ -875,6 +875,17 @@ static void modes_of_the_full_profile(void)
     EXPECT(claim(8), three(0x0b, 3, 1));
     CHECK(serving(0) == 0x0c && requested(0) == 4);
 
+    start("special mask mode and special fully nested mode, both needed");
+    initialized(0x11, 1);
+    EXPECT(claim(9), three(0x71, 9, 3));
+    EXPECT(claim(1), three(0x09, 1, 1));
+    EXPECT(claim(8), NONE); /* line 1 is in service, above line 2 */
+    EXPECT(outb(0x20, 0x68), NONE);
+    EXPECT(pending(), NONE);              /* and unmasked, so that it blocks still */
+    EXPECT(outb(0x21, 2), NONE);          /* masked, it doesn't; line 2 in service isn't in its own way */
+    EXPECT(pending(), three(0x70, 8, 2)); /* the claim set the slave's bit alone */
+    CHECK(serving(0) == 6);
+
     start("the poll command with special fully nested mode");
     initialized(0x11, 1);
     EXPECT(claim(9), three(0x71, 9, 3));

@@ -231,7 +231,7 @@ unacknowledged c l inService = cond inService (cond (ltb (l .0) 8) (specificEoi 
 abbrev pub isPolled : Chip → Bool
 isPolled c = c .full && c .poll
 
--- it shows bit 7 with the highest request that counts, or 0 where none does
+-- it shows bit 7 with the highest request that counts, or 0 where none does. D-22: that counts at the read, not at the command before it
 unfoldable pub pollShown : Chip → ℕ
 pollShown c = cond (asks c) (0x80 + pendingLine c) 0
 

@@ -7,8 +7,8 @@ use Rattle.vpic.specs.Pair.{newState, settled, latched, masterClaim, slaveClaim
 use Rattle.vpic_theorems.specs.Rotation.{fullDepartures, FullDeparts, fullCured, FullCured}
 
 pub full-departs : FullDeparts
-unfolding fullDepartures firstRank firstBy opened commanded fed commandRead pulsed counts pendingLine pendingIrq acknowledged acknowledge asks driven newState settled latched masterClaim slaveClaim claimPending claimIrq portWritten writtenAt with without outside
-full-departs = ((refl, refl), ((refl, refl), ((refl, refl), ((refl, refl), ((refl, refl), ((refl, refl), ((refl, refl), ((refl, refl), ((refl, refl), ((refl, refl), ((refl, refl), ((refl, refl), ((refl, refl), ((refl, refl), tt))))))))))))))
+unfolding fullDepartures pollShown firstRank firstBy opened commanded fed commandRead pulsed counts pendingLine pendingIrq acknowledged acknowledge asks driven newState settled latched masterClaim slaveClaim claimPending claimIrq portWritten writtenAt with without outside
+full-departs = ((refl, refl), ((refl, refl), ((refl, refl), ((refl, refl), ((refl, refl), ((refl, refl), ((refl, refl), ((refl, refl), ((refl, refl), ((refl, refl), ((refl, refl), ((refl, refl), ((refl, refl), ((refl, refl), ((refl, refl), tt)))))))))))))))
 
 pub full-cured : FullCured
 unfolding fullCured commandRead readShown pollShown portRead firstRank firstBy opened commanded fed pulsed counts pendingLine pendingIrq acknowledged asks driven newState settled latched masterClaim slaveClaim claimPending claimIrq portWritten writtenAt with without outside

@@ -7,7 +7,7 @@ use lib.Dec.{ltb, eqb}
 use borrow.Author.Tests.{lt-ltb, le-ltb, ltb-true, ltb-false, eqb-true, eqb-false, eq-eqb, ne-eqb}
 use Rattle.utils.specs.Set.{bit, with, without, outside}
 use Rattle.utils.specs.Cases.{and-right-no}
-use Rattle.utils.proofs.Bools.{never, both, and-true, and-false, and-one}
+use Rattle.utils.proofs.Bools.{never, both, not-is, and-true, and-false, and-one}
 use Rattle.utils.proofs.Laws.{bit-without-same, bit-without-other}
 use Rattle.types.specs.declared.PicLine.{PicLine}
 use Rattle.types.specs.declared.PicPlace.{PicPlace}
@@ -18,12 +18,12 @@ use Rattle.vpic_chip.specs.declared.PendingIrq.{PendingIrq}
 use Rattle.vpic_chip.specs.declared.PendingIrq.the-variants.{Irq, Nothing}
 use Rattle.vpic_chip.specs.Registers.{Chip, withInService, withPoll, withNested, placed}
 use Rattle.vpic_chip.specs.Chip.{cascadeIrq, lowestBy, firstOf, isAbove, isAboveAll, isSpecial, isNested, blocks, blocksLine, turned, specificEoi, nonSpecificEoi, commanded, pulsed, counts, pendingLine, Highest, asks, driven, pendingIrq, irqOf, acknowledged, unacknowledged, commandRead, pollShown, polled, readShown}
-use Rattle.vpic_chip.proofs.Laws.{first-top, pended, asks-not}
+use Rattle.vpic_chip.proofs.Laws.{above-each, each-above, first-top, pended, asks-not}
 use Rattle.vpic.specs.declared.PicInterruptClaim.{PicInterruptClaim}
 use Rattle.vpic.specs.declared.PicClaim.the-variants.{Claimed, Nothing as NoClaim}
 use Rattle.vpic.specs.Words.{PicState}
 use Rattle.vpic.specs.Pair.{StateClaim, chips, isCascade, settled, masterClaim, slaveClaim, cascadePlace, placeFrom, pendingPlace, claimAt, claimPending, restored, portRead, portLeft, portWritten, writtenAt}
-use Rattle.vpic_theorems.specs.Modes.{Polls, PollTakes, PollIdle, PollZero, MasterSilent, NothingToClaim, unpolled, PollsBeside, PollsAsClaims, SlavePollsAlone, MaskedLetsBy, MaskedStays, ServedBlocks, TwoLetsItselfBy, NoOtherLetBy, BelowTwoBlocked, ThreeToSevenBlocked, SlaveUnnested, FlagsKept, Computed}
+use Rattle.vpic_theorems.specs.Modes.{Polls, PollTakes, PollIdle, PollZero, MasterSilent, NothingToClaim, unpolled, PollsBeside, PollsAsClaims, SlavePollsAlone, CountsIf, Counted, CountsOnlyIf, MaskedLetsBy, MaskedStays, ServedBlocks, TwoLetsItselfBy, NoOtherLetBy, BelowTwoBlocked, ThreeToSevenBlocked, SlaveUnnested, FlagsKept, Computed}
 use Rattle.vpic_theorems.proofs.Rule.{asks-if-counts, counts-if-asks}
 use Rattle.vpic_theorems.proofs.Restore.{by-claim, master-line, slave-line}
 use Rattle.vpic_theorems.proofs.Ring.{rank-same}
@@ -179,6 +179,19 @@ masked-stays c j r s m = go (ltb n 8) refl
     go true q = bit-without-other (c .«in_service») n j (other (ltb-true n 8 q))
     go false q = refl
 
+-- ---- what counts
+
+pub counts-if : CountsIf
+unfolding counts
+counts-if c k l r m h = ap₂ (λ (x y : Bool). x && y) (ap₂ (λ (x y : Bool). x && not y) r m) (each-above c k (blocksLine c k) l h)
+
+pub counts-only-if : CountsOnlyIf
+unfolding counts
+counts-only-if c k e =
+    let p = and-true (bit (c .request) k && not (bit (c .mask) k)) (isAboveAll c k (blocksLine c k)) e in
+    let q = and-true (bit (c .request) k) (not (bit (c .mask) k)) (p .0) in
+    record { requested = q .0; unmasked = not-is (bit (c .mask) k) (q .1); above = above-each c k (blocksLine c k) (p .1) }
+
 pub served-blocks : ServedBlocks
 unfolding counts above
 served-blocks c j k l s m a n =
@@ -244,6 +257,8 @@ computed = record {
   «special-poll» = refl;
   «nested-poll» = refl;
   «nested-special» = refl;
-  «nested-blocked» = refl;
+  «nested-alone» = refl;
+  «special-alone» = refl;
   «nested-rotated» = refl;
+  «rotated-alone» = refl;
 }

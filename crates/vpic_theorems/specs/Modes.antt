@@ -2,18 +2,16 @@
 -- claims; what each mode lets by, and what it leaves blocked; that a claim restored at once stays exact though line 2 was in service before. Computed examples.
 use Prim.Native.Nat.{ℕ, _+_, _-_, _<_, _≤_}
 use mathlib.Core.Path.{_≡_}
-use mathlib.Core.Bool.{Bool, true, false, cond, _&&_}
+use mathlib.Core.Bool.{Bool, true, false, _&&_}
 use mathlib.Core.List.{List, [], _∷_}
 use lib.Dec.{eqb}
 use Rattle.utils.specs.Set.{bit, without}
-use Rattle.types.specs.declared.PicLine.{PicLine}
-use Rattle.types.specs.Reply.{replyValues}
 use Rattle.vpic_chip.specs.Registers.{Chip, withMask, withInService, withPoll, withNested, withSpecialMask, placed}
-use Rattle.vpic_chip.specs.Chip.{cascadeIrq, lowestBy, isAbove, isSpecial, isNested, nonSpecificEoi, commanded, counts, pendingLine, Highest, acknowledged, pollShown, polled}
+use Rattle.vpic_chip.specs.Chip.{cascadeIrq, lowestBy, isAbove, isSpecial, isNested, blocksLine, nonSpecificEoi, commanded, counts, pendingLine, Highest, acknowledged, pollShown, polled}
 use Rattle.vpic.specs.declared.PicInterruptClaim.{PicInterruptClaim}
 use Rattle.vpic.specs.declared.PicClaim.the-variants.{Claimed, Nothing as NoClaim}
 use Rattle.vpic.specs.Words.{PicState}
-use Rattle.vpic.specs.Pair.{chips, settled, masterRead, claimPending, claimReply, restoreInterrupt, handleRead, portWritten}
+use Rattle.vpic.specs.Pair.{chips, settled, claimPending, restoreInterrupt, handleRead, portWritten}
 use Rattle.vpic.specs.Departures.{pair}
 use Rattle.vpic_theorems.specs.Rotation.{fullChip, fullAt, shownAt}
 
@@ -62,6 +60,22 @@ masked = pair 2 (placed true (fullAt 4 255 0 false)) (fullAt 1 0 0 false)
 
 abbrev pub SlavePollsAlone : Type 0
 SlavePollsAlone = (pollShown (masked .slave) ≡ 0x80) × (claimPending masked .claim ≡ NoClaim)
+
+-- ---- what counts, in one sentence for all modes
+
+-- a line's request counts exactly if it is there, unmasked, and the line is above each that is in its way
+abbrev pub CountsIf : Type 0
+CountsIf =
+    (c : Chip) (k : ℕ) → k < 8 → bit (c .request) k ≡ true → bit (c .mask) k ≡ false → ((j : ℕ) → j < 8 → blocksLine c k j ≡ true → isAbove c k j ≡ true)
+    → counts c k ≡ true
+
+pub record Counted (c : Chip) (k : ℕ) : Type 0 where
+  pub requested : bit (c .request) k ≡ true
+  pub unmasked : bit (c .mask) k ≡ false
+  pub above : (j : ℕ) → j < 8 → blocksLine c k j ≡ true → isAbove c k j ≡ true
+
+abbrev pub CountsOnlyIf : Type 0
+CountsOnlyIf = (c : Chip) (k : ℕ) → counts c k ≡ true → Counted c k
 
 -- ---- special mask mode
 
@@ -120,10 +134,6 @@ pub record FlagsKept : Type 0 where
   -- with the flags of before, which said that automatic EOI mode was off, the restore took line 2 out of service, though line 1's handler still runs
   pub before : restoreInterrupt (claimPending nestedPair .state) (secondSlave true) .state .master .«in_service» ≡ 0
 
--- what is shown of the lists
-abbrev pub claims2 : PicState → List ℕ
-claims2 p = replyValues (claimReply (claimPending p .claim))
-
 pub record Computed : Type 0 where
   -- special mask mode: line 1 is in service and line 3 waits; its handler masks line 1, and line 3 is claimed; without the mode it isn't
   pub special : pendingLine (commanded (fullAt 8 2 2 false) 0x68) ≡ 3
@@ -145,8 +155,10 @@ pub record Computed : Type 0 where
   -- a poll in special mask mode, and one in special fully nested mode
   pub «special-poll» : shownAt (pair 2 (withPoll (withSpecialMask (placed true (fullAt 8 2 2 false)) true) true) (fullAt 0 0 0 false)) 0x20 ≡ 0x83 ∷ []
   pub «nested-poll» : shownAt (pair 2 (withPoll (nestedPair .master) true) (nestedPair .slave)) 0x20 ≡ 0x82 ∷ []
-  -- special fully nested mode with special mask mode: line 2 is in service and masked, so that line 3 counts; and unmasked, so that it doesn't
-  pub «nested-special» : pendingLine (withMask (withSpecialMask (withNested (placed true (fullAt 8 0 4 false)) true) true) 4) ≡ 3
-  pub «nested-blocked» : pendingLine (withSpecialMask (withNested (placed true (fullAt 8 0 4 false)) true) true) ≡ 8
-  -- special fully nested mode with rotation: line 2 lowest and in service, line 1 is the lowest but one and counts; line 2 lets itself by, and no other is below it
-  pub «nested-rotated» : pendingLine (withNested (placed true (fullChip 0 0 2 4 0 false false 2 false)) true) ≡ 1
+  -- special fully nested mode with special mask mode: lines 1 and 2 are in service, line 1 masked, and line 2 asks again: it counts by both modes, and by neither alone
+  pub «nested-special» : pendingLine (withSpecialMask (withNested (placed true (fullAt 4 2 6 false)) true) true) ≡ 2
+  pub «nested-alone» : pendingLine (withNested (placed true (fullAt 4 2 6 false)) true) ≡ 8
+  pub «special-alone» : pendingLine (withSpecialMask (placed true (fullAt 4 2 6 false)) true) ≡ 8
+  -- special fully nested mode with rotation: line 1 lowest, so that 2 is highest; it is in service, and 2 and 3 ask. Without the mode none counts
+  pub «nested-rotated» : pendingLine (withNested (placed true (fullChip 0 0 12 4 0 false false 1 false)) true) ≡ 2
+  pub «rotated-alone» : pendingLine (placed true (fullChip 0 0 12 4 0 false false 1 false)) ≡ 8

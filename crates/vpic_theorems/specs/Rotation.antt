@@ -14,7 +14,7 @@ use Rattle.types.specs.Reply.{Outcome, flag, replyValues}
 use Rattle.types.specs.Departure.{Departure, Shown}
 use Rattle.vpic_priority.specs.Ring.{rank}
 use Rattle.vpic_chip.specs.Registers.{Chip, registers, plainRegisters, withRequest, withStep, withReadIsr, withLowest, withNested, asFull, placed}
-use Rattle.vpic_chip.specs.Chip.{cascadeIrq, lowestBy, isSpecial, isNested, isPolled, opened, commanded, fed, commandRead, pulsed, pendingLine, asks, pendingIrq, pendingReply, acknowledged, acknowledge as chipAcknowledge, unacknowledged}
+use Rattle.vpic_chip.specs.Chip.{cascadeIrq, lowestBy, isSpecial, isNested, isPolled, opened, commanded, fed, commandRead, pulsed, pendingLine, asks, pendingIrq, pendingReply, acknowledged, acknowledge as chipAcknowledge, unacknowledged, pollShown}
 use Rattle.vpic.specs.declared.PicRule.the-variants.{Cascade, Full}
 use Rattle.vpic.specs.declared.PicInterruptClaim.{PicInterruptClaim}
 use Rattle.vpic.specs.declared.PicClaim.{PicClaim}
@@ -491,6 +491,8 @@ fullDepartures =
     ∷ record { number = 20; computed = flag (commanded (fullWith 0 0 true false true) 0x11 .«auto_rotation») ∷ []; ours = 0 ∷ []; text = 1 ∷ [] }
     -- special fully nested mode, and an ICW1 that announces ICW4
     ∷ record { number = 21; computed = flag (commanded (withNested (fullWith 0 0 true false false) true) 0x11 .nested) ∷ []; ours = 0 ∷ []; text = 1 ∷ [] }
+    -- a poll is given while line 3 waits, and line 1 asks before the read
+    ∷ record { number = 22; computed = pollShown (pulsed (commanded (fullAt 8 0 0 false) 0x0c) (line 1)) ∷ []; ours = 0x81 ∷ []; text = 0x83 ∷ [] }
     ∷ []
 
 abbrev pub FullDeparts : Type 0
