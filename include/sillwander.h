@@ -235,6 +235,7 @@ uint64_t sillwander_board_handle_write(uint64_t ioapic[32], uint64_t apic[48], u
 /* A message: the request of a device without a line. Answers 0. A vector below 16 is dropped, and noted in word 8 (bit 6, receive illegal vector). Refused: 5 for a vector above 255. */
 uint64_t sillwander_board_receive(uint64_t apic[48], uint64_t vector, uint64_t level_triggered);
 
+/*
  * ---- Several vCPUs: an array of records
  *
  * One record a vCPU, up to 64, and a vCPU's id is its record's place in the array; the `id` of its registers isn't asked. A record has the registers of

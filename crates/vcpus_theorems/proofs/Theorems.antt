@@ -37,7 +37,7 @@ use Rattle.vcpus_ipi.specs.Steps.{sentReply, Left}
 use Rattle.reply_code.proofs.Codes.{code-same}
 use Rattle.vcpus_ipi.proofs.Whole.{both-false}
 use Rattle.vcpus_ipi.proofs.Members.{one-of, cluster-16}
-use Rattle.vcpus_theorems.specs.Statements.{maskOf, isSentTo, before, SameCount, Untouched, SenderKept, Delivered, Goes, Reaches, FlatNamed, FlatMatchable, ClusterNamed, ClusterMatchable, commandStored, RefusedKept, AnswersWhole}
+use Rattle.vcpus_theorems.specs.Statements.{maskOf, isSentTo, before, SameCount, Untouched, SenderKept, Delivered, DeliveredToSender, Goes, Reaches, FlatNamed, FlatMatchable, ClusterNamed, ClusterMatchable, commandStored, RefusedKept, AnswersWhole}
 
 -- ---- all places
 
@@ -117,24 +117,28 @@ untouched xs a i l h e = go (sendIpi xs a) (way xs a) e
     go o (carried w s) b =
         carried-at xs a i l ∙ other-becomes (a .sender .0) (isIcr a) (command xs a) (answer xs a) i (getD xs i newVcpu) h ∙ spared (answer xs a) i (getD xs i newVcpu) b
 
+-- whoever is in the mask of an IPI received it
+got : (ans : IcrAnswer) (own : Bool) (kind vector mask i : ℕ) (r : Vcpu) → bit mask i ≡ true → ipiReply ans ≡ reply.Three kind vector mask
+    → answering ans own i r ≡ received kind (record { 0 = vector }) r
+got Nothing own kind vector mask i r b q = let z : _≡_ {A = ℕ} 0 1 = cc in absurd (omega arith)
+got SendIllegalVector own kind vector mask i r b q = let z : _≡_ {A = ℕ} 0 1 = cc in absurd (omega arith)
+got (Ipi k v m) own kind vector mask i r b q =
+    let km : k ≡ kind = cc in
+    let vm : v .0 ≡ vector = cc in
+    let mm : m ≡ mask = cc in
+    rw (mm, b, km, ← vm)
+got (Refused why) own kind vector mask i r b q = let z : _≡_ {A = ℕ} 0 1 = cc in absurd (omega arith)
+
 pub delivered : Delivered
 delivered xs a kind vector mask i e l h b = go (sendIpi xs a) (way xs a) e
   where
-    got : (ans : IcrAnswer) (r : Vcpu) → ipiReply ans ≡ reply.Three kind vector mask → answering ans false i r ≡ received kind (record { 0 = vector }) r
-    got Nothing r q = let z : _≡_ {A = ℕ} 0 1 = cc in absurd (omega arith)
-    got SendIllegalVector r q = let z : _≡_ {A = ℕ} 0 1 = cc in absurd (omega arith)
-    got (Ipi k v m) r q =
-        let km : k ≡ kind = cc in
-        let vm : v .0 ≡ vector = cc in
-        let mm : m ≡ mask = cc in
-        rw (mm, b, km, ← vm)
-    got (Refused why) r q = let z : _≡_ {A = ℕ} 0 1 = cc in absurd (omega arith)
-
     go : (o : Outcome (List Vcpu)) → Way xs a o → o .reply ≡ reply.Three kind vector mask → getD (o .state) i newVcpu ≡ received kind (record { 0 = vector }) (getD xs i newVcpu)
     go o (outside w) q = let z : _≡_ {A = ℕ} 0 1 = cc in absurd (omega arith)
     go o (unlisted w s) q = let z : _≡_ {A = ℕ} 0 1 = cc in absurd (omega arith)
     go o (carried w s) q =
-        carried-at xs a i l ∙ other-becomes (a .sender .0) (isIcr a) (command xs a) (answer xs a) i (getD xs i newVcpu) h ∙ got (answer xs a) (getD xs i newVcpu) q
+        carried-at xs a i l
+        ∙ other-becomes (a .sender .0) (isIcr a) (command xs a) (answer xs a) i (getD xs i newVcpu) h
+        ∙ got (answer xs a) false kind vector mask i (getD xs i newVcpu) b q
 
 -- ---- refusals
 
@@ -202,6 +206,18 @@ sender-kept xs a e = let t = look (sendIpi xs a) (way xs a) e in record { lo = t
             ),
           ),
         )
+
+pub delivered-to-sender : DeliveredToSender
+delivered-to-sender xs a kind vector mask e b = go (sendIpi xs a) (way xs a) e
+  where
+    go : (o : Outcome (List Vcpu)) → Way xs a o → o .reply ≡ reply.Three kind vector mask
+        → getD (o .state) (a .sender .0) newVcpu ≡ received kind (record { 0 = vector }) (stored (isIcr a) (command xs a) (before xs (a .sender .0)))
+    go o (outside w) q = let z : _≡_ {A = ℕ} 0 1 = cc in absurd (omega arith)
+    go o (unlisted w s) q = let z : _≡_ {A = ℕ} 0 1 = cc in absurd (omega arith)
+    go o (carried w s) q =
+        carried-at xs a (a .sender .0) (sender-in (length xs) a w)
+        ∙ own-becomes (a .sender .0) (isIcr a) (command xs a) (answer xs a) (before xs (a .sender .0))
+        ∙ got (answer xs a) true kind vector mask (a .sender .0) (stored (isIcr a) (command xs a) (before xs (a .sender .0))) b q
 
 -- ---- whom it reaches
 

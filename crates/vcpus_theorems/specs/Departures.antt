@@ -1,5 +1,5 @@
 -- Where interrupt commands among several vCPUs depart from the SDM: for each departure the smallest records and call, what the definitions give there, and what the text
--- asks for instead. D-72, D-73, D-75, D-77, D-78, D-80, D-82, D-84 and D-89 hold here too (crate vlapic_theorems shows them); D-65 and D-66 don't.
+-- asks for instead. D-70, D-72, D-73, D-75 to D-78, D-80, D-82, D-84 and D-89 hold here too (crate vlapic_theorems shows them); D-65 and D-66 don't.
 -- Intel SDM volume 3, the APIC chapter: interrupt command register (delivery modes INIT and start-up); and the chapter on multiple-processor management. The text's
 -- processors are running.
 use Prim.Native.Nat.{ℕ}

@@ -69,6 +69,14 @@ Delivered =
     → bit mask i ≡ true
     → after xs a i ≡ received kind (record { 0 = vector }) (before xs i)
 
+-- and so has the sender's, if it is in the mask: with its command stored first, where that was written to the ICR
+abbrev pub DeliveredToSender : Type 0
+DeliveredToSender =
+    (xs : List Vcpu) (a : Ask) (kind vector mask : ℕ)
+    → sendIpi xs a .reply ≡ Three kind vector mask
+    → bit mask (a .sender .0) ≡ true
+    → after xs a (a .sender .0) ≡ received kind (record { 0 = vector }) (stored (isIcr a) (command xs a) (before xs (a .sender .0)))
+
 -- ---- whom it reaches
 
 -- a command whose kind is sent, and that nothing refuses
