@@ -50,6 +50,7 @@ fn main() -> Result<(), X86VlapicError> {
     lists.take(0, 0x41)?;
     assert_eq!(lists.peek(0, 63)?, Some(0x41));
     lists.clear(0)?;
+    lists.clear(1)?;
     assert_eq!(lists, WaitingLists::new());
     assert_eq!(X86VlapicError::ListFull.number(), 9);
     println!("the waiting lists answer as they should");

@@ -20,7 +20,7 @@ use Rattle.waiting.specs.Lists as lists
 use Rattle.waiting.specs.Lists.{Lists, isKnown, listAt}
 use Rattle.waiting_claims.specs.Claims.{Host, host, claimIrqFor, claimPendingFor}
 
--- every call of the lists, with any arguments; and meanwhile the pair may become any other, by its own calls
+-- every call of the lists but `new`, which drops what waits, with any arguments; and meanwhile the pair may become any other, by its own calls
 pub data Call : Type 0 where
   take-in : VcpuId → Vector → Call
   deliver : VcpuId → Call

@@ -23,7 +23,7 @@ use Rattle.waiting_theorems.specs.Calls.{Call, claim-irq, claim-pending-
 
 -- ---- nothing is lost
 
--- what waited and what was taken in is what was delivered, what was cancelled and what waits, each counted from the calls; any calls, any lists
+-- what waited and what was taken in is what was delivered, what was cancelled and what waits, each counted from the calls; any lists, and any calls but `new`
 abbrev pub Conserved : Type 0
 Conserved =
     (k : VcpuId) (h : Host) (cs : List Call)
@@ -99,7 +99,7 @@ RefusedIrqLatched =
 
 -- ---- apart
 
--- without claims of the pair, a vCPU's answers are those of its own calls alone, whatever is called for others and whatever waits for them
+-- without claims of the pair, a vCPU's answers are those of its own calls alone, whatever is called for others
 abbrev pub Apart : Type 0
 Apart = (k : VcpuId) (h : Host) (cs : List Call) → NoClaims cs → answersTo k h cs ≡ answersTo k h (only k cs)
 

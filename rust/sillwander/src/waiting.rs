@@ -13,6 +13,7 @@ const LIST_BYTES: usize = 66;
 /// The waiting lists of up to `VCPUS` vCPUs, of which there are 64 at most.
 ///
 /// Every call refuses a vCPU that has no list with [`OutOfRange`](crate::X86VlapicError::OutOfRange), before it does anything else.
+/// Lists are equal if their bytes are: what waits may be the same, and its places in the ring others.
 ///
 /// ```
 /// # use sillwander::{WaitingLists, X86VlapicError};
