@@ -8,6 +8,10 @@
 
 #[path = "../rust/sillwander/src/archives.rs"]
 mod archives;
+// What the declarations name of the crate.
+mod vcpus {
+    pub use sillwander::Vcpu;
+}
 
 use crate::host::Host;
 use archives::*;

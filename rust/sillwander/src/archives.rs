@@ -3,7 +3,7 @@
 //! They are safe to call: it is proved that each takes any words and any numbers, and touches nothing but the words that it is lent. A reference to an
 //! array is the pointer that C passes. The planner's, the waiting lists' and that of several vCPUs take pointers with a count, and are called with those of slices.
 
-use crate::vcpus::Vcpu;
+use super::vcpus::Vcpu;
 
 pub const IOAPIC_WORDS: usize = 32;
 pub const PIC_WORDS: usize = 4;
