@@ -84,8 +84,8 @@ def page(name, steps, others, end):
         '<meta name="viewport" content="width=device-width, initial-scale=1">',
         f"<title>{escape(title)}</title>", f"<style>\n{STYLE}</style>", "</head>", "<body>", f"<h1>{escape(title)}</h1>",
         f"<p>{escape(about(len(steps), len(shown), others, end))}</p>",
-        '<p class="faint">A line asks at its entry of the I/O APIC. The entry is in flight while its vector is requested and in service; the EOI ends'
-        " it. A request is accepted if its class, the vector&#8217;s first digit, is above that of PPR.</p>",
+        '<p class="faint">A line asks at its entry of the I/O APIC. A level-triggered entry is in flight while its vector is requested or in service; the EOI'
+        " ends it. The highest request is accepted if its class, the vector&#8217;s first digit, is above that of PPR.</p>",
         "<h2>At the end</h2>", *stands(boards[-1]), "<h2>Timeline</h2>", *legends(),
         '<div class="scroll" tabindex="0" role="region" aria-label="timeline">', "<table>",
         *head(shown, first), *(line for group in (priorities, entries, vectors) for line in group(boards)),

@@ -22,7 +22,7 @@ v31 = record { 0 = 0x31 }
 abbrev pub v51 : Vector
 v51 = record { 0 = 0x51 }
 
--- ---- a held line of u starves every vector below u: on any board, whatever the calls and however many, guest's rule or no, so long as the line is held and no call asks for u
+-- ---- a held line of u starves every vector below u: on any board that keeps its rules and tells its EOIs, whatever the calls and however many, guest's rule or no, so long as the line is held and no call asks for u
 -- edge-triggered
 abbrev pub Starves : Type 0
 Starves =

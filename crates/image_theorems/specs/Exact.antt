@@ -25,6 +25,6 @@ WrittenIsRead = (words : List ℕ) → isRead (imageOf words) ≡ true
 abbrev pub ReadBack : Type 0
 ReadBack = (words base : List ℕ) → Fits words → wordsIn (imageOf words) base ≡ carried format words base
 
--- bytes that have the format are the image of the words in them: so that no two images have the same words, and 10 is answered for whatever no words write
+-- bytes that have the format are the image of the words in them: so that no two images have the same words, and what no words write hasn't the format
 abbrev pub ReadIsImage : Type 0
 ReadIsImage = (s base : List ℕ) → ((i : ℕ) → getD s i 0 < 256) → length base ≡ 84 → isRead s ≡ true → imageOf (wordsIn s base) ≡ s
