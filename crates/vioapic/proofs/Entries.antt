@@ -20,7 +20,7 @@ use Rattle.vioapic_entry.specs.declared.Routed.{Routed}
 use Rattle.vioapic_entry.specs.declared.Routed.the-variants.{NotRouted, Interrupt}
 use Rattle.vioapic.specs.State.{IoApicState, view}
 use Rattle.vioapic.specs.Table.{noEntry, routing, withFlight, noted, put, routeAt, entryAt}
-use Rattle.vioapic.specs.Inside.{Keeps, putFlag, parts, NoneDeferred, Quiet, forgetting}
+use Rattle.vioapic.specs.Inside.{Keeps, putFlag, parts, NoneDeferred, Quiet, Flown, forgetting}
 use Rattle.vioapic.proofs.Words.{view-long, word-at, deferred-at, input-at, word-is, deferred-is, input-is, flight-is, still, then, so-that}
 
 -- ---- an entry that is put
@@ -342,30 +342,50 @@ module _ (l : List ℕ) (g word x : ℕ) (at : word ≡ entryAt (view l) g .word
 -- the register takes a low word
 module _ (l w : List ℕ) (g word x y : ℕ) (a : Bool) (long : length l ≡ 32) (here : g < 24) (at : word ≡ entryAt (view l) g .word) (flies : a ≡ remoteIrr word) where
   module _ (new : y ≡ replaceLow word (withoutStatus x)) where
-    pub laid-level : (b : Bool) (z : ℕ) → a ≡ true → b ≡ isLevel x → b ≡ true → z ≡ cond (remoteIrr word) (withRemoteIrr (replaceLow word (withoutStatus x))) (replaceLow word (withoutStatus x))
+    pub laid-level : (b : Bool) (z : ℕ) → not a ≡ false → b ≡ isLevel x → not b ≡ false → z ≡ cond (remoteIrr word) (withRemoteIrr (replaceLow word (withoutStatus x))) (replaceLow word (withoutStatus x))
         → w ≡ set (set l g y) g z → Keeps l w (view w ≡ put (view l) g (withWord (entryAt (view l) g) (replaceLow20 word x)))
     laid-level b z f v h q r =
-        let k : isLevel x ≡ true = sym v ∙ h in
+        let k : isLevel x ≡ true = sym v ∙ not-false b h in
         let n : z ≡ replaceLow20 word x = q ∙ flight-level word x k in
         let i : remoteIrr z ≡ remoteIrr word = ap remoteIrr n ∙ irr-low20 word x ∙ ap (λ (c : Bool). c && remoteIrr word) k in
         rw (r ∙ set-set l g y z, ← n) (so-that (word-is l g long here z) (λ p. p ∙ put-same (view l) g (withWord (entryAt (view l) g) z) (i ∙ ap remoteIrr at)))
 
-    pub laid-edge : (b : Bool) → a ≡ true → b ≡ isLevel x → b ≡ false → w ≡ putFlag (set l g y) 30 g false → Keeps l w (view w ≡ put (view l) g (withWord (entryAt (view l) g) (replaceLow20 word x)))
-    laid-edge b f v h r =
-        so-that (ground-flying l w g long here word y at (sym flies ∙ f) (irr-low-of y word (withoutStatus x) new) r)
-        (λ p. p ∙ ap (λ (n : ℕ). put (view l) g (withWord (entryAt (view l) g) n)) (new ∙ flight-edge word x (sym v ∙ h)))
+    -- or the bit is set where it lies
+    pub laid-again : (b : Bool) (k z : ℕ) → not a ≡ false → b ≡ isLevel x → not b ≡ false → k ≡ g → z ≡ withRemoteIrr (getD (set l g y) k 0) → w ≡ set (set l g y) k z
+        → Keeps l w (view w ≡ put (view l) g (withWord (entryAt (view l) g) (replaceLow20 word x)))
+    laid-again b k z f v h e q r =
+        let i : remoteIrr word ≡ true = sym flies ∙ not-false a f in
+        let n : getD (set l g y) k 0 ≡ replaceLow word (withoutStatus x) = ap (λ (j : ℕ). getD (set l g y) j 0) e ∙ getD-set-same l g y 0 (omega arith) ∙ new in
+        laid-level b z f v h (rw i (q ∙ ap withRemoteIrr n)) (r ∙ ap (λ (j : ℕ). set (set l g y) j z) e)
 
-    pub laid-still : a ≡ false → w ≡ set l g y → Keeps l w (view w ≡ put (view l) g (withWord (entryAt (view l) g) (replaceLow20 word x)))
+    pub laid-none : (b : Bool) → not a ≡ false → (b ≡ true → NoneDeferred (view (set l g y))) → b ≡ true → Flown word (entryAt (view l) g)
+    laid-none b f none h =
+        let e : entryAt (view (set l g y)) g ≡ withWord (entryAt (view l) g) y =
+        ap (λ (s : IoApicState). entryAt s g) (word-is l g long here y .is) ∙ getD-set-same (view l .entries) g (withWord (entryAt (view l) g) y) noEntry (omega (arith, view-long l)) in
+        record { flying = sym flies ∙ not-false a f; undeferred = sym (ap (λ (z : Entry). z .«pending_level») e) ∙ none h g here }
+
+    pub laid-edge : (b : Bool) → not a ≡ false → b ≡ isLevel x → not b ≡ true → w ≡ putFlag (set l g y) 30 g false → Keeps l w (view w ≡ put (view l) g (withWord (entryAt (view l) g) (replaceLow20 word x)))
+    laid-edge b f v h r =
+        so-that (ground-flying l w g long here word y at (sym flies ∙ not-false a f) (irr-low-of y word (withoutStatus x) new) r)
+        (λ p. p ∙ ap (λ (n : ℕ). put (view l) g (withWord (entryAt (view l) g) n)) (new ∙ flight-edge word x (sym v ∙ not-true b h)))
+
+    pub laid-still : not a ≡ true → w ≡ set l g y → Keeps l w (view w ≡ put (view l) g (withWord (entryAt (view l) g) (replaceLow20 word x)))
     laid-still f r =
-        so-that (ground-still l w g long here word y at (sym flies ∙ f) (irr-low-of y word (withoutStatus x) new) r)
-        (λ p. p ∙ ap (λ (n : ℕ). put (view l) g (withWord (entryAt (view l) g) n)) (new ∙ flight-still word x (sym flies ∙ f)))
+        so-that (ground-still l w g long here word y at (sym flies ∙ not-true a f) (irr-low-of y word (withoutStatus x) new) r)
+        (λ p. p ∙ ap (λ (n : ℕ). put (view l) g (withWord (entryAt (view l) g) n)) (new ∙ flight-still word x (sym flies ∙ not-true a f)))
+
+pub unflown : (word : ℕ) (e : Entry) → false ≡ true → Flown word e
+unflown word e h = never h refl
 
 -- and what was deferred is forgotten
 module _ (l : List ℕ) (g word x : ℕ) where
-  pub forgot-none : (b : Bool) → g < 24 → (b ≡ true → NoneDeferred (view l)) → b ≡ true → Keeps l l (view l ≡ put (view l) g (forgetting word (entryAt (view l) g) x))
-  forgot-none b i none h =
+  pub forgot-unset : entryAt (view l) g .«pending_level» ≡ false → Keeps l l (view l ≡ put (view l) g (forgetting word (entryAt (view l) g) x))
+  forgot-unset none =
       let e : Entry = entryAt (view l) g in
-      still l (sym (put-back (view l) g (forgetting word e x) (both (λ (z : Entry). z ≡ e) (keepsDeferred word x) e (withDeferred e false) refl (ap (withDeferred e) (sym (none h g i))))))
+      still l (sym (put-back (view l) g (forgetting word e x) (both (λ (z : Entry). z ≡ e) (keepsDeferred word x) e (withDeferred e false) refl (ap (withDeferred e) (sym none)))))
+
+  pub forgot-none : (b : Bool) → g < 24 → (b ≡ true → NoneDeferred (view l)) → b ≡ true → Keeps l l (view l ≡ put (view l) g (forgetting word (entryAt (view l) g) x))
+  forgot-none b i none h = forgot-unset (none h g i)
 
   module _ (a : Bool) (is : a ≡ keepsDeferred word x) where
     forgets : (b : Bool) → a ≡ b → forgetting word (entryAt (view l) g) x ≡ cond b (entryAt (view l) g) (withDeferred (entryAt (view l) g) false)
@@ -475,3 +495,13 @@ module _ (l u : List ℕ) (g x word : ℕ) (here : g < 24) (at : word ≡ entryA
       pub low20-unsent : b ≡ false → Keeps l w (routing (view w) NotRouted ≡ routeAt (view l) g (writeLow20 (entryAt (view l) g) x))
       low20-unsent h =
           steps l w g (storeLow20 (entryAt (view l) g) x) NotRouted (writeLow20 (entryAt (view l) g) x) stored (low20-quiet (entryAt (view l) g) x (owing false h))
+
+-- in flight as before, with nothing to be forgotten
+pub low20-stayed : (l u : List ℕ) (g x word : ℕ) → g < 24 → word ≡ entryAt (view l) g .word → (b : Bool)
+    → Keeps l u (view u ≡ put (view l) g (withWord (entryAt (view l) g) (replaceLow20 word x))) → (b ≡ true → Flown word (entryAt (view l) g)) → b ≡ true
+    → Keeps l u (routing (view u) NotRouted ≡ routeAt (view l) g (writeLow20 (entryAt (view l) g) x))
+low20-stayed l u g x word here at b laid is h =
+    let f : Entry = withWord (entryAt (view l) g) (replaceLow20 word x) in
+    let none : entryAt (view u) g .«pending_level» ≡ false =
+    ap (λ (s : IoApicState). entryAt s g .«pending_level») (laid .is) ∙ ap (λ (e : Entry). e .«pending_level») (at-put (view l) g f (view-long l) here) ∙ is h .undeferred in
+    low20-flown l u g x word here at true (sym (is h .flying)) laid u (forgot-unset u g word x none) refl

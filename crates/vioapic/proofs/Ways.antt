@@ -135,6 +135,13 @@ version-held l r e = e ∙ ap versionOf (version-at l)
 pub entry-word-range : (sel : ℕ) → isEntryWord sel ≡ true → (0x10 ≤ sel) × (sel ≤ 0x3f)
 entry-word-range sel e = let p = and-true (leb 0x10 sel) (leb sel 0x3f) e in (leb-true 0x10 sel (p .0), leb-true sel 0x3f (p .1))
 
+-- the same by the selector's half
+pub half-from : (sel : ℕ) → isEntryWord sel ≡ true → 8 ≤ sel / 2
+half-from sel e = omega (arith, entry-word-range sel e .0)
+
+pub entry-by-half : (sel g : ℕ) → isEntryWord sel ≡ true → g ≡ entryOf sel → sel / 2 - 8 ≡ g
+entry-by-half sel g e q = omega (arith, entry-word-range sel e .0, q)
+
 pub word-below : (sel : ℕ) → sel < 0x10 → false ≡ isEntryWord sel
 word-below sel h = rw (lt-leb 0x10 sel h)
 

@@ -1,13 +1,13 @@
 -- What private functions promise of the words. No promise of a public call uses a definition of this file.
 use Prim.Native.Nat.{ℕ, _+_, _*_, _/_, _%_, _^_, _<_}
-use mathlib.Core.Bool.{Bool, false, cond}
+use mathlib.Core.Bool.{Bool, true, false, cond}
 use mathlib.Core.List.{List}
 use mathlib.Core.Path.{_≡_}
 use lib.ListN.{getD, set}
 use Rattle.utils.specs.Set.{with, marked}
 use Rattle.types.specs.declared.Vector.{Vector}
 use Rattle.vioapic_entry.specs.Answers.{isRouted}
-use Rattle.vioapic_entry.specs.Redirection.{withDeferred, awaits, endEntry20, keepsDeferred}
+use Rattle.vioapic_entry.specs.Redirection.{remoteIrr, withDeferred, awaits, endEntry20, keepsDeferred}
 use Rattle.vioapic_entry.specs.declared.Entry.{Entry}
 use Rattle.vioapic.specs.State.{IoApicState, spare}
 use Rattle.vioapic.specs.Table.{Ending, ending, entryAt, withEntries, put, everyAnswer}
@@ -38,6 +38,11 @@ NoneDeferred s = (g : ℕ) → g < 24 → entryAt s g .«pending_level» ≡ fal
 pub record Quiet (e : Entry) : Type 0 where
   pub undeferred : e .«pending_level» ≡ false
   pub down : e .«input_level» ≡ false
+
+-- an entry in flight, its register `word`, with nothing deferred
+pub record Flown (word : ℕ) (e : Entry) : Type 0 where
+  pub flying : remoteIrr word ≡ true
+  pub undeferred : e .«pending_level» ≡ false
 
 -- what was deferred, after a low word was written over the register w
 abbrev pub forgetting : ℕ → Entry → ℕ → Entry

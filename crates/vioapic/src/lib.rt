@@ -29,7 +29,7 @@ ghost use Rattle.vioapic.specs.State.{view, newWords};
 ghost use Rattle.vioapic.specs.Table.{isVersion20, entryAt, put, routing, routeAt, ending, firstAwaiting, endOfEntry, everyAnswer, endOfEvery, vectorOfEntry};
 ghost use Rattle.vioapic.specs.Registers.{isEntryWord, isLow, entryOf, versionWord, readFixed, readLow, readSelected, writing, writtenSend, writeSelected, readAt, writtenBy, writeEoi, writeAt};
 ghost use Rattle.vioapic.specs.IoApic.{goodWidth, fits, versionNumber, versionOf, isVersion, chipAt, newDefault, Leaves, Wrote, Makes, createdVersion, vectorForGsi, addressRange, assertGsi, setGsiLevel, endOfInterrupt, handleRead, handleWriting};
-ghost use Rattle.vioapic.specs.Inside.{Keeps, putFlag, withLow, NoneDeferred, Quiet, forgetting, everyEnd, endNext, everyEnding, clearedIn, sentIn};
+ghost use Rattle.vioapic.specs.Inside.{Keeps, putFlag, withLow, NoneDeferred, Quiet, Flown, forgetting, everyEnd, endNext, everyEnding, clearedIn, sentIn};
 
 pub const IOAPIC_BASE: u64 = 0xfec0_0000;
 
@@ -759,20 +759,29 @@ fn write_low(words: &mut [u64; 32], g: usize, value: u32)
     }
 }
 
-// Version 0x20: the register takes a low word. First as one that isn't in flight, whatever it was: so it is one store of the lower half.
-fn lay(words: &mut [u64; 32], g: usize, word: u64, value: u32)
-    requires { ⌜ (g < 24) × (word ≡ entryAt (view (now words)) g .word) ⌝ }
-    ensures { λ _. ⌜ Keeps (now (words .entry)) (now (words .exit)) (view (now (words .exit)) ≡ put (view (now (words .entry))) g (withWord (entryAt (view (now (words .entry))) g) (replaceLow20 word value))) ⌝ }
+// Version 0x20: the register takes a low word. First as one that isn't in flight, whatever it was: so it is one store of the lower half. `word` is the register before.
+// Answers whether that is all, as mostly of an entry in flight: it stays in flight, and nothing is there to be forgotten.
+fn lay(words: &mut [u64; 32], selected: u32, g: usize, word: u64, value: u32) -> bool
+    requires { ⌜ (g < 24) × (isEntryWord selected ≡ true) × (g ≡ entryOf selected) × (word ≡ entryAt (view (now words)) g .word) ⌝ }
+    ensures { λ r. ⌜ Keeps (now (words .entry)) (now (words .exit)) (view (now (words .exit)) ≡ put (view (now (words .entry))) g (withWord (entryAt (view (now (words .entry))) g) (replaceLow20 word value))) × (r ≡ true → Flown word (entryAt (view (now (words .entry))) g)) ⌝ }
 {
     seen(&*words);
     words[g] = vioapic_entry::replace_resting(word, value);
-    if vioapic_entry::remote_irr(word) {
-        if vioapic_entry::is_level(value as u64) {
-            words[g] = vioapic_entry::replace_level(word, value);
-            return;
-        }
-        set_flag(&mut *words, IN_FLIGHT, g, false);
+    if !vioapic_entry::remote_irr(word) {
+        return false;
     }
+    if !vioapic_entry::is_level(value as u64) {
+        set_flag(&mut *words, IN_FLIGHT, g, false);
+        return false;
+    }
+    if none_deferred(&*words) {
+        // Remote IRR again, where it lies. The entry is named by the selector: where the compiler sees that it is the one just stored, it puts the register together anew.
+        let again = selected as usize / 2 - 8;
+        words[again] = vioapic_entry::with_remote_irr(words[again]);
+        return true;
+    }
+    words[g] = vioapic_entry::replace_level(word, value);
+    false
 }
 
 // What was deferred is forgotten, unless the low word that was there is written, unmasked. `word` is the register before.
@@ -818,12 +827,14 @@ fn is_quiet(words: &[u64; 32], g: usize) -> bool
 
 // And the entry is sent if it is owed that. One in flight isn't: with a level word it stays in flight, and an edge one isn't owed anything. Else the usual case first:
 // the line is down.
-fn write_low20(words: &mut [u64; 32], g: usize, value: u32) -> Routed
-    requires { ⌜ g < 24 ⌝ }
+fn write_low20(words: &mut [u64; 32], selected: u32, g: usize, value: u32) -> Routed
+    requires { ⌜ (g < 24) × (isEntryWord selected ≡ true) × (g ≡ entryOf selected) ⌝ }
     ensures { λ r. ⌜ Keeps (now (words .entry)) (now (words .exit)) (routing (view (now (words .exit))) r ≡ routeAt (view (now (words .entry))) g (writeLow20 (entryAt (view (now (words .entry))) g) value)) ⌝ }
 {
     let word = word_at(&*words, g);
-    lay(&mut *words, g, word, value);
+    if lay(&mut *words, selected, g, word, value) {
+        return Routed::NotRouted;
+    }
     if vioapic_entry::remote_irr(word) {
         forget(&mut *words, g, word, value);
         return Routed::NotRouted;
@@ -865,7 +876,7 @@ fn write_selected_register(words: &mut [u64; 32], value: u32) -> Written
         let g = entry_of(selected);
         if is_low(selected) {
             if is_version_20(&*words) {
-                return written_send(write_low20(&mut *words, g, value));
+                return written_send(write_low20(&mut *words, selected, g, value));
             }
             write_low(&mut *words, g, value);
             return Written::Done;

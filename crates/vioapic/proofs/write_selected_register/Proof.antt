@@ -20,7 +20,7 @@ is-version-20-requires : tie.Need-is-version-20-requires
 is-version-20-requires c κs = search needs
 
 write-low20-requires : tie.Need-write-low20-requires
-write-low20-requires c κs = search needs
+write-low20-requires c κs = search (needs, cases)
 
 written-send-requires : tie.Need-written-send-requires
 written-send-requires c κs = search needs
