@@ -14,7 +14,7 @@ use Rattle.types.specs.declared.Reply.the-variants as reply
 use Rattle.types.specs.Reply.{flag}
 use Rattle.types.proofs.Replies.{outcome-same}
 use Rattle.vpic_chip.specs.declared.PicVector.{PicVector}
-use Rattle.vpic_chip.specs.declared.PicVector.the-variants.{Given, Nothing as NoVector}
+use Rattle.vpic_chip.specs.declared.PicVector.the-variants.{Given}
 use Rattle.vpic_chip.specs.Chip.{vectorReply}
 use Rattle.vpic_chip.specs.Registers.{chipIn, fullIn, placed}
 use Rattle.vpic_chip.proofs.Packing.{word-same, full-word-same}
@@ -26,7 +26,7 @@ use Rattle.vpic.specs.declared.PicDone.the-variants.{Done, Refused}
 use Rattle.vpic.specs.declared.PicValue.{PicValue}
 use Rattle.vpic.specs.declared.PicValue.the-variants.{Value, Refused as NotRead}
 use Rattle.vpic.specs.Words.{PicState, chipBy, view}
-use Rattle.vpic.specs.Claim.{claimIn}
+use Rattle.vpic.specs.Claim.{claimIn, claimNumber}
 use Rattle.vpic.specs.Pair.{claimOf, claimReply, doneReply, valueReply, claimOutcome, vectorOutcome, doneOutcome, valueOutcome}
 
 -- ---- a claim and its number
@@ -66,8 +66,14 @@ claim-kept n f g a v l m s ea hv hl ef eg e =
     let y = number-line n (v .0) (l .0) f g hv hl hf hg e in
     rw (ea, ne-eqb n 0 some) (λ i. Claimed (record { vector = record { 0 = x i }; irq = record { 0 = y i }; «master_in_service» = d i; «slave_in_service» = h i }))
 
-pub none-kept : (a : PicVector) (l : PicLine) (m s : Bool) → a ≡ NoVector → NoClaim ≡ claimOf a l m s
-none-kept a l m s e = rw e
+-- nor is there more in it: it is that claim's number
+pub claim-number : (n f g : ℕ) (a : PicVector) (v : Vector) (l : PicLine) (m s : Bool) → a ≡ Given v → v .0 < 256 → l .0 < 256 → f ≡ flag m → g ≡ flag s
+    → n ≡ 3 * 2 ^ 48 + g * 2 ^ 33 + f * 2 ^ 32 + l .0 * 2 ^ 16 + v .0 → n ≡ claimNumber (claimIn n)
+claim-number n f g a v l m s ea hv hl ef eg e =
+    let hf : flag m ≤ 1 = flag-le m in
+    let hg : flag s ≤ 1 = flag-le s in
+    let x : n ≡ 3 * 2 ^ 48 + (flag m + 2 * flag s) % 2 ^ 16 * 2 ^ 32 + l .0 % 2 ^ 16 * 2 ^ 16 + v .0 % 2 ^ 16 = omega (arith, hf, hg, ef, eg, e) in
+    x ∙ ap (λ (b : PicVector). claimNumber (claimOf b l m s)) (sym ea) ∙ ap claimNumber (sym (claim-kept n f g a v l m s ea hv hl ef eg e))
 
 -- ---- a pair has one set of words: no word but those of the view
 

@@ -17,16 +17,17 @@ use Rattle.vpic_chip.specs.declared.PicVector.{PicVector}
 use Rattle.vpic_chip.specs.declared.PicVector.the-variants.{Nothing as NoVector}
 use Rattle.vpic_chip.specs.Registers.{Chip, chipIn, fullIn, placed}
 use Rattle.types.specs.Reply.{Outcome}
-use Rattle.vpic_chip.specs.Chip.{asks, driven, acknowledged, isPolled, polled}
+use Rattle.vpic_chip.specs.Chip.{asks, driven, acknowledged, isPolled, polled, commandRead}
 use Rattle.vpic.specs.declared.PicInterruptClaim.{PicInterruptClaim}
 use Rattle.vpic.specs.declared.PicClaim.{PicClaim}
 use Rattle.vpic.specs.declared.PicClaim.the-variants.{Nothing as NoClaim}
 use Rattle.vpic.specs.declared.PicValue.{PicValue}
+use Rattle.vpic.specs.declared.PicValue.the-variants.{Value, Refused as NotRead}
 use Rattle.vpic.specs.declared.PicDone.the-variants.{Done, Refused}
 use Rattle.vpic.specs.Words.{PicState, isFull, plainView, fullView, view}
 use Rattle.vpic.specs.Pair.{isCascade, chips, settled, latchedAt, latched, StateClaim, stateClaim, masterClaim, slaveClaim, pendingPlace, claimAt, claimPending, claimIrq, restoredAt, restored, restoreInterrupt, Port, master-command, master-data, slave-command, slave-data, no-port, portAt, isThere, writtenTo, Written, writtenAt, isPort, masterRead, slaveRead, leftBy, portRead, portLeft, portWritten, valueReply, handleRead, handleWrite, claimVector, withClaim, withVector, claimOutcome, vectorOutcome, doneOutcome, valueOutcome}
-use Rattle.vpic.specs.Claim.{masterTaken, slaveTaken, isQuiet, portOutcome}
-use Rattle.vpic.proofs.Laws.{settle-off, settle-on, irq-reply, pending-reply, irq-vector, pending-vector, quiet, unasked, restore-way, restore-done, write-not, write-settled, write-out, write-done}
+use Rattle.vpic.specs.Claim.{claimIn, claimNumber, numbered, withNumber, masterTaken, slaveTaken, isQuiet, portOutcome, byteShown, plainShown}
+use Rattle.vpic.proofs.Laws.{settle-off, settle-on, irq-reply, pending-reply, irq-vector, pending-vector, quiet, unasked, restore-way, restore-done, write-not, write-settled, write-out, write-done, read-master-command, read-master-data, read-slave-command, read-slave-data}
 
 -- ---- the full road
 
@@ -181,6 +182,23 @@ module _ (l m : List ℕ) (b : Bool) (c d : PicClaim) (eb : b ≡ isFull (view l
   pub next-full : (v : PicVector) → b ≡ true → v ≡ claimVector d → stateClaim (fullView m) c ≡ claimPending (fullView l) → vectorOutcome (view m) v ≡ withVector (claimPending (view l))
   next-full v n w h = pending-vector (view l) (view m) c d e v w (claim-full l m c claimPending claim-rule (sym eb ∙ n) h)
 
+-- and its number
+module _ (l m : List ℕ) (b : Bool) (n : ℕ) (eb : b ≡ isFull (view l .rule)) (e : n ≡ claimNumber (claimIn n)) where
+  by-number : (x : StateClaim) → stateClaim (view m) (claimIn n) ≡ x → numbered (view m) n ≡ withNumber x
+  by-number x h = ap (numbered (view m)) e ∙ ap withNumber h
+
+  pub irq-plain-number : (i : PicLine) → b ≡ false → stateClaim (plainView m) (claimIn n) ≡ claimIrq (plainView l) i → numbered (view m) n ≡ withNumber (claimIrq (view l) i)
+  irq-plain-number i f h = by-number _ (claim-plain l m (claimIn n) (λ p. claimIrq p i) (raise-rule i) (sym eb ∙ f) h)
+
+  pub irq-full-number : (i : PicLine) → b ≡ true → stateClaim (fullView m) (claimIn n) ≡ claimIrq (fullView l) i → numbered (view m) n ≡ withNumber (claimIrq (view l) i)
+  irq-full-number i f h = by-number _ (claim-full l m (claimIn n) (λ p. claimIrq p i) (raise-rule i) (sym eb ∙ f) h)
+
+  pub pending-plain-number : b ≡ false → stateClaim (plainView m) (claimIn n) ≡ claimPending (plainView l) → numbered (view m) n ≡ withNumber (claimPending (view l))
+  pending-plain-number f h = by-number _ (claim-plain l m (claimIn n) claimPending claim-rule (sym eb ∙ f) h)
+
+  pub pending-full-number : b ≡ true → stateClaim (fullView m) (claimIn n) ≡ claimPending (fullView l) → numbered (view m) n ≡ withNumber (claimPending (view l))
+  pending-full-number f h = by-number _ (claim-full l m (claimIn n) claimPending claim-rule (sym eb ∙ f) h)
+
 -- nothing to claim, found at once by either road
 same-quiet : (l : List ℕ) → isQuiet (plainView l) ≡ isQuiet (view l)
 unfolding view plainView
@@ -195,12 +213,18 @@ module _ (l : List ℕ) (q : Bool) (eq : q ≡ isQuiet (plainView l)) (t : q ≡
   pub quiet-reply : claimOutcome (view l) NoClaim ≡ withClaim (claimPending (view l))
   quiet-reply = ap withClaim (quiet (view l) q (eq ∙ same-quiet l) t)
 
+  pub quiet-number : numbered (view l) 0 ≡ withNumber (claimPending (view l))
+  quiet-number = ap withNumber (quiet (view l) q (eq ∙ same-quiet l) t)
+
   pub quiet-vector : vectorOutcome (view l) NoVector ≡ withVector (claimPending (view l))
   quiet-vector = ap withVector (quiet (view l) q (eq ∙ same-quiet l) t)
 
 module _ (l m : List ℕ) (b a : Bool) (c : Chip) (eb : b ≡ isFull (view l .rule)) (n : b ≡ false) (ec : c ≡ plainView l .master) (ea : a ≡ asks c) (u : not a ≡ true) (em : plainView m ≡ settled (plainView l)) where
   pub unasked-reply : claimOutcome (view m) NoClaim ≡ withClaim (claimPending (view l))
   unasked-reply = pending-plain l m b NoClaim NoClaim eb refl n (unasked (plainView l) (plainView m) c a ec ea u em)
+
+  pub unasked-number : numbered (view m) 0 ≡ withNumber (claimPending (view l))
+  unasked-number = pending-plain-number l m b 0 eb refl n (unasked (plainView l) (plainView m) c a ec ea u em)
 
   pub unasked-vector : vectorOutcome (view m) NoVector ≡ withVector (claimPending (view l))
   unasked-vector = next-plain l m b NoClaim NoClaim eb refl NoVector n refl (unasked (plainView l) (plainView m) c a ec ea u em)
@@ -288,6 +312,46 @@ module _ (l : List ℕ) (port width : ℕ) (b : Bool) (v : PicValue) (w : width 
       let s : view m ≡ portLeft (view l) port = by-full l m (λ p. portLeft p port) (left-rule port) f (ap (λ (o : Outcome PicState). o .state) e) in
       let r : valueReply v ≡ valueReply (portRead (view l) port) = ap (λ (o : Outcome PicState). o .reply) e ∙ ap (λ (p : PicState). valueReply (portRead p port)) (sym (view-full l f)) in
       rw w (λ i. record { state = s i; reply = r i })
+
+-- what a read shows where that is all that it does
+module _ (l : List ℕ) (port : ℕ) (b : Bool) (eb : b ≡ isFull (view l .rule)) where
+  pub shown-full : b ≡ true → 0x100 ≡ plainShown (view l) port
+  shown-full t = ap (λ (x : Bool). cond x 0x100 (byteShown (portRead (view l) port))) (sym t ∙ eb)
+
+  pub shown-plain : (n : ℕ) → b ≡ false → Value n ≡ portRead (plainView l) port → n ≡ plainShown (view l) port
+  shown-plain n f e =
+      let z : isFull (view l .rule) ≡ false = sym eb ∙ f in
+      ap byteShown e ∙ ap (λ (p : PicState). byteShown (portRead p port)) (sym (view-plain l z)) ∙ ap (λ (x : Bool). cond x 0x100 (byteShown (portRead (view l) port))) (sym z)
+
+module _ (l : List ℕ) (port n : ℕ) (b : Bool) (eb : b ≡ isFull (view l .rule)) (f : b ≡ false) (m : Chip) (k : m .full ≡ false) where
+  pub shown-master-command : port ≡ 0x20 → m ≡ plainView l .master → n ≡ commandRead m → n ≡ plainShown (view l) port
+  shown-master-command h em en = shown-plain l port b eb n f (read-master-command (plainView l) port n m k h em en)
+
+  pub shown-master-data : port ≡ 0x21 → m ≡ plainView l .master → n ≡ m .mask → n ≡ plainShown (view l) port
+  shown-master-data h em en = shown-plain l port b eb n f (read-master-data (plainView l) port n m k h em en)
+
+  pub shown-slave-command : port ≡ 0xa0 → m ≡ plainView l .slave → n ≡ commandRead m → n ≡ plainShown (view l) port
+  shown-slave-command h em en = shown-plain l port b eb n f (read-slave-command (plainView l) port n m k h em en)
+
+  pub shown-slave-data : port ≡ 0xa1 → m ≡ plainView l .slave → n ≡ m .mask → n ≡ plainShown (view l) port
+  shown-slave-data h em en = shown-plain l port b eb n f (read-slave-data (plainView l) port n m k h em en)
+
+pub shown-nowhere : (p : PicState) (port : ℕ) → (port ≡ 0x20 → ⊥) → (port ≡ 0x21 → ⊥) → (port ≡ 0xa0 → ⊥) → (port ≡ 0xa1 → ⊥) → 0x100 ≡ plainShown p port
+unfolding portRead
+shown-nowhere p port h i j k = rw (ne-eqb port 0x20 h, ne-eqb port 0x21 i, ne-eqb port 0xa0 j, ne-eqb port 0xa1 k) (both (λ (n : ℕ). 0x100 ≡ n) (isFull (p .rule)) _ _ refl refl)
+
+-- where it shows a byte, the read is that
+pub shown-read : (l : List ℕ) (port n : ℕ) → n ≡ plainShown (view l) port → n < 0x100 → valueOutcome (view l) (Value n) ≡ handleRead (view l) port 1
+shown-read l port n e h = go (isFull (view l .rule)) refl e
+  where
+    value : (v : PicValue) → n ≡ byteShown v → Value n ≡ v
+    value (Value byte) q = ap Value q
+    value (NotRead why) q = absurd (omega arith)
+
+    go : (b : Bool) → isFull (view l .rule) ≡ b → n ≡ cond b 0x100 (byteShown (portRead (view l) port)) → valueOutcome (view l) (Value n) ≡ handleRead (view l) port 1
+    go true f q = absurd (omega arith)
+    go false f q =
+        read-plain l port 1 false (Value n) refl (sym f) refl (value (portRead (view l) port) q ∙ ap (λ (p : PicState). portRead p port) (view-plain l f))
 
 -- the pair's four ports
 pub port-one : (port : ℕ) → port ≡ 0x20 → true ≡ isPort port

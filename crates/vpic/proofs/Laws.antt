@@ -347,8 +347,16 @@ module _ (p : PicState) (b : Bool) (eb : b ≡ isQuiet p) (t : b ≡ true) where
       let m : p .master .request ≡ 0 = omega (arith, none-asked) in
       unasked p p (p .master) (asks (p .master)) refl refl (ap not (sym (asks-none (p .master) (p .master .request) refl m))) (sym (settled-kept p quiet-kept))
 
-pub quiet-is : (p : PicState) (m s : Chip) (a b : ℕ) → m ≡ p .master → s ≡ p .slave → a ≡ m .request → b ≡ s .request → eqb (a + b) 0 ≡ isQuiet p
-quiet-is p m s a b em es ea eb = ap₂ (λ (x y : ℕ). eqb (x + y) 0) (ea ∙ ap (λ (c : Chip). c .request) em) (eb ∙ ap (λ (c : Chip). c .request) es)
+module _ (p : PicState) (m : Chip) (a : ℕ) (em : m ≡ p .master) (ea : a ≡ m .request) where
+  pub quiet-not : (a ≡ 0 → ⊥) → false ≡ isQuiet p
+  quiet-not h = sym (ne-eqb (p .master .request + p .slave .request) 0 (λ z. h (ea ∙ ap (λ (c : Chip). c .request) em ∙ omega (arith, z))))
+
+  pub quiet-is : (s : Chip) (b : ℕ) → a ≡ 0 → s ≡ p .slave → b ≡ s .request → eqb b 0 ≡ isQuiet p
+  quiet-is s b z es eb =
+      let x : p .master .request ≡ 0 = sym (ea ∙ ap (λ (c : Chip). c .request) em) ∙ z in
+      let y : b ≡ p .slave .request = eb ∙ ap (λ (c : Chip). c .request) es in
+      let t : b ≡ p .master .request + p .slave .request = omega (arith, x, y) in
+      ap (λ (n : ℕ). eqb n 0) t
 
 -- the public calls say the same by the reply
 module _ (p q : PicState) (c d : PicClaim) (e : d ≡ c) where

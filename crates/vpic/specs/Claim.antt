@@ -1,5 +1,5 @@
 -- What the private functions say of a claim. On its way it is one number, 0 for none: `Codes.claim-kept` says that nothing is lost.
-use Prim.Native.Nat.{ℕ, _+_, _/_, _%_, _^_}
+use Prim.Native.Nat.{ℕ, _+_, _*_, _/_, _%_, _^_}
 use mathlib.Core.Bool.{Bool, cond}
 use mathlib.Core.Path.{_≡_}
 use lib.Dec.{eqb}
@@ -12,8 +12,10 @@ use Rattle.vpic_chip.specs.Registers.{Chip}
 use Rattle.vpic_chip.specs.Chip.{cascadeIrq, acknowledged, readShown}
 use Rattle.vpic.specs.declared.PicClaim.{PicClaim}
 use Rattle.vpic.specs.declared.PicClaim.the-variants.{Claimed, Nothing}
-use Rattle.vpic.specs.Words.{PicState}
-use Rattle.vpic.specs.Pair.{StateClaim, stateClaim, chips, nothingClaimed, masterClaim, slaveClaim, portLeft, portRead, valueReply}
+use Rattle.vpic.specs.declared.PicValue.{PicValue}
+use Rattle.vpic.specs.declared.PicValue.the-variants.{Value, Refused as NotRead}
+use Rattle.vpic.specs.Words.{PicState, isFull}
+use Rattle.vpic.specs.Pair.{StateClaim, stateClaim, chips, nothingClaimed, masterClaim, slaveClaim, claimFlags, portLeft, portRead, valueReply}
 
 -- the vector in bits 0 to 7, the line in 16 to 23, and the two flags in 32 and 33
 abbrev pub claimIn : ℕ → PicClaim
@@ -23,6 +25,22 @@ claimIn n = cond (eqb n 0) Nothing (Claimed (record {
   «master_in_service» = bit n 32;
   «slave_in_service» = bit n 33;
 }))
+
+-- the number of a claim: what the boundary answers for it
+abbrev pub claimNumber : PicClaim → ℕ
+claimNumber (Claimed c) = 3 * 2 ^ 48 + claimFlags c % 2 ^ 16 * 2 ^ 32 + c .irq .0 % 2 ^ 16 * 2 ^ 16 + c .vector .0 % 2 ^ 16
+claimNumber Nothing = 0
+
+-- the pair after a claim, and the claim's number
+pub record Numbered : Type 0 where
+  pub state : PicState
+  pub number : ℕ
+
+abbrev pub numbered : PicState → ℕ → Numbered
+numbered p n = record { state = p; number = n }
+
+abbrev pub withNumber : StateClaim → Numbered
+withNumber r = numbered (r .state) (claimNumber (r .claim))
 
 -- a line of the master, or of the slave, is taken, and the pair isn't settled yet
 abbrev pub masterTaken : PicState → PicLine → StateClaim
@@ -48,3 +66,11 @@ pub record ReadOf (c : Chip) (left q : PicState) (register shown : ℕ) : Type 0
 -- a read of a port, of one byte
 abbrev pub portOutcome : PicState → ℕ → Outcome PicState
 portOutcome p port = record { state = portLeft p port; reply = valueReply (portRead p port) }
+
+-- what a read of a port, of one byte, shows where that is all that it does, and 0x100 elsewhere: a full pair's read may be a poll's, and a port that the pair hasn't is refused
+abbrev pub byteShown : PicValue → ℕ
+byteShown (Value byte) = byte
+byteShown (NotRead why) = 0x100
+
+abbrev pub plainShown : PicState → ℕ → ℕ
+plainShown p port = cond (isFull (p .rule)) 0x100 (byteShown (portRead p port))

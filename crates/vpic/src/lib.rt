@@ -12,7 +12,7 @@ ghost use Rattle.types.specs.Counters.{placeOf};
 ghost use Rattle.types.specs.declared.PicPlace.the-variants as place;
 ghost use Rattle.vpic_chip.specs.Registers.{chipIn, fullIn, placed};
 ghost use Rattle.vpic.specs.Words.{isFull, plainView, fullView, view};
-ghost use Rattle.vpic.specs.Claim.{claimIn, masterTaken, slaveTaken, takenAt, isQuiet, ReadOf, portOutcome};
+ghost use Rattle.vpic.specs.Claim.{claimIn, claimNumber, numbered, withNumber, masterTaken, slaveTaken, takenAt, isQuiet, ReadOf, portOutcome, plainShown};
 ghost use Rattle.vpic.specs.declared.PicRule.the-variants as rules;
 ghost use Rattle.vpic.specs.Pair.{ruleIn, ruleNumber, isRule, chips, isCascade, settled, Latched, stateClaim, claimOf, slaveClaim, pendingPlace, claimPending, claimIrq, restoredAt, portRead, masterRead, slaveRead, Written, isPort, portWritten, claimFlags, claimReply, claimVector, doneReply, valueReply, withClaim, withVector, claimOutcome, vectorOutcome, doneOutcome, valueOutcome, newState, portRanges, restoreInterrupt, handleRead, handleWrite};
 use types::PicLine;
@@ -190,45 +190,38 @@ impl PicValue {
     }
 }
 
-// ---- A claim on its way through the private functions: one number, so that it stays in a register. 0 is none; `specs/Claim.antt` has its bits.
-
-struct Claim(u64);
+// ---- A claim on its way through the private functions: one number, so that it stays in a register, and no struct of it, which would come back through memory. 0 is none;
+// `specs/Claim.antt` has its bits.
 
 // A claim of a line with its vector, and which in-service bits it set; without a vector none was taken.
-fn claimed(
-    vector: PicVector,
-    irq: PicLine,
-    master_in_service: bool,
-    slave_in_service: bool,
-) -> Claim
-    ensures { λ r. ⌜ claimIn (r .0) ≡ claimOf vector irq «master_in_service» «slave_in_service» ⌝ }
+fn claimed(vector: PicVector, irq: PicLine, master_in_service: bool, slave_in_service: bool) -> u64
+    ensures { λ r. ⌜ (claimIn r ≡ claimOf vector irq «master_in_service» «slave_in_service») × (r ≡ claimNumber (claimIn r)) ⌝ }
 {
     match vector {
-        PicVector::Given(v) => Claim(
+        PicVector::Given(v) => {
             0x3_0000_0000_0000
                 + digit(slave_in_service) * 0x2_0000_0000
                 + digit(master_in_service) * 0x1_0000_0000
                 + irq.0 as u64 * 0x1_0000
-                + v.0 as u64,
-        ),
-        PicVector::Nothing => Claim(0),
+                + v.0 as u64
+        }
+        PicVector::Nothing => 0,
     }
 }
 
-impl Claim {
-    fn claim(self) -> PicClaim
-        ensures { λ r. ⌜ r ≡ claimIn (self .0) ⌝ }
-    {
-        if self.0 == 0 {
-            return PicClaim::Nothing;
-        }
-        PicClaim::Claimed(PicInterruptClaim {
-            vector: Vector((self.0 % 0x100) as u8),
-            irq: PicLine((self.0 / 0x1_0000 % 0x100) as u8),
-            master_in_service: self.0 / 0x1_0000_0000 % 2 == 1,
-            slave_in_service: self.0 / 0x2_0000_0000 % 2 == 1,
-        })
+// The claim of a number.
+fn claim_in(number: u64) -> PicClaim
+    ensures { λ r. ⌜ r ≡ claimIn number ⌝ }
+{
+    if number == 0 {
+        return PicClaim::Nothing;
     }
+    PicClaim::Claimed(PicInterruptClaim {
+        vector: Vector((number % 0x100) as u8),
+        irq: PicLine((number / 0x1_0000 % 0x100) as u8),
+        master_in_service: number / 0x1_0000_0000 % 2 == 1,
+        slave_in_service: number / 0x2_0000_0000 % 2 == 1,
+    })
 }
 
 // ---- The words. Nothing below looks into them.
@@ -376,9 +369,9 @@ fn pending_place(words: &[u64; 4]) -> PicPlace
 }
 
 // The master answers for one of its lines; the pair isn't settled yet.
-fn take_master(words: &mut [u64; 4], irq: PicLine) -> Claim
+fn take_master(words: &mut [u64; 4], irq: PicLine) -> u64
     requires { ⌜ pendingPlace (plainView (now words)) ≡ place.Master irq ⌝ }
-    ensures { λ r. ⌜ stateClaim (plainView (now (words .exit))) (claimIn (r .0)) ≡ masterTaken (plainView (now (words .entry))) irq ⌝ }
+    ensures { λ r. ⌜ (stateClaim (plainView (now (words .exit))) (claimIn r) ≡ masterTaken (plainView (now (words .entry))) irq) × (r ≡ claimNumber (claimIn r)) ⌝ }
 {
     let first = master(&*words);
     let taken = first.acknowledge(irq);
@@ -388,9 +381,9 @@ fn take_master(words: &mut [u64; 4], irq: PicLine) -> Claim
 }
 
 // The slave answers for one of its lines, through the master's line 2.
-fn take_slave(words: &mut [u64; 4], irq: PicLine) -> Claim
+fn take_slave(words: &mut [u64; 4], irq: PicLine) -> u64
     requires { ⌜ pendingPlace (plainView (now words)) ≡ place.Slave irq ⌝ }
-    ensures { λ r. ⌜ stateClaim (plainView (now (words .exit))) (claimIn (r .0)) ≡ slaveTaken (plainView (now (words .entry))) irq ⌝ }
+    ensures { λ r. ⌜ (stateClaim (plainView (now (words .exit))) (claimIn r) ≡ slaveTaken (plainView (now (words .entry))) irq) × (r ≡ claimNumber (claimIn r)) ⌝ }
 {
     let first = master(&*words);
     let second = slave(&*words);
@@ -409,9 +402,9 @@ fn take_slave(words: &mut [u64; 4], irq: PicLine) -> Claim
 
 // A slave's line that goes into service leaves nothing to settle: no other of the slave's lines counts then. Where one call stands in two arms of a test, both say the
 // same: the compiler then knows the claim's flags.
-fn claim_slave(words: &mut [u64; 4], irq: PicLine) -> Claim
+fn claim_slave(words: &mut [u64; 4], irq: PicLine) -> u64
     requires { ⌜ pendingPlace (plainView (now words)) ≡ place.Slave irq ⌝ }
-    ensures { λ r. ⌜ stateClaim (plainView (now (words .exit))) (claimIn (r .0)) ≡ slaveClaim (plainView (now (words .entry))) irq ⌝ }
+    ensures { λ r. ⌜ (stateClaim (plainView (now (words .exit))) (claimIn r) ≡ slaveClaim (plainView (now (words .entry))) irq) × (r ≡ claimNumber (claimIn r)) ⌝ }
 {
     if slave(&*words).auto_eoi() {
         let taken = take_slave(&mut *words, irq);
@@ -425,13 +418,13 @@ fn claim_slave(words: &mut [u64; 4], irq: PicLine) -> Claim
 }
 
 // What can be delivered is taken. A master's line is taken without settling the pair.
-fn take(words: &mut [u64; 4]) -> Claim
-    ensures { λ r. ⌜ stateClaim (plainView (now (words .exit))) (claimIn (r .0)) ≡ takenAt (plainView (now (words .entry))) (pendingPlace (plainView (now (words .entry)))) ⌝ }
+fn take(words: &mut [u64; 4]) -> u64
+    ensures { λ r. ⌜ (stateClaim (plainView (now (words .exit))) (claimIn r) ≡ takenAt (plainView (now (words .entry))) (pendingPlace (plainView (now (words .entry))))) × (r ≡ claimNumber (claimIn r)) ⌝ }
 {
     match pending_place(&*words) {
         PicPlace::Master(k) => take_master(&mut *words, k),
         PicPlace::Slave(k) => claim_slave(&mut *words, k),
-        PicPlace::Nowhere => Claim(0),
+        PicPlace::Nowhere => 0,
     }
 }
 
@@ -439,12 +432,15 @@ fn take(words: &mut [u64; 4]) -> Claim
 fn is_quiet(words: &[u64; 4]) -> bool
     ensures { λ r. ⌜ r ≡ isQuiet (plainView (now (words .entry))) ⌝ }
 {
-    master(words).request() as u64 + slave(words).request() as u64 == 0
+    if master(words).request() != 0 {
+        return false;
+    }
+    slave(words).request() == 0
 }
 
 // What can be delivered is claimed.
-fn claim_pending(words: &mut [u64; 4]) -> Claim
-    ensures { λ r. ⌜ stateClaim (plainView (now (words .exit))) (claimIn (r .0)) ≡ claimPending (plainView (now (words .entry))) ⌝ }
+fn claim_pending(words: &mut [u64; 4]) -> u64
+    ensures { λ r. ⌜ (stateClaim (plainView (now (words .exit))) (claimIn r) ≡ claimPending (plainView (now (words .entry)))) × (r ≡ claimNumber (claimIn r)) ⌝ }
 {
     let taken = take(&mut *words);
     settle(&mut *words);
@@ -452,11 +448,11 @@ fn claim_pending(words: &mut [u64; 4]) -> Claim
 }
 
 // A line is latched, and what can be delivered is claimed: from a settled pair, which a claim of the master's line leaves settled.
-fn claim_line(words: &mut [u64; 4], irq: PicLine) -> Claim
-    ensures { λ r. ⌜ stateClaim (plainView (now (words .exit))) (claimIn (r .0)) ≡ claimIrq (plainView (now (words .entry))) irq ⌝ }
+fn claim_line(words: &mut [u64; 4], irq: PicLine) -> u64
+    ensures { λ r. ⌜ (stateClaim (plainView (now (words .exit))) (claimIn r) ≡ claimIrq (plainView (now (words .entry))) irq) × (r ≡ claimNumber (claimIn r)) ⌝ }
 {
     if !latch(&mut *words, irq.place()) {
-        return Claim(0);
+        return 0;
     }
     settle(&mut *words);
     take(&mut *words)
@@ -467,9 +463,19 @@ pub fn claim_irq(words: &mut [u64; 4], irq: PicLine) -> PicClaim
     ensures { λ r. ⌜ claimOutcome (view (now (words .exit))) r ≡ withClaim (claimIrq (view (now (words .entry))) irq) ⌝ }
 {
     if is_full(&*words) {
-        return full_claim_line(&mut *words, irq).claim();
+        return claim_in(full_claim_line(&mut *words, irq));
     }
-    claim_line(&mut *words, irq).claim()
+    claim_in(claim_line(&mut *words, irq))
+}
+
+// The same, and the claim as one number.
+pub fn claim_irq_number(words: &mut [u64; 4], irq: PicLine) -> u64
+    ensures { λ r. ⌜ numbered (view (now (words .exit))) r ≡ withNumber (claimIrq (view (now (words .entry))) irq) ⌝ }
+{
+    if is_full(&*words) {
+        return full_claim_line(&mut *words, irq);
+    }
+    claim_line(&mut *words, irq)
 }
 
 // Claims a request that became deliverable after the guest changed the chips.
@@ -481,13 +487,29 @@ pub fn claim_pending_interrupt(words: &mut [u64; 4]) -> PicClaim
         return PicClaim::Nothing;
     }
     if is_full(&*words) {
-        return full_claim_pending(&mut *words).claim();
+        return claim_in(full_claim_pending(&mut *words));
     }
     if !master(&*words).asks() {
         settle(&mut *words);
         return PicClaim::Nothing;
     }
-    claim_pending(&mut *words).claim()
+    claim_in(claim_pending(&mut *words))
+}
+
+pub fn claim_pending_number(words: &mut [u64; 4]) -> u64
+    ensures { λ r. ⌜ numbered (view (now (words .exit))) r ≡ withNumber (claimPending (view (now (words .entry)))) ⌝ }
+{
+    if is_quiet(&*words) {
+        return 0;
+    }
+    if is_full(&*words) {
+        return full_claim_pending(&mut *words);
+    }
+    if !master(&*words).asks() {
+        settle(&mut *words);
+        return 0;
+    }
+    claim_pending(&mut *words)
 }
 
 // Latches an edge and answers the vector alone: such a claim can't be restored.
@@ -495,9 +517,9 @@ pub fn pulse_irq(words: &mut [u64; 4], irq: PicLine) -> PicVector
     ensures { λ r. ⌜ vectorOutcome (view (now (words .exit))) r ≡ withVector (claimIrq (view (now (words .entry))) irq) ⌝ }
 {
     if is_full(&*words) {
-        return full_claim_line(&mut *words, irq).claim().vector();
+        return claim_in(full_claim_line(&mut *words, irq)).vector();
     }
-    claim_line(&mut *words, irq).claim().vector()
+    claim_in(claim_line(&mut *words, irq)).vector()
 }
 
 pub fn next_interrupt(words: &mut [u64; 4]) -> PicVector
@@ -507,13 +529,13 @@ pub fn next_interrupt(words: &mut [u64; 4]) -> PicVector
         return PicVector::Nothing;
     }
     if is_full(&*words) {
-        return full_claim_pending(&mut *words).claim().vector();
+        return claim_in(full_claim_pending(&mut *words)).vector();
     }
     if !master(&*words).asks() {
         settle(&mut *words);
         return PicVector::Nothing;
     }
-    claim_pending(&mut *words).claim().vector()
+    claim_in(claim_pending(&mut *words)).vector()
 }
 
 // A claim taken back at its place.
@@ -609,6 +631,38 @@ pub fn handle_read(words: &mut [u64; 4], port: u64, width: u64) -> PicValue
         return full_read(&mut *words, port);
     }
     read_port(&*words, port)
+}
+
+// What a byte read of a port shows, and 0x100 where that isn't all: the pair may have a poll that waits, or hasn't that port. The rule is asked for at each port, which keeps
+// the compiler from putting the ports' ways together.
+pub fn plain_read(words: &[u64; 4], port: u64) -> u64
+    ensures { λ r. ⌜ r ≡ plainShown (view (now (words .entry))) port ⌝ }
+{
+    if port == MASTER_COMMAND as u64 {
+        if is_full(words) {
+            return 0x100;
+        }
+        return master(words).read_command() as u64;
+    }
+    if port == MASTER_DATA as u64 {
+        if is_full(words) {
+            return 0x100;
+        }
+        return master(words).mask() as u64;
+    }
+    if port == SLAVE_COMMAND as u64 {
+        if is_full(words) {
+            return 0x100;
+        }
+        return slave(words).read_command() as u64;
+    }
+    if port == SLAVE_DATA as u64 {
+        if is_full(words) {
+            return 0x100;
+        }
+        return slave(words).mask() as u64;
+    }
+    0x100
 }
 
 // A byte is written to a port; whether the pair has that port.
@@ -745,9 +799,9 @@ fn grew(before: PicChip, after: PicChip) -> bool
     after.in_service() != before.in_service()
 }
 
-fn full_take_master(words: &mut [u64; 4], irq: PicLine) -> Claim
+fn full_take_master(words: &mut [u64; 4], irq: PicLine) -> u64
     requires { ⌜ pendingPlace (fullView (now words)) ≡ place.Master irq ⌝ }
-    ensures { λ r. ⌜ stateClaim (fullView (now (words .exit))) (claimIn (r .0)) ≡ masterTaken (fullView (now (words .entry))) irq ⌝ }
+    ensures { λ r. ⌜ (stateClaim (fullView (now (words .exit))) (claimIn r) ≡ masterTaken (fullView (now (words .entry))) irq) × (r ≡ claimNumber (claimIn r)) ⌝ }
 {
     let first = full_master(&*words);
     let taken = first.full_acknowledge(irq);
@@ -756,9 +810,9 @@ fn full_take_master(words: &mut [u64; 4], irq: PicLine) -> Claim
     claimed(vector, irq, grew(first, taken.chip), false)
 }
 
-fn full_take_slave(words: &mut [u64; 4], irq: PicLine) -> Claim
+fn full_take_slave(words: &mut [u64; 4], irq: PicLine) -> u64
     requires { ⌜ pendingPlace (fullView (now words)) ≡ place.Slave irq ⌝ }
-    ensures { λ r. ⌜ stateClaim (fullView (now (words .exit))) (claimIn (r .0)) ≡ slaveTaken (fullView (now (words .entry))) irq ⌝ }
+    ensures { λ r. ⌜ (stateClaim (fullView (now (words .exit))) (claimIn r) ≡ slaveTaken (fullView (now (words .entry))) irq) × (r ≡ claimNumber (claimIn r)) ⌝ }
 {
     let first = full_master(&*words);
     let second = full_slave(&*words);
@@ -776,8 +830,8 @@ fn full_take_slave(words: &mut [u64; 4], irq: PicLine) -> Claim
 }
 
 // What can be delivered is claimed.
-fn full_claim_pending(words: &mut [u64; 4]) -> Claim
-    ensures { λ r. ⌜ stateClaim (fullView (now (words .exit))) (claimIn (r .0)) ≡ claimPending (fullView (now (words .entry))) ⌝ }
+fn full_claim_pending(words: &mut [u64; 4]) -> u64
+    ensures { λ r. ⌜ (stateClaim (fullView (now (words .exit))) (claimIn r) ≡ claimPending (fullView (now (words .entry)))) × (r ≡ claimNumber (claimIn r)) ⌝ }
 {
     match full_pending_place(&*words) {
         PicPlace::Master(k) => {
@@ -792,16 +846,16 @@ fn full_claim_pending(words: &mut [u64; 4]) -> Claim
         }
         PicPlace::Nowhere => {
             full_settle(&mut *words);
-            Claim(0)
+            0
         }
     }
 }
 
-fn full_claim_line(words: &mut [u64; 4], irq: PicLine) -> Claim
-    ensures { λ r. ⌜ stateClaim (fullView (now (words .exit))) (claimIn (r .0)) ≡ claimIrq (fullView (now (words .entry))) irq ⌝ }
+fn full_claim_line(words: &mut [u64; 4], irq: PicLine) -> u64
+    ensures { λ r. ⌜ (stateClaim (fullView (now (words .exit))) (claimIn r) ≡ claimIrq (fullView (now (words .entry))) irq) × (r ≡ claimNumber (claimIn r)) ⌝ }
 {
     if !full_latch(&mut *words, irq.place()) {
-        return Claim(0);
+        return 0;
     }
     full_settle(&mut *words);
     full_claim_pending(&mut *words)

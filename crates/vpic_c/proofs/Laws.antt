@@ -2,28 +2,31 @@
 use mathlib.Core.Path.{_≡_, refl, sym, ap, _∙_}
 use mathlib.Core.Bool.{Bool, true, false, not, cond}
 use mathlib.Core.List.{List}
-use Prim.Native.Nat.{ℕ, _/_, _%_, _^_}
+use Prim.Native.Nat.{ℕ, _/_, _%_, _^_, _<_}
 use lib.Dec.{ltb}
 use lib.ListN.{set}
 use borrow.Author.Tests.{not-true, not-false}
 use Rattle.types.specs.declared.PicLine.{PicLine}
 use Rattle.types.specs.declared.Refusal.the-variants.{Unsupported, OutOfRange}
 use Rattle.types.specs.declared.Reply.{Reply}
-use Rattle.types.specs.declared.Reply.the-variants.{Nothing, Refused}
+use Rattle.types.specs.declared.Reply.the-variants.{Nothing, One, Refused}
 use Rattle.types.specs.Reply.{Outcome}
 use Rattle.reply_code.specs.Lent.{replyCode, lent}
 use Rattle.vpic_chip.specs.declared.PicVector.{PicVector}
 use Rattle.vpic_chip.specs.Chip.{vectorReply}
 use Rattle.vpic.specs.declared.PicRule.{PicRule}
 use Rattle.vpic.specs.declared.PicClaim.{PicClaim}
+use Rattle.vpic.specs.declared.PicClaim.the-variants.{Claimed, Nothing as NoClaim}
 use Rattle.vpic.specs.declared.PicDone.{PicDone}
 use Rattle.vpic.specs.declared.PicInterruptClaim.{PicInterruptClaim}
 use Rattle.vpic.specs.declared.PicValue.{PicValue}
 use Rattle.vpic.specs.declared.PortRanges.{PortRanges}
-use Rattle.vpic.specs.Words.{PicState}
-use Rattle.vpic.specs.Pair.{ruleIn, isRule, newState, claimReply, doneReply, valueReply, claimOutcome, vectorOutcome, doneOutcome, valueOutcome, claimIrq, withClaim, withVector, refused, restoreInterrupt, portRanges}
+use Rattle.vpic.specs.Words.{PicState, view}
+use Rattle.vpic.specs.Claim.{Numbered, claimNumber, numbered, withNumber, plainShown}
+use Rattle.vpic.specs.Pair.{ruleIn, isRule, newState, claimReply, doneReply, valueReply, vectorOutcome, doneOutcome, valueOutcome, StateClaim, claimIrq, withClaim, withVector, refused, restoreInterrupt, handleRead, portRanges}
 use Rattle.vpic_c.proofs.Claims.{parts-same}
-use Rattle.vpic_c.specs.Calls.{shown, coded, made, newRule, line, lineOf, rangeWords, claimWith, isClaim, claimOf, restoreCode}
+use Rattle.vpic.proofs.Full.{shown-read}
+use Rattle.vpic_c.specs.Calls.{Coded, shown, coded, made, newRule, line, lineOf, rangeWords, claimWith, isClaim, claimOf, restoreCode}
 
 -- a line that is there is itself, and all others claim nothing
 same-claim : (p : PicState) (irq : ℕ) → claimIrq p (lineOf irq) ≡ claimIrq p (line irq)
@@ -52,20 +55,33 @@ module _ (q : PicState) (x : Reply) (n : ℕ) (en : n ≡ replyCode x) where
   pub value-code : (v : PicValue) (o : Outcome PicState) → valueOutcome q v ≡ o → x ≡ valueReply v → shown q n ≡ coded o
   value-code v o e ex = by-code o (ap (λ (y : Reply). record { state = q; reply = y }) ex ∙ e)
 
-  pub claim-code : (c : PicClaim) (o : Outcome PicState) → claimOutcome q c ≡ o → x ≡ claimReply c → shown q n ≡ coded o
-  claim-code c o e ex = by-code o (ap (λ (y : Reply). record { state = q; reply = y }) ex ∙ e)
-
   pub vector-code : (v : PicVector) (o : Outcome PicState) → vectorOutcome q v ≡ o → x ≡ vectorReply v → shown q n ≡ coded o
   vector-code v o e ex = by-code o (ap (λ (y : Reply). record { state = q; reply = y }) ex ∙ e)
-
-  pub irq-code : (p : PicState) (c : PicClaim) (l : PicLine) (irq : ℕ) → l ≡ lineOf irq → claimOutcome q c ≡ withClaim (claimIrq p l) → x ≡ claimReply c → shown q n ≡ coded (withClaim (claimIrq p (line irq)))
-  irq-code p c l irq el e ex = claim-code c _ (e ∙ ap withClaim (ap (claimIrq p) el ∙ same-claim p irq)) ex
 
   pub pulse-code : (p : PicState) (v : PicVector) (l : PicLine) (irq : ℕ) → l ≡ lineOf irq → vectorOutcome q v ≡ withVector (claimIrq p l) → x ≡ vectorReply v → shown q n ≡ coded (withVector (claimIrq p (line irq)))
   pulse-code p v l irq el e ex = vector-code v _ (e ∙ ap withVector (ap (claimIrq p) el ∙ same-claim p irq)) ex
 
   pub restore-code : (p : PicState) (d : PicDone) (c : ℕ) (k : PicInterruptClaim) → k ≡ claimOf c → doneOutcome q d ≡ restoreInterrupt p k → x ≡ doneReply d → shown q n ≡ coded (restoreCode p c)
   restore-code p d c k ek e ex = done-code d _ (e ∙ ap (restoreInterrupt p) ek ∙ same-restore p c) ex
+
+-- a claim's number is its reply's code
+same-number : (c : PicClaim) → claimNumber c ≡ replyCode (claimReply c)
+same-number (Claimed c) = refl
+same-number NoClaim = refl
+
+pub number-code : (q : PicState) (n : ℕ) (x : StateClaim) → numbered q n ≡ withNumber x → shown q n ≡ coded (withClaim x)
+number-code q n x e = ap (λ (y : Numbered). shown (y .state) (y .number)) e ∙ ap (shown (x .state)) (same-number (x .claim))
+
+pub irq-code : (p q : PicState) (n : ℕ) (l : PicLine) (irq : ℕ) → l ≡ lineOf irq → numbered q n ≡ withNumber (claimIrq p l) → shown q n ≡ coded (withClaim (claimIrq p (line irq)))
+irq-code p q n l irq el e = number-code q n (claimIrq p l) e ∙ ap (λ (x : StateClaim). coded (withClaim x)) (ap (claimIrq p) el ∙ same-claim p irq)
+
+-- a byte is read
+module _ (port width : ℕ) (w : width ≡ 1) where
+  pub byte-code : (x : Coded) (p : PicState) → x ≡ coded (handleRead p port 1) → x ≡ coded (handleRead p port width)
+  byte-code x p e = e ∙ ap (λ (n : ℕ). coded (handleRead p port n)) (sym w)
+
+  pub shown-code : (l : List ℕ) (n k : ℕ) → n ≡ plainShown (view l) port → n < 0x100 → k ≡ replyCode (One n) → shown (view l) k ≡ coded (handleRead (view l) port width)
+  shown-code l n k e h ek = byte-code (shown (view l) k) (view l) (ap (shown (view l)) ek ∙ ap coded (shown-read l port n e h))
 
 -- a new pair
 pub made-code : (q : PicState) (n : ℕ) (rule : PicRule) → q ≡ newState rule → n ≡ replyCode Nothing → shown q n ≡ coded (made rule)

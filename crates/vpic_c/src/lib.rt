@@ -94,14 +94,14 @@ pub extern "C" fn sillwander_pic_port_ranges(ranges: &mut [u64; 4]) -> u64
 pub extern "C" fn sillwander_pic_claim_irq(words: &mut [u64; 4], irq: u64) -> u64
     ensures { λ r. ⌜ shown (view (now (words .exit))) r ≡ coded (withClaim (claimIrq (view (now (words .entry))) (record { 0 = irq }))) ⌝ }
 {
-    code(vpic::claim_irq(&mut *words, line(irq)).reply())
+    vpic::claim_irq_number(&mut *words, line(irq))
 }
 
 #[no_mangle]
 pub extern "C" fn sillwander_pic_claim_pending_interrupt(words: &mut [u64; 4]) -> u64
     ensures { λ r. ⌜ shown (view (now (words .exit))) r ≡ coded (withClaim (claimPending (view (now (words .entry))))) ⌝ }
 {
-    code(vpic::claim_pending_interrupt(&mut *words).reply())
+    vpic::claim_pending_number(&mut *words)
 }
 
 #[no_mangle]
@@ -126,11 +126,27 @@ pub extern "C" fn sillwander_pic_restore_interrupt(words: &mut [u64; 4], claim: 
     code(vpic::restore_interrupt(&mut *words, claim_of(claim)).reply())
 }
 
+// A read, of any kind.
+fn read(words: &mut [u64; 4], port: u64, width: u64) -> u64
+    ensures { λ r. ⌜ shown (view (now (words .exit))) r ≡ coded (handleRead (view (now (words .entry))) port width) ⌝ }
+{
+    code(vpic::handle_read(&mut *words, port, width).reply())
+}
+
+// As mostly, and found at once: a byte that a register shows. The rest is a function of its own, called where this one ends and in two places, so that the compiler doesn't take it
+// in.
 #[no_mangle]
 pub extern "C" fn sillwander_pic_handle_read(words: &mut [u64; 4], port: u64, width: u64) -> u64
     ensures { λ r. ⌜ shown (view (now (words .exit))) r ≡ coded (handleRead (view (now (words .entry))) port width) ⌝ }
 {
-    code(vpic::handle_read(&mut *words, port, width).reply())
+    if width != 1 {
+        return read(&mut *words, port, width);
+    }
+    let shown = vpic::plain_read(&*words, port);
+    if shown >= 0x100 {
+        return read(&mut *words, port, 1);
+    }
+    code(Reply::One(shown))
 }
 
 #[no_mangle]

@@ -1,7 +1,7 @@
 -- Laws of one chip: which requests count, and a law for each way out of its functions, over free records. Assumes nothing.
 use mathlib.Core.Path.{_≡_, refl, sym, ap, ap₂, subst, _∙_}
 use mathlib.Core.Bool.{Bool, true, false, not, cond, _&&_}
-use Prim.Native.Nat.{ℕ, _/_, _%_, _^_, _<_, _≤_}
+use Prim.Native.Nat.{ℕ, _*_, _-_, _/_, _%_, _^_, _<_, _≤_}
 use native.Mathlib.Omega.{arith}
 use native.Mathlib.Nat.{mod-lt, zero-div}
 use lib.Dec.{ltb, eqb}
@@ -13,7 +13,7 @@ use Rattle.utils.specs.Set.{bit, with, without, outside, setOf, first, below, l
 use Rattle.utils.specs.Cases.{cases, and-left-no, and-right-no}
 use Rattle.utils.proofs.Bools.{never, and-true, and-false, and-one, not-is}
 use Rattle.utils.proofs.Search.{first-same}
-use Rattle.utils.proofs.Laws.{bit-above, bit-setOf, bit-outside, bit-cut, setOf-lt, setOf-same, setOf-bits, without-member, bit-with-same, bit-without-same, bit-without-other}
+use Rattle.utils.proofs.Laws.{bit-above, bit-setOf, bit-outside, bit-cut, setOf-lt, setOf-same, setOf-bits, without-member, without-le, bit-with-same, bit-without-same, bit-without-other}
 use Rattle.utils.proofs.Lowest.{lowest-in-byte}
 use Rattle.types.specs.declared.PicLine.{PicLine}
 use Rattle.types.specs.declared.Vector.{Vector}
@@ -24,7 +24,8 @@ use Rattle.vpic_chip.specs.declared.PendingIrq.{PendingIrq}
 use Rattle.vpic_chip.specs.declared.PendingIrq.the-variants.{Irq, Nothing}
 use Rattle.vpic_chip.specs.declared.PicVector.{PicVector}
 use Rattle.vpic_chip.specs.declared.PicVector.the-variants.{Given, Nothing as NoVector}
-use Rattle.vpic_chip.specs.Registers.{Chip, withBase, withRequest, withInService, withStep, withAutoEoi, withReadIsr, withNested}
+use Rattle.vpic_chip.proofs.Packing.{plain, service-less}
+use Rattle.vpic_chip.specs.Registers.{Chip, chipIn, withBase, withRequest, withInService, withStep, withAutoEoi, withReadIsr, withNested}
 use Rattle.vpic_chip.specs.Chip.{lowestBy, firstOf, isAbove, isAboveAll, turned, isSpecial, isNested, blocks, blocksLine, autoRotated, ocw2, ocw3, nonSpecificEoi, specificEoi, afterIcw3, icw2, icw3, icw4, ocw1, fed, commanded, pulsed, counts, pendingLine, Highest, pendingIrq, pendingReply, asks, driven, acknowledged, acknowledge, unacknowledged, vectorReply}
 
 -- ---- priorities
@@ -416,8 +417,10 @@ module _ (c d : Chip) (v s : ℕ) (es : s ≡ c .«init_step») where
   unfolding fed
   fed-ocw1 h k l e = rw (ne-eqb (c .«init_step») 1 (λ z. h (es ∙ z)), ne-eqb (c .«init_step») 2 (λ z. k (es ∙ z)), ne-eqb (c .«init_step») 3 (λ z. l (es ∙ z))) e
 
-  pub fed-ready : s ≡ 0 → d ≡ ocw1 c v → d ≡ fed c v
-  fed-ready h e = fed-ocw1 (λ z. omega arith) (λ z. omega arith) (λ z. omega arith) e
+pub fed-ready : (c d : Chip) (v : ℕ) (b : Bool) → b ≡ eqb (c .«init_step») 0 → b ≡ true → d ≡ ocw1 c v → d ≡ fed c v
+fed-ready c d v b eb t e =
+    let z : 0 ≡ c .«init_step» = sym (eqb-true (c .«init_step») 0 (sym eb ∙ t)) in
+    fed-ocw1 c d v 0 z (λ n. omega arith) (λ n. omega arith) (λ n. omega arith) e
 
 pub commanded-eoi : (c d : Chip) (v : ℕ) → v ≡ 0x20 → d ≡ nonSpecificEoi c false → d ≡ commanded c v
 unfolding commanded
@@ -437,6 +440,14 @@ ended-way c d s n f es en l ed =
     go : (b : Bool) → ltb k 8 ≡ b → withInService c (without (c .«in_service») k) ≡ cond b (specificEoi c k) c
     go true e = refl
     go false e = ap (withInService c) (without-member (c .«in_service») k (bit-above 8 (c .«in_service») k (omega arith) (ltb-false k 8 e)))
+
+-- the highest line's bit taken off the word
+module _ (s n : ℕ) (en : n ≡ without s (lowest 8 s)) where
+  pub ended-le : n ≤ s
+  ended-le = omega (arith, without-le s (lowest 8 s))
+
+  pub ended-less : (w : ℕ) → s ≡ chipIn w .«in_service» → s < 2 ^ 8 → chipIn (w - (s - n) * 2 ^ 24) ≡ nonSpecificEoi (chipIn w) false
+  ended-less w es l = ended-way (chipIn w) _ s n (plain w) es en l (service-less w s n es ended-le)
 
 -- OCW2 without rotation's profile
 module _ (c : Chip) (v : ℕ) (f : c .full ≡ false) where

@@ -11,7 +11,7 @@ use Rattle.utils.specs.Set.{bit, with, without}
 use Rattle.utils.proofs.Laws.{bit-at-least, with-lt, without-le}
 use Rattle.types.specs.Reply.{flag}
 use Rattle.vpic_chip.specs.Registers.{Chip, registers, plainRegisters, asFull, fullIn, placed, withBase, withMask, withRequest, withInService, withStep, withAutoEoi, withReadIsr, withLowest, withAutoRotation, withSpecialMask, withPoll, withNested, chipIn}
-use Rattle.vpic_chip.specs.Chip.{opened, icw1, specificEoi}
+use Rattle.vpic_chip.specs.Chip.{opened, icw1, specificEoi, commandRead}
 
 abbrev byte : ℕ → ℕ → ℕ
 byte w n = w / 2 ^ n % 2 ^ 8
@@ -59,6 +59,16 @@ unfolding chipIn
 service-put w v r h e =
     parts r (w % 2 ^ 8) (byte w 8) (byte w 16) v (byte w 32) (digit w 40) (digit w 41) (digit w 42) (digit w 43) (w / 2 ^ 44)
     (omega arith) (omega arith) (omega arith) (omega arith) (omega arith) (omega arith) (omega arith) (omega arith) (omega arith) (omega arith)
+
+-- so is what is left of it, with what went taken off the word
+module _ (w s v : ℕ) (e : s ≡ chipIn w .«in_service») where
+  pub less-fits : (s - v) * 2 ^ 24 ≤ w
+  unfolding chipIn
+  less-fits = omega arith
+
+  pub service-less : v ≤ s → chipIn (w - (s - v) * 2 ^ 24) ≡ withInService (chipIn w) v
+  unfolding chipIn
+  service-less h = service-put w v (w - (s - v) * 2 ^ 24) (omega arith) (omega arith)
 
 pub step-put : (w v r : ℕ) → v < 2 ^ 8 → r ≡ w / 2 ^ 40 * 2 ^ 40 + v * 2 ^ 32 + w % 2 ^ 32 → chipIn r ≡ withStep (chipIn w) v
 unfolding chipIn
@@ -181,6 +191,19 @@ word-same v w q =
     let g16 : v / 2 ^ 16 ≡ w / 2 ^ 16 = above-and-here v w (2 ^ 16) (2 ^ 8) g24 (ap (λ (c : Chip). c .request) q) in
     let g8 : v / 2 ^ 8 ≡ w / 2 ^ 8 = above-and-here v w (2 ^ 8) (2 ^ 8) g16 (ap (λ (c : Chip). c .mask) q) in
     sym (div-add-mod' v (2 ^ 8)) ∙ ap₂ (λ (x y : ℕ). x * 2 ^ 8 + y) g8 (ap (λ (c : Chip). c .«vector_base») q) ∙ div-add-mod' w (2 ^ 8)
+
+-- ---- what the command port shows stands in a byte of the word, from a bit that the read choice says
+
+pub status-read : (w : ℕ) → w / 2 ^ (w / 2 ^ 43 % 2 * 8 + 16) % 2 ^ 8 ≡ commandRead (chipIn w)
+unfolding chipIn commandRead
+status-read w = go (eqb (w / 2 ^ 43 % 2) 1) refl
+  where
+    from : ℕ → ℕ
+    from n = w / 2 ^ (n * 8 + 16) % 2 ^ 8
+
+    go : (b : Bool) → eqb (w / 2 ^ 43 % 2) 1 ≡ b → from (w / 2 ^ 43 % 2) ≡ cond b (w / 2 ^ 24 % 2 ^ 8) (w / 2 ^ 16 % 2 ^ 8)
+    go true e = ap from (eqb-true (w / 2 ^ 43 % 2) 1 e)
+    go false e = let z : w / 2 ^ 43 % 2 ≡ 0 = omega (arith, eqb-false (w / 2 ^ 43 % 2) 1 e) in ap from z
 
 -- ---- the full profile's registers stand in what is left
 

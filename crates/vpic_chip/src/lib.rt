@@ -7,6 +7,7 @@
 ghost use mathlib.Core.Path.{_≡_};
 ghost use mathlib.Core.Bool.{false, cond, _||_};
 ghost use Prim.Native.Nat.{_<_, _≤_};
+ghost use lib.Dec.{eqb};
 ghost use Rattle.utils.specs.Set.{bit, with, without, setOf, lowest};
 ghost use Rattle.types.specs.Reply.{flag};
 ghost use Rattle.vpic_chip.specs.Registers.{withBase, withMask, withRequest, withInService, withStep, withAutoEoi, withReadIsr, withLowest, withAutoRotation, withSpecialMask, withPoll, withNested, chipIn, fullIn, placed};
@@ -99,6 +100,13 @@ impl PicChip {
         ensures { λ r. ⌜ r ≡ chipIn (self .0) .«init_step» ⌝ }
     {
         (self.0 / 0x1_0000_0000 % 0x100) as u8
+    }
+
+    // Whether no ICW is waited for, asked of the word: of a step that is asked for 0 to 3 the compiler makes a table of jumps.
+    fn is_ready(self) -> bool
+        ensures { λ r. ⌜ r ≡ eqb (chipIn (self .0) .«init_step») 0 ⌝ }
+    {
+        self.0 / 0x1_0000_0000 % 0x100 == 0
     }
 
     pub fn needs_icw4(self) -> bool
@@ -269,18 +277,20 @@ impl PicChip {
     fn end_highest(self) -> Self
         ensures { λ r. ⌜ chipIn (r .0) ≡ nonSpecificEoi (chipIn (self .0)) false ⌝ }
     {
-        self.with_in_service(set8::without_lowest(self.in_service()))
+        let set = self.in_service();
+        let ended = set - set8::without_lowest(set);
+        PicChip(self.0 - ended as u64 * 0x100_0000)
     }
 
     // A byte written to the data port.
     pub fn data(self, value: u8) -> Self
         ensures { λ r. ⌜ chipIn (r .0) ≡ fed (chipIn (self .0)) value ⌝ }
     {
-        let step = self.init_step();
         // As guests mostly do, and found at once.
-        if step == 0 {
+        if self.is_ready() {
             return self.ocw1(value);
         }
+        let step = self.init_step();
         if step == 1 {
             return self.icw2(value);
         }
@@ -335,10 +345,9 @@ impl PicChip {
     pub fn read_command(self) -> u8
         ensures { λ r. ⌜ r ≡ commandRead (chipIn (self .0)) ⌝ }
     {
-        if self.read_isr() {
-            return self.in_service();
-        }
-        self.request()
+        // The lines in service stand a byte above the requests.
+        let from = self.0 / 0x800_0000_0000 % 2 * 8 + 16;
+        ((self.0 >> from) % 0x100) as u8
     }
 }
 
@@ -378,10 +387,6 @@ impl PicChip {
     pub fn asks(self) -> bool
         ensures { λ r. ⌜ r ≡ asks (chipIn (self .0)) ⌝ }
     {
-        // As mostly, and found at once.
-        if self.request() == 0 {
-            return false;
-        }
         self.waiting() != 0
     }
 

@@ -9,8 +9,8 @@ is-full-requires c κs = search needs
 full-claim-line-requires : tie.Need-full-claim-line-requires
 full-claim-line-requires c κs = search needs
 
-claim-requires : tie.Need-claim-requires
-claim-requires c κs = search needs
+claim-in-requires : tie.Need-claim-in-requires
+claim-in-requires c κs = search needs
 
 returns : tie.Need-returns
 returns c = search irq-full
@@ -18,8 +18,8 @@ returns c = search irq-full
 claim-line-requires : tie.Need-claim-line-requires
 claim-line-requires c κs = search needs
 
-claim-requires-2 : tie.Need-claim-requires-2
-claim-requires-2 c κs = search needs
+claim-in-requires-2 : tie.Need-claim-in-requires-2
+claim-in-requires-2 c κs = search needs
 
 returns-2 : tie.Need-returns-2
 returns-2 c = search irq-plain
@@ -30,8 +30,8 @@ claim-irq-spec =
     (tie.spec
     is-full-requires
     full-claim-line-requires
-    claim-requires
+    claim-in-requires
     returns
     claim-line-requires
-    claim-requires-2
+    claim-in-requires-2
     returns-2)

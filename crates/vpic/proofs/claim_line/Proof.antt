@@ -1,3 +1,4 @@
+use mathlib.Core.Path.{refl}
 use Rattle.vpic.proofs.Laws.{irq-none, irq-some}
 use borrow.Author.Needs.{needs}
 use Rattle.vpic.proofs.claim_line.Statement.{statement}
@@ -10,7 +11,7 @@ latch-requires : tie.Need-latch-requires
 latch-requires c κs = search needs
 
 returns : tie.Need-returns
-returns c = search irq-none
+returns c = (search irq-none, refl)
 
 settle-requires : tie.Need-settle-requires
 settle-requires c κs = search needs
@@ -19,7 +20,7 @@ take-requires : tie.Need-take-requires
 take-requires c κs = search needs
 
 returns-2 : tie.Need-returns-2
-returns-2 c = search irq-some
+returns-2 c = (search irq-some, search needs)
 
 pub claim-line-spec : {M : Type 1} → statement M
 claim-line-spec =

@@ -10,7 +10,7 @@ settle-requires : tie.Need-settle-requires
 settle-requires c κs = search needs
 
 returns : tie.Need-returns
-returns c = search taken-settled
+returns c = (search taken-settled, search needs)
 
 pub claim-pending-spec : {M : Type 1} → statement M
 claim-pending-spec = tie.close (tie.spec take-requires settle-requires returns)

@@ -15,8 +15,8 @@ is-full-requires c κs = search needs
 full-claim-pending-requires : tie.Need-full-claim-pending-requires
 full-claim-pending-requires c κs = search needs
 
-claim-requires : tie.Need-claim-requires
-claim-requires c κs = search needs
+claim-in-requires : tie.Need-claim-in-requires
+claim-in-requires c κs = search needs
 
 returns-2 : tie.Need-returns-2
 returns-2 c = search pending-full
@@ -36,8 +36,8 @@ returns-3 c = search unasked-reply
 claim-pending-requires : tie.Need-claim-pending-requires
 claim-pending-requires c κs = search needs
 
-claim-requires-2 : tie.Need-claim-requires-2
-claim-requires-2 c κs = search needs
+claim-in-requires-2 : tie.Need-claim-in-requires-2
+claim-in-requires-2 c κs = search needs
 
 returns-4 : tie.Need-returns-4
 returns-4 c = search pending-plain
@@ -50,12 +50,12 @@ claim-pending-interrupt-spec =
     returns
     is-full-requires
     full-claim-pending-requires
-    claim-requires
+    claim-in-requires
     returns-2
     master-requires
     asks-requires
     settle-requires
     returns-3
     claim-pending-requires
-    claim-requires-2
+    claim-in-requires-2
     returns-4)

@@ -16,7 +16,7 @@ settle-requires : tie.Need-settle-requires
 settle-requires c κs = search needs
 
 returns : tie.Need-returns
-returns c = search slave-settled
+returns c = (search slave-settled, search needs)
 
 master-requires : tie.Need-master-requires
 master-requires c κs = search needs
@@ -28,13 +28,13 @@ take-slave-requires-2 : tie.Need-take-slave-requires-2
 take-slave-requires-2 c κs = search needs
 
 returns-2 : tie.Need-returns-2
-returns-2 c = search slave-quiet
+returns-2 c = (search slave-quiet, search needs)
 
 take-slave-requires-3 : tie.Need-take-slave-requires-3
 take-slave-requires-3 c κs = search needs
 
 returns-3 : tie.Need-returns-3
-returns-3 c = search slave-quiet
+returns-3 c = (search slave-quiet, search needs)
 
 pub claim-slave-spec : {M : Type 1} → statement M
 claim-slave-spec =

@@ -1,4 +1,4 @@
-use Rattle.vpic.proofs.Codes.{claim-kept, none-kept}
+use Rattle.vpic.proofs.Codes.{claim-kept, claim-number}
 use borrow.Author.Needs.{needs}
 use Rattle.vpic.proofs.claimed.Statement.{statement}
 use Rattle.vpic.proofs.claimed.Tie as tie
@@ -9,41 +9,41 @@ enum-known-vector c = search needs
 digit-requires : tie.Need-digit-requires
 digit-requires c κs = search needs
 
-mul-t8 : tie.Need-mul-t8
-mul-t8 c = search needs
+mul-result : tie.Need-mul-result
+mul-result c = search needs
 
-add-t9 : tie.Need-add-t9
-add-t9 c = search needs
+add-result : tie.Need-add-result
+add-result c = search needs
 
 digit-requires-2 : tie.Need-digit-requires-2
 digit-requires-2 c κs = search needs
 
-mul-t11 : tie.Need-mul-t11
-mul-t11 c = search needs
+mul-result-2 : tie.Need-mul-result-2
+mul-result-2 c = search needs
 
-add-t12 : tie.Need-add-t12
-add-t12 c = search needs
+add-result-2 : tie.Need-add-result-2
+add-result-2 c = search needs
 
-cast-t13 : tie.Need-cast-t13
-cast-t13 c = search needs
+cast-result : tie.Need-cast-result
+cast-result c = search needs
 
-mul-t14 : tie.Need-mul-t14
-mul-t14 c = search needs
+mul-result-3 : tie.Need-mul-result-3
+mul-result-3 c = search needs
 
-add-t15 : tie.Need-add-t15
-add-t15 c = search needs
+add-result-3 : tie.Need-add-result-3
+add-result-3 c = search needs
 
-cast-t16 : tie.Need-cast-t16
-cast-t16 c = search needs
+cast-result-2 : tie.Need-cast-result-2
+cast-result-2 c = search needs
 
-add-t17 : tie.Need-add-t17
-add-t17 c = search needs
+add-result-4 : tie.Need-add-result-4
+add-result-4 c = search needs
 
 enum-told : tie.Need-enum-told
 enum-told c = search needs
 
 returns : tie.Need-returns
-returns c = search claim-kept
+returns c = (search claim-kept, search claim-number)
 
 returns-2 : tie.Need-returns-2
 returns-2 c = search needs
@@ -54,16 +54,16 @@ claimed-spec =
     (tie.spec
     enum-known-vector
     digit-requires
-    mul-t8
-    add-t9
+    mul-result
+    add-result
     digit-requires-2
-    mul-t11
-    add-t12
-    cast-t13
-    mul-t14
-    add-t15
-    cast-t16
-    add-t17
+    mul-result-2
+    add-result-2
+    cast-result
+    mul-result-3
+    add-result-3
+    cast-result-2
+    add-result-4
     enum-told
     returns
     returns-2)

@@ -1,3 +1,4 @@
+use mathlib.Core.Path.{refl}
 use Rattle.vpic.proofs.Laws.{irq-none, irq-claimed}
 use borrow.Author.Needs.{needs}
 use Rattle.vpic.proofs.full_claim_line.Statement.{statement}
@@ -10,7 +11,7 @@ full-latch-requires : tie.Need-full-latch-requires
 full-latch-requires c κs = search needs
 
 returns : tie.Need-returns
-returns c = search irq-none
+returns c = (search irq-none, refl)
 
 full-settle-requires : tie.Need-full-settle-requires
 full-settle-requires c κs = search needs
@@ -19,7 +20,7 @@ full-claim-pending-requires : tie.Need-full-claim-pending-requires
 full-claim-pending-requires c κs = search needs
 
 returns-2 : tie.Need-returns-2
-returns-2 c = search irq-claimed
+returns-2 c = (search irq-claimed, search needs)
 
 pub full-claim-line-spec : {M : Type 1} → statement M
 full-claim-line-spec =

@@ -1,3 +1,4 @@
+use mathlib.Core.Path.{refl}
 use Rattle.vpic.proofs.Laws.{place-known}
 use Rattle.vpic.proofs.Full.{full-claim-master, full-claim-slave, full-claim-none}
 use borrow.Author.Needs.{needs}
@@ -32,13 +33,13 @@ full-settle-requires-3 : tie.Need-full-settle-requires-3
 full-settle-requires-3 c κs = search needs
 
 returns : tie.Need-returns
-returns c = search full-claim-master
+returns c = (search full-claim-master, search needs)
 
 returns-2 : tie.Need-returns-2
-returns-2 c = search full-claim-slave
+returns-2 c = (search full-claim-slave, search needs)
 
 returns-3 : tie.Need-returns-3
-returns-3 c = search full-claim-none
+returns-3 c = (search full-claim-none, refl)
 
 pub full-claim-pending-spec : {M : Type 1} → statement M
 full-claim-pending-spec =

@@ -20,7 +20,7 @@ claimed-requires : tie.Need-claimed-requires
 claimed-requires c κs = search needs
 
 returns : tie.Need-returns
-returns c = search (full-master-taken, placed-acknowledge)
+returns c = (search (full-master-taken, placed-acknowledge), search needs)
 
 pub full-take-master-spec : {M : Type 1} → statement M
 full-take-master-spec =

@@ -38,10 +38,12 @@ claimed-requires : tie.Need-claimed-requires
 claimed-requires c κs = search needs
 
 returns : tie.Need-returns
-returns c =
-    full-slave-taken _ _ _ _ _ (c .before .before .before .before .before .before .before .before .full-acknowledge2 .result .vector) _ (c .before .before .before .before .before .before .before .before .before .before .before .before .full-master .ensures) (c .before .before .before .before .before .before .full-set-master .ensures) _ _ _ _ (c .before .before .before .before .before .before .before .before .before .full-acknowledge .result .vector) _ (c .before .before .grew .ensures) (c .before .before .before .before .before .before .before .before .before .before .before .before .before .before .pre)
-    (placed-acknowledge true _ _ _ _ (c .before .before .before .before .before .before .before .before .before .full-acknowledge .ensures)) (c .before .before .before .before .before .before .before .before .before .before .full-slave .ensures) (placed-acknowledge false _ _ _ _ (c .before .before .before .before .before .before .before .before .full-acknowledge2 .ensures)) (c .before .before .before .before .full-set-slave .ensures)
-    (c .before .grew2 .ensures) (c .claimed .ensures)
+returns c = (
+  full-slave-taken _ _ _ _ _ (c .before .before .before .before .before .before .before .before .full-acknowledge2 .result .vector) _ (c .before .before .before .before .before .before .before .before .before .before .before .before .full-master .ensures) (c .before .before .before .before .before .before .full-set-master .ensures) _ _ _ _ (c .before .before .before .before .before .before .before .before .before .full-acknowledge .result .vector) _ (c .before .before .grew .ensures) (c .before .before .before .before .before .before .before .before .before .before .before .before .before .before .pre)
+      (placed-acknowledge true _ _ _ _ (c .before .before .before .before .before .before .before .before .before .full-acknowledge .ensures)) (c .before .before .before .before .before .before .before .before .before .before .full-slave .ensures) (placed-acknowledge false _ _ _ _ (c .before .before .before .before .before .before .before .before .full-acknowledge2 .ensures)) (c .before .before .before .before .full-set-slave .ensures)
+      (c .before .grew2 .ensures) (c .claimed .ensures .0),
+  c .claimed .ensures .1,
+)
 
 pub full-take-slave-spec : {M : Type 1} → statement M
 full-take-slave-spec =

@@ -1,4 +1,4 @@
-use Rattle.vpic.proofs.Laws.{quiet-is}
+use Rattle.vpic.proofs.Laws.{quiet-not, quiet-is}
 use borrow.Author.Needs.{needs}
 use Rattle.vpic.proofs.is_quiet.Statement.{statement}
 use Rattle.vpic.proofs.is_quiet.Tie as tie
@@ -9,8 +9,8 @@ master-requires c κs = search needs
 request-requires : tie.Need-request-requires
 request-requires c κs = search needs
 
-cast-result : tie.Need-cast-result
-cast-result c = search needs
+returns : tie.Need-returns
+returns c = search quiet-not
 
 slave-requires : tie.Need-slave-requires
 slave-requires c κs = search needs
@@ -18,24 +18,10 @@ slave-requires c κs = search needs
 request-requires-2 : tie.Need-request-requires-2
 request-requires-2 c κs = search needs
 
-cast-result-2 : tie.Need-cast-result-2
-cast-result-2 c = search needs
-
-add-result : tie.Need-add-result
-add-result c = search needs
-
-returns : tie.Need-returns
-returns c = search quiet-is
+returns-2 : tie.Need-returns-2
+returns-2 c = search quiet-is
 
 pub is-quiet-spec : {M : Type 1} → statement M
 is-quiet-spec =
     tie.close
-    (tie.spec
-    master-requires
-    request-requires
-    cast-result
-    slave-requires
-    request-requires-2
-    cast-result-2
-    add-result
-    returns)
+    (tie.spec master-requires request-requires returns slave-requires request-requires-2 returns-2)

@@ -15,8 +15,8 @@ is-full-requires c κs = search needs
 full-claim-pending-requires : tie.Need-full-claim-pending-requires
 full-claim-pending-requires c κs = search needs
 
-claim-requires : tie.Need-claim-requires
-claim-requires c κs = search needs
+claim-in-requires : tie.Need-claim-in-requires
+claim-in-requires c κs = search needs
 
 vector-requires : tie.Need-vector-requires
 vector-requires c κs = search needs
@@ -39,8 +39,8 @@ returns-3 c = search unasked-vector
 claim-pending-requires : tie.Need-claim-pending-requires
 claim-pending-requires c κs = search needs
 
-claim-requires-2 : tie.Need-claim-requires-2
-claim-requires-2 c κs = search needs
+claim-in-requires-2 : tie.Need-claim-in-requires-2
+claim-in-requires-2 c κs = search needs
 
 vector-requires-2 : tie.Need-vector-requires-2
 vector-requires-2 c κs = search needs
@@ -56,7 +56,7 @@ next-interrupt-spec =
     returns
     is-full-requires
     full-claim-pending-requires
-    claim-requires
+    claim-in-requires
     vector-requires
     returns-2
     master-requires
@@ -64,6 +64,6 @@ next-interrupt-spec =
     settle-requires
     returns-3
     claim-pending-requires
-    claim-requires-2
+    claim-in-requires-2
     vector-requires-2
     returns-4)

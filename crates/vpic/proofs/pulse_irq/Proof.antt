@@ -9,8 +9,8 @@ is-full-requires c κs = search needs
 full-claim-line-requires : tie.Need-full-claim-line-requires
 full-claim-line-requires c κs = search needs
 
-claim-requires : tie.Need-claim-requires
-claim-requires c κs = search needs
+claim-in-requires : tie.Need-claim-in-requires
+claim-in-requires c κs = search needs
 
 vector-requires : tie.Need-vector-requires
 vector-requires c κs = search needs
@@ -21,8 +21,8 @@ returns c = search pulse-full
 claim-line-requires : tie.Need-claim-line-requires
 claim-line-requires c κs = search needs
 
-claim-requires-2 : tie.Need-claim-requires-2
-claim-requires-2 c κs = search needs
+claim-in-requires-2 : tie.Need-claim-in-requires-2
+claim-in-requires-2 c κs = search needs
 
 vector-requires-2 : tie.Need-vector-requires-2
 vector-requires-2 c κs = search needs
@@ -36,10 +36,10 @@ pulse-irq-spec =
     (tie.spec
     is-full-requires
     full-claim-line-requires
-    claim-requires
+    claim-in-requires
     vector-requires
     returns
     claim-line-requires
-    claim-requires-2
+    claim-in-requires-2
     vector-requires-2
     returns-2)

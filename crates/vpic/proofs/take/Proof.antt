@@ -1,3 +1,4 @@
+use mathlib.Core.Path.{refl}
 use Rattle.vpic.proofs.Laws.{takes-at, takes-none, place-known}
 use borrow.Author.Needs.{needs}
 use Rattle.vpic.proofs.take.Statement.{statement}
@@ -22,13 +23,13 @@ enum-told : tie.Need-enum-told
 enum-told c = search needs
 
 returns : tie.Need-returns
-returns c = search takes-at
+returns c = (search takes-at, search needs)
 
 returns-2 : tie.Need-returns-2
-returns-2 c = search takes-at
+returns-2 c = (search takes-at, search needs)
 
 returns-3 : tie.Need-returns-3
-returns-3 c = search takes-none
+returns-3 c = (search takes-none, refl)
 
 pub take-spec : {M : Type 1} → statement M
 take-spec =

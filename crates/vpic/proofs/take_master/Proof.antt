@@ -20,7 +20,7 @@ claimed-requires : tie.Need-claimed-requires
 claimed-requires c κs = search needs
 
 returns : tie.Need-returns
-returns c = search (master-taken, plain)
+returns c = (search (master-taken, plain), search needs)
 
 pub take-master-spec : {M : Type 1} → statement M
 take-master-spec =

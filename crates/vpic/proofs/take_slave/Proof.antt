@@ -37,7 +37,7 @@ claimed-requires : tie.Need-claimed-requires
 claimed-requires c κs = search needs
 
 returns : tie.Need-returns
-returns c = search (slave-taken, plain)
+returns c = (search (slave-taken, plain), search needs)
 
 pub take-slave-spec : {M : Type 1} → statement M
 take-slave-spec =

@@ -6,18 +6,12 @@ use Rattle.vpic_c.proofs.sillwander_pic_claim_irq.Tie as tie
 line-requires : tie.Need-line-requires
 line-requires c κs = search needs
 
-claim-irq-requires : tie.Need-claim-irq-requires
-claim-irq-requires c κs = search needs
-
-reply-requires : tie.Need-reply-requires
-reply-requires c κs = search needs
-
-code-requires : tie.Need-code-requires
-code-requires c κs = search needs
+claim-irq-number-requires : tie.Need-claim-irq-number-requires
+claim-irq-number-requires c κs = search needs
 
 returns : tie.Need-returns
 returns c = search irq-code
 
 pub sillwander-pic-claim-irq-spec : {M : Type 1} → statement M
 sillwander-pic-claim-irq-spec =
-    tie.close (tie.spec line-requires claim-irq-requires reply-requires code-requires returns)
+    tie.close (tie.spec line-requires claim-irq-number-requires returns)

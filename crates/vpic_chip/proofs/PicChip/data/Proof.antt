@@ -3,14 +3,17 @@ use borrow.Author.Needs.{needs}
 use Rattle.vpic_chip.proofs.PicChip.data.Statement.{statement}
 use Rattle.vpic_chip.proofs.PicChip.data.Tie as tie
 
-init-step-requires : tie.Need-init-step-requires
-init-step-requires c κs = search needs
+is-ready-requires : tie.Need-is-ready-requires
+is-ready-requires c κs = search needs
 
 ocw1-requires : tie.Need-ocw1-requires
 ocw1-requires c κs = search needs
 
 returns : tie.Need-returns
 returns c = search fed-ready
+
+init-step-requires : tie.Need-init-step-requires
+init-step-requires c κs = search needs
 
 icw2-requires : tie.Need-icw2-requires
 icw2-requires c κs = search needs
@@ -40,9 +43,10 @@ pub data-spec : {M : Type 1} → statement M
 data-spec =
     tie.close
     (tie.spec
-    init-step-requires
+    is-ready-requires
     ocw1-requires
     returns
+    init-step-requires
     icw2-requires
     returns-2
     icw3-requires

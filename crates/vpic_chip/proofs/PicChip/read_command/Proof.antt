@@ -1,26 +1,22 @@
-use Rattle.utils.specs.Cases.{cases}
-use Rattle.vpic_chip.specs.Chip.{commandRead}
+use Rattle.vpic_chip.proofs.Packing.{status-read}
 use borrow.Author.Needs.{needs}
 use Rattle.vpic_chip.proofs.PicChip.read_command.Statement.{statement}
 use Rattle.vpic_chip.proofs.PicChip.read_command.Tie as tie
 
-read-isr-requires : tie.Need-read-isr-requires
-read-isr-requires c κs = search needs
+mul-from : tie.Need-mul-from
+mul-from c = search needs
 
-in-service-requires : tie.Need-in-service-requires
-in-service-requires c κs = search needs
+add-from : tie.Need-add-from
+add-from c = search needs
+
+shr-result : tie.Need-shr-result
+shr-result c = search needs
+
+cast-result : tie.Need-cast-result
+cast-result c = search needs
 
 returns : tie.Need-returns
-unfolding commandRead
-returns c = search cases
-
-request-requires : tie.Need-request-requires
-request-requires c κs = search needs
-
-returns-2 : tie.Need-returns-2
-unfolding commandRead
-returns-2 c = search cases
+returns c = status-read _
 
 pub read-command-spec : {M : Type 1} → statement M
-read-command-spec =
-    tie.close (tie.spec read-isr-requires in-service-requires returns request-requires returns-2)
+read-command-spec = tie.close (tie.spec mul-from add-from shr-result cast-result returns)
