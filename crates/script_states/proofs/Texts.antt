@@ -21,7 +21,7 @@ use Rattle.script_states.specs.States.{chipsText}
 same-size : {l m : List ℕ} {at end : ℕ} {vs : List ℕ} → Puts l at vs m end → length m ≡ length l
 same-size {l} {m} {at} {end} {vs} p = ap length (p .buffer) ∙ length-sets l at vs
 
-put-all-words : {l m : List ℕ} {at end : ℕ} (ws : List ℕ) → at + 21 * length ws + 1 ≤ length l → Puts l at (wordsInRoom (length l) at ws) m end → Puts l at (wordsLine ws) m end
+pub put-all-words : {l m : List ℕ} {at end : ℕ} (ws : List ℕ) → at + 21 * length ws + 1 ≤ length l → Puts l at (wordsInRoom (length l) at ws) m end → Puts l at (wordsLine ws) m end
 put-all-words {l} {m} {at} ws h p = rw (le-leb (at + 21 * length ws + 1) (length l) h) at p
 
 -- five lines of words, one behind the other

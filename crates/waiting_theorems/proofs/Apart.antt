@@ -21,8 +21,8 @@ use Rattle.waiting.specs.Waiting.{Waiting, isFull}
 use Rattle.waiting.specs.Lists as lists
 use Rattle.waiting.specs.Lists.{Lists, isKnown, listAt, withList, onList}
 use Rattle.waiting_claims.specs.Claims.{Host, host, handed, claimFor}
-use Rattle.waiting_theorems.specs.Calls.{Call, take-in, deliver, cancel, count, peek, claim-irq, claim-pending-interrupt, meanwhile, outcome, isFor, answersTo, only, isClaim, NoClaims}
-use Rattle.waiting_theorems.specs.Statements.{Apart, Alike, SameAnswer, ApartWithPair}
+use Rattle.waiting_theorems.specs.Calls.{Call, take-in, deliver, cancel, count, peek, claim-irq, claim-pending-interrupt, meanwhile, outcome, run, isFor, answersTo, only, isClaim, NoClaims}
+use Rattle.waiting_theorems.specs.Statements.{Apart, Alike, ApartLists, SameAnswer, ApartWithPair}
 use Rattle.waiting_theorems.proofs.Steps.{on-known, on-unknown, same-id, put-same, put-other}
 
 -- ---- the lists of two hosts
@@ -150,19 +150,39 @@ own k (meanwhile p) g h e n m = absurd (let z : _≡_ {A = ℕ} 0 1 = cc in omeg
 joined-same : (k : VcpuId) (s t u : Lists) → Same k s t → Same k t u → Same k s u
 joined-same k s t u a b = record { known = a .known ∙ b .known; list = a .list ∙ b .list }
 
-alone : (k : VcpuId) (g h : Host) (cs : List Call) → NoClaims cs → Same k (g .lists) (h .lists) → answersTo k g cs ≡ answersTo k h (only k cs)
-alone k g h [] n m = refl
-alone k g h (c ∷ cs) n m = go (isFor k c) refl (λ g′ h′ m′. alone k g′ h′ cs (n .1) m′)
+-- a run and the vCPU's own calls alone, from lists that are the same for it: the same answers, and its list the same
+Alone : VcpuId → Host → Host → List Call → List Call → Type 0
+Alone k g h cs ds = (answersTo k g cs ≡ answersTo k h ds) × Same k (run g cs .lists) (run h ds .lists)
+
+alone : (k : VcpuId) (g h : Host) (cs : List Call) → NoClaims (only k cs) → Same k (g .lists) (h .lists) → Alone k g h cs (only k cs)
+unfolding Alone
+alone k g h [] n m = (refl, m)
+alone k g h (c ∷ cs) n m = go (isFor k c) refl n (λ g′ h′ n′ m′. alone k g′ h′ cs n′ m′)
   where
-    go : (b : Bool) → isFor k c ≡ b → ((g′ h′ : Host) → Same k (g′ .lists) (h′ .lists) → answersTo k g′ cs ≡ answersTo k h′ (only k cs))
-        → cond b (outcome g c .reply ∷ answersTo k (outcome g c .state) cs) (answersTo k (outcome g c .state) cs) ≡ answersTo k h (cond b (c ∷ only k cs) (only k cs))
-    go true e rest =
-        let a = own k c g h e (n .0) m in
-        rw e (λ i. a .0 i ∷ rest (outcome g c .state) (outcome h c .state) (a .1) i)
-    go false e rest = rest (outcome g c .state) h (joined-same k (outcome g c .state .lists) (g .lists) (h .lists) (other k c g e) m)
+    go : (b : Bool) → isFor k c ≡ b → NoClaims (cond b (c ∷ only k cs) (only k cs))
+        → ((g′ h′ : Host) → NoClaims (only k cs) → Same k (g′ .lists) (h′ .lists) → Alone k g′ h′ cs (only k cs))
+        → (cond b (outcome g c .reply ∷ answersTo k (outcome g c .state) cs) (answersTo k (outcome g c .state) cs) ≡ answersTo k h (cond b (c ∷ only k cs) (only k cs)))
+        × Same k (run (outcome g c .state) cs .lists) (run h (cond b (c ∷ only k cs) (only k cs)) .lists)
+    go true e l rest =
+        let a = own k c g h e (l .0) m in
+        let r = rest (outcome g c .state) (outcome h c .state) (l .1) (a .1) in
+        rw e ((λ i. a .0 i ∷ r .0 i), r .1)
+    go false e l rest = rest (outcome g c .state) h l (joined-same k (outcome g c .state .lists) (g .lists) (h .lists) (other k c g e) m)
 
 pub apart : Apart
-apart k h cs n = alone k h h cs n (record { known = refl; list = refl })
+unfolding Alone
+apart k h cs n = alone k h h cs n (record { known = refl; list = refl }) .0
+
+turned-same : (k : VcpuId) (s t : Lists) → Same k s t → Same k t s
+turned-same k s t a = record { known = sym (a .known); list = sym (a .list) }
+
+pub apart-lists : ApartLists
+unfolding Alone
+apart-lists k g h cs ds a e n =
+    let x = alone k g h cs n (to k g h a) in
+    let y = alone k h h ds (rw e at n) (record { known = refl; list = refl }) in
+    let z : Alone k g h cs (only k ds) = rw e at x in
+    (z .0 ∙ sym (y .0), of k (run g cs) (run h ds) (joined-same k (run g cs .lists) (run h (only k ds) .lists) (run h ds .lists) (z .1) (turned-same k (run h ds .lists) (run h (only k ds) .lists) (y .1))))
 
 by-claim : (k id : VcpuId) (claim : PicState → StateClaim) (g h : Host) → eqb (id .0) (k .0) ≡ true → Alike k g h → g .pair ≡ h .pair → Claims k (claimFor g id claim) (claimFor h id claim)
 by-claim k id claim g h e a p = rw (same-id id k e) (claim-own g h k claim (to k g h a) p)

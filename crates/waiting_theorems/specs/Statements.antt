@@ -99,14 +99,21 @@ RefusedIrqLatched =
 
 -- ---- apart
 
--- without claims of the pair, a vCPU's answers are those of its own calls alone, whatever is called for others
+-- without claims of its own, a vCPU's answers are those of its own calls alone, whatever is called for others, claims of the pair too
 abbrev pub Apart : Type 0
-Apart = (k : VcpuId) (h : Host) (cs : List Call) → NoClaims cs → answersTo k h cs ≡ answersTo k h (only k cs)
+Apart = (k : VcpuId) (h : Host) (cs : List Call) → NoClaims (only k cs) → answersTo k h cs ≡ answersTo k h (only k cs)
 
 -- a vCPU's list in two hosts, where both know it or neither does
 pub record Alike (k : VcpuId) (g h : Host) : Type 0 where
   pub known : isKnown (g .lists) k ≡ isKnown (h .lists) k
   pub list : listAt (g .lists) k ≡ listAt (h .lists) k
+
+-- so two runs may differ in all that other vCPUs have waiting, in all that is called for them, and in the pair: where a vCPU's own list is the same, and its own calls, which
+-- are no claims, they are answered the same, and leave its list the same
+abbrev pub ApartLists : Type 0
+ApartLists =
+    (k : VcpuId) (g h : Host) (cs ds : List Call) → Alike k g h → only k cs ≡ only k ds → NoClaims (only k cs)
+    → (answersTo k g cs ≡ answersTo k h ds) × Alike k (run g cs) (run h ds)
 
 -- a claim goes by the pair too: with the pair in the same state, a vCPU's call is answered by its own list alone, and leaves that and the pair alike
 pub record SameAnswer (k : VcpuId) (c : Call) (g h : Host) : Type 0 where

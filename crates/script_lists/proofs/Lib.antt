@@ -1,0 +1,4 @@
+pub mod Places
+pub mod Hosts
+pub mod Gathered
+pub mod Texts
