@@ -48,6 +48,7 @@ extern "C" {
 #define SILLWANDER_OUT_OF_RANGE 5     /* a vector, destination, vCPU count or id, or PIC line that is too large; more than 24 lines to plan */
 #define SILLWANDER_NO_PLAN 8          /* lines that can't each have a vector of their own */
 #define SILLWANDER_LIST_FULL 9        /* a vCPU's waiting list with no place left */
+#define SILLWANDER_BAD_IMAGE 10       /* bytes that aren't the image of any state that keeps its chips' rules */
 #define SILLWANDER_TOO_SHORT 11       /* a lent buffer with fewer bytes than what goes into it */
 
 /*
@@ -356,6 +357,28 @@ uint64_t sillwander_waiting_peek(const uint8_t *lists, size_t bytes, size_t vcpu
    latched. A claim that finds nothing is done, also with a full list. */
 uint64_t sillwander_waiting_claim_irq(uint8_t *lists, size_t bytes, uint64_t pic[4], size_t vcpu_id, uint64_t irq);
 uint64_t sillwander_waiting_claim_pending_interrupt(uint8_t *lists, size_t bytes, uint64_t pic[4], size_t vcpu_id);
+
+/*
+ * ---- Moving a running guest between hosts: an image of 628 bytes
+ *
+ * An image holds the words of a board and of the pair, in the layouts above: tagged fields, which docs/IMAGE.md lists. One state has one image: version, mode and rule are written as
+ * what they mean, of the other words the bytes that stand for something, and of base, size and spare words nothing. What isn't in it: waiting lists and the records of several vCPUs, which the
+ * caller moves himself (they are plain bytes), and whatever he keeps besides, the levels of his devices' lines among it.
+ *
+ * The I/O APIC may be of either version and the pair of any rule; base and size are 0xfec00000 and 0x1000. Arrays, words and bytes, may not overlap, and no pointer may be null.
+ */
+#define SILLWANDER_IMAGE_SIZE 628
+
+/* Writes the image to the buffer's start. One value, its length, 628; what is behind it in a longer buffer stays. Takes any words; but only of those that keep their chips' rules does
+   sillwander_image_restore take the image: a new board and pair, and what their calls make of them. Refused, and the buffer untouched: 11 for fewer than 628 bytes. */
+uint64_t sillwander_image_save(const uint64_t ioapic[32], const uint64_t apic[48], const uint64_t pic[4], uint8_t *image, size_t bytes);
+
+/* Restores what was saved: every word is written, the spare ones and the bits that stand for nothing as 0. Answers 0. Refused, and every word as it was: 10 for bytes that no state which
+   keeps the rules writes. They are: word 30 of the I/O APIC agrees with its registers; an interrupt is deferred only in flight, and in flight only level-triggered (in version 0x11: and
+   fit to be sent); bit 12 of a register is clear in version 0x20; each local register holds what it can store; nothing is requested or in service below vector 16; PPR follows TPR and the
+   highest vector in service; of the pair, a base is a multiple of 8 and a step at most 3, what belongs to rule 2 is 0 by another rule, and by rules 1 and 2 the master's request 2 is set
+   exactly when a request of the slave counts. */
+uint64_t sillwander_image_restore(const uint8_t *image, size_t bytes, uint64_t ioapic[32], uint64_t apic[48], uint64_t pic[4]);
 
 #ifdef __cplusplus
 }

@@ -1,2 +1,4 @@
 pub mod Listed
 pub mod Saving
+pub mod Copying
+pub mod Restoring

@@ -2,7 +2,8 @@
 use Prim.Native.Nat.{ℕ, zero, suc, _+_, _*_, _/_, _%_}
 use mathlib.Core.Bool.{cond}
 use mathlib.Core.List.{List, [], _∷_, _++_}
-use lib.ListN.{getD, set}
+use lib.Dec.{ltb}
+use lib.ListN.{getD, set, length, drop}
 use Rattle.image_format.specs.Format.{Row, isNumber, stepOf, format}
 
 -- a number's lowest bytes, the low one first
@@ -46,3 +47,10 @@ loaded (r ∷ rows) s at words = loaded rows s (at + stepOf r) (taken s at r wor
 
 unfoldable pub wordsIn : List ℕ → List ℕ → List ℕ
 wordsIn s words = loaded format s 0 words
+
+-- what the writer leaves in a buffer, and the reader in the words: a buffer that is too short stays as it was, and so do the words where the image is
+abbrev pub writtenTo : List ℕ → List ℕ → List ℕ
+writtenTo words buf = cond (ltb (length buf) imageSize) buf (imageOf words ++ drop imageSize buf)
+
+abbrev pub loadedFrom : List ℕ → List ℕ → List ℕ
+loadedFrom s words = cond (ltb (length s) imageSize) words (wordsIn s words)

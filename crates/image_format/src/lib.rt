@@ -4,10 +4,9 @@
 ghost use mathlib.Core.Path.{_≡_};
 ghost use mathlib.Core.Bool.{true};
 ghost use Prim.Native.Nat.{ℕ, _+_, _-_, _<_, _≤_};
-ghost use lib.ListN.{length, drop, getD};
-ghost use mathlib.Core.List.{_++_};
+ghost use lib.ListN.{length, getD};
 ghost use Rattle.image_format.specs.Format.{isNumber, stepOf, rowAt};
-ghost use Rattle.image_format.specs.Image.{bytesOf, numberAt, headerOf, fieldWith, imageOf, taken, wordsIn};
+ghost use Rattle.image_format.specs.Image.{bytesOf, numberAt, headerOf, fieldWith, taken, writtenTo, loadedFrom};
 ghost use lib.Seq.{sets};
 ghost use Rattle.image_format.specs.Reading.{refused, stands, fieldBy, groupBy, fieldFrom, isWhole, isRead};
 
@@ -245,11 +244,13 @@ fn take_field(s: &[u8], at: usize, row: usize, words: &mut [u64; 84])
     }
 }
 
-// The image's numbers go to their words; the other words stay.
+// The image's numbers go to their words; the other words stay, and all do where it is too short.
 pub fn load(image: &[u8], words: &mut [u64; 84])
-    requires { ⌜ 628 ≤ length (now image) ⌝ }
-    ensures { λ _. ⌜ now (words .exit) ≡ wordsIn (now (image .entry)) (now (words .entry)) ⌝ }
+    ensures { λ _. ⌜ now (words .exit) ≡ loadedFrom (now (image .entry)) (now (words .entry)) ⌝ }
 {
+    if image.len() < IMAGE_SIZE {
+        return;
+    }
     let mut at = 0;
     let mut row = 0;
     while row < ROWS {
@@ -303,11 +304,13 @@ fn word_of(words: &[u64; 84], row: usize) -> u64
     words[k]
 }
 
-// The image of the words, at the buffer's start; the rest of a longer buffer stays.
+// The image of the words, at the buffer's start; the rest of a longer buffer stays, and all of one that is too short.
 pub fn write(words: &[u64; 84], buf: &mut [u8])
-    requires { ⌜ 628 ≤ length (now buf) ⌝ }
-    ensures { λ _. ⌜ now (buf .exit) ≡ imageOf (now (words .entry)) ++ drop 628 (now (buf .entry)) ⌝ }
+    ensures { λ _. ⌜ now (buf .exit) ≡ writtenTo (now (words .entry)) (now (buf .entry)) ⌝ }
 {
+    if buf.len() < IMAGE_SIZE {
+        return;
+    }
     let mut at = 0;
     let mut row = 0;
     while row < ROWS {

@@ -1,10 +1,10 @@
 -- The rules that an image's chips must keep (document 02, T-11): what every call keeps, as a test. The definitions are the chips' own.
 -- 82093AA: IOREDTBL (Delivery Status, Remote IRR). Intel SDM volume 3, the APIC chapter: TPR, PPR, LDR, DFR, ESR, LVT, ICR; valid
--- interrupt vectors (16 to 255).
+-- interrupt vectors (16 to 255). 8259A: ICW2 (bits 3 to 7 of the vector), the initialization sequence, cascade mode.
 use Prim.Native.Nat.{ℕ, zero, suc, _*_, _/_, _%_, _^_}
 use mathlib.Core.Bool.{Bool, true, false, not, cond, _&&_, _||_}
 use mathlib.Core.List.{List}
-use lib.Dec.{eqb}
+use lib.Dec.{ltb, eqb}
 use Rattle.utils.specs.Set.{bit}
 use Rattle.vioapic_entry.specs.Redirection.{remoteIrr, isLevel, isFit}
 use Rattle.vioapic_entry.specs.declared.Entry.{Entry}
@@ -19,6 +19,10 @@ use Rattle.vlapic_regs.specs.Register.{lowByte, topByte, modelBits}
 use Rattle.vlapic_icr.specs.Fields.{idle}
 use Rattle.vlapic_words.specs.Words.{word, view}
 use Rattle.vlapic_requests.specs.Requests.{writeTpr}
+use Rattle.vpic_chip.specs.Registers.{Chip}
+use Rattle.vpic_chip.specs.Chip.{cascadeIrq, asks}
+use Rattle.vpic.specs.Words.{PicState}
+use Rattle.vpic.specs.Pair.{isRule, isCascade}
 
 -- each of the first n
 unfoldable pub all : ℕ → (ℕ → Bool) → Bool
@@ -82,3 +86,16 @@ pprKeeps l = eqb (writeTpr (view l) (word l 2) .ppr) (word l 3)
 
 unfoldable pub apicKeeps : List ℕ → Bool
 apicKeeps l = all 42 (wordKeeps l) && pprKeeps l
+
+-- ---- the pair
+
+-- a chip: its base is what ICW2 leaves, its step one of initialization's, and no bit is set that stands for nothing; where it isn't a full one, those of the full profile stand for nothing
+abbrev pub chipKeeps : Chip → Bool
+chipKeeps c = eqb (c .«vector_base» % 8) 0 && (ltb (c .«init_step») 4 && eqb (c .spare) 0)
+
+-- where the rule follows it, the master's request 2 is the slave's output
+abbrev pub cascadeKeeps : PicState → Bool
+cascadeKeeps p = implies (isCascade p) (same (bit (p .master .request) (cascadeIrq .0)) (asks (p .slave)))
+
+unfoldable pub pairKeeps : PicState → Bool
+pairKeeps p = isRule (p .rule) && (eqb (p .spare) 0 && (chipKeeps (p .master) && (chipKeeps (p .slave) && cascadeKeeps p)))

@@ -9,10 +9,13 @@ ghost use Rattle.vioapic.specs.State.{view};
 ghost use Rattle.vlapic_words.specs.Words.{word, view as apicView};
 ghost use Rattle.vlapic_regs.specs.Lvt.{lvtMonitor};
 ghost use Rattle.vlapic_regs.specs.Register.{topByte};
-ghost use Rattle.image_rules.specs.Rules.{same, mayFly, isV20, entryKeeps, entryKeepsAt, ioapicKeeps, keptOf, wordKeeps, pprKeeps, apicKeeps};
+ghost use Rattle.vpic_chip.specs.Registers.{chipIn, fullIn};
+ghost use Rattle.vpic.specs.Words.{view as pairView};
+ghost use Rattle.image_rules.specs.Rules.{same, mayFly, isV20, entryKeeps, entryKeepsAt, ioapicKeeps, keptOf, wordKeeps, pprKeeps, apicKeeps, chipKeeps, cascadeKeeps, pairKeeps};
 use types::Gsi;
 use vioapic::IoApicVersion;
 use vioapic_entry::Entry;
+use vpic::PicRule;
 
 // ---- Tests
 
@@ -217,4 +220,52 @@ pub fn apic_keeps(words: &[u64; 48]) -> bool
         k += 1;
     }
     ppr_keeps(words)
+}
+
+// ---- The pair
+
+fn chip_keeps(word: u64, full: bool) -> bool
+    ensures { λ r. ⌜ r ≡ chipKeeps (cond full (fullIn word) (chipIn word)) ⌝ }
+{
+    if word % 0x100 % 8 != 0 {
+        return false;
+    }
+    if word / 0x1_0000_0000 % 0x100 >= 4 {
+        return false;
+    }
+    let rest = word / 0x1000_0000_0000;
+    if full {
+        return rest / 0x80 == 0;
+    }
+    rest == 0
+}
+
+fn cascade_keeps(words: &[u64; 4]) -> bool
+    ensures { λ r. ⌜ r ≡ cascadeKeeps (pairView (now (words .entry))) ⌝ }
+{
+    let requested = vpic::master(words).request() / 4 % 2 == 1;
+    match vpic::rule(words) {
+        PicRule::Latch => true,
+        PicRule::Cascade => same(requested, vpic::slave(words).asks()),
+        PicRule::Full => same(requested, vpic::slave(words).full_asks(false)),
+    }
+}
+
+pub fn pair_keeps(words: &[u64; 4]) -> bool
+    ensures { λ r. ⌜ r ≡ pairKeeps (pairView (now (words .entry))) ⌝ }
+{
+    if !PicRule::is_number(words[2]) {
+        return false;
+    }
+    if words[3] != 0 {
+        return false;
+    }
+    let full = words[2] == 2;
+    if !chip_keeps(words[0], full) {
+        return false;
+    }
+    if !chip_keeps(words[1], full) {
+        return false;
+    }
+    cascade_keeps(words)
 }

@@ -5,11 +5,12 @@ use mathlib.Core.List.{List, [], _∷_, _++_, append-assoc, append-nil}
 use Prim.Native.Nat.{ℕ, zero, suc, _+_, _-_, _*_, _/_, _%_, _^_, _<_, _≤_}
 use native.Mathlib.Omega.{arith}
 use native.Mathlib.Nat.{pow-succ'}
+use lib.Arith.{mod-mul}
 use native.Mathlib.Numerals.{add-one}
-use borrow.Author.Tests.{eqb-true, eqb-false, not-true}
-use lib.Dec.{eqb}
+use borrow.Author.Tests.{ltb-true, eqb-true, eqb-false, not-true}
+use lib.Dec.{ltb, eqb}
 use lib.Seq.{drop-cons, drop-append-add, getD-drop, drop-drop, drop-length, drop-at, getD-set-same, getD-set-other}
-use Rattle.utils.proofs.Bools.{either, and-true}
+use Rattle.utils.proofs.Bools.{either, both, and-true}
 use Rattle.image_format.proofs.Rounds.{rows-from, rows-end}
 use Rattle.image_format.proofs.Rows.{rows-are, slot-small}
 use Rattle.image_format.proofs.Bytes.{length-field}
@@ -18,7 +19,7 @@ use lib.ListN.{getD, set, length, drop, length-set}
 use Rattle.image_format.specs.Format.{Row, row, isNumber, stepOf, bytes, format, rowAt}
 use Rattle.image_format.specs.Image.{bytesOf, numberAt, headerOf, fieldWith, fieldOf, written, imageOf, taken, loaded, wordsIn}
 use Rattle.image_format.specs.Reading.{isHead, stands, fieldBy′, groupBy′, fieldBy, groupBy, fieldFrom, isRead}
-use Rattle.image_theorems.specs.Exact.{Fits, carried, WrittenIsRead, ReadBack, ReadIsImage}
+use Rattle.image_theorems.specs.Exact.{carried, WrittenIsRead, ReadBack, SameImage, ImageBytes, CarriedImage, ReadLength, ReadIsImage}
 
 pub written-is-read : WrittenIsRead
 unfolding isRead fieldFrom fieldBy groupBy fieldBy′ groupBy′ stands format imageOf written bytesOf
@@ -41,14 +42,19 @@ number-from s t i j (suc w) h =
     shift : (m n : ℕ) → suc m + n ≡ m + suc n
     shift m n = omega arith
 
-number-back : (w n : ℕ) (t : List ℕ) → n < 256 ^ w → numberAt (bytesOf w n ++ t) 0 w ≡ n
+pow-positive : (w : ℕ) → 0 < 256 ^ w
+pow-positive zero = omega arith
+pow-positive (suc w) = omega (arith, pow-succ' 256 w, pow-positive w)
+
+number-back : (w n : ℕ) (t : List ℕ) → numberAt (bytesOf w n ++ t) 0 w ≡ n % 256 ^ w
 unfolding bytesOf numberAt
-number-back zero n t h = omega arith
-number-back (suc w) n t h =
-    let q : n / 256 < 256 ^ w = omega (arith, h, pow-succ' 256 w) in
+number-back zero n t = omega arith
+number-back (suc w) n t =
+    let p : 256 ^ suc w ≡ 256 ^ w * 256 = omega (arith, pow-succ' 256 w) in
+    let m : n % (256 ^ w * 256) ≡ (n / 256 % 256 ^ w) * 256 + n % 256 = mod-mul n (pow-positive w) (omega arith) in
     let a : numberAt (n % 256 ∷ (bytesOf w (n / 256) ++ t)) 1 w ≡ numberAt (bytesOf w (n / 256) ++ t) 0 w = number-from (n % 256 ∷ (bytesOf w (n / 256) ++ t)) (bytesOf w (n / 256) ++ t) 1 0 w (λ m. rw (one-more, none-more)) in
-    let b : numberAt (bytesOf w (n / 256) ++ t) 0 w ≡ n / 256 = number-back w (n / 256) t q in
-    rw (a, b) (omega arith)
+    let b : numberAt (bytesOf w (n / 256) ++ t) 0 w ≡ n / 256 % 256 ^ w = number-back w (n / 256) t in
+    rw (a, b, p, m) (omega arith)
   where
     one-more : (m : ℕ) → 1 + m ≡ suc m
     one-more m = omega arith
@@ -73,34 +79,31 @@ bytes-back s small (suc w) at h =
 after-field : (words s t : List ℕ) (at : ℕ) (r : Row) → drop at s ≡ fieldOf words r ++ t → drop (at + stepOf r) s ≡ t
 after-field words s t at r e = sym (drop-drop (stepOf r) at s) ∙ ap (drop (stepOf r)) e ∙ drop-at (fieldOf words r) t (stepOf r) (length-field (getD words (r .slot) 0) r)
 
-number-in : (words s t : List ℕ) (at : ℕ) (r : Row) → isNumber r ≡ true → getD words (r .slot) 0 < 256 ^ r .size → drop at s ≡ fieldOf words r ++ t → numberAt s (at + 3) (r .size) ≡ getD words (r .slot) 0
-number-in words s t at r h f e =
+number-in : (words s t : List ℕ) (at : ℕ) (r : Row) → isNumber r ≡ true → drop at s ≡ fieldOf words r ++ t → numberAt s (at + 3) (r .size) ≡ getD words (r .slot) 0 % 256 ^ r .size
+number-in words s t at r h e =
     let e′ : drop at s ≡ r .tag ∷ r .size % 256 ∷ r .size / 256 ∷ (bytesOf (r .size) (getD words (r .slot) 0) ++ t) = rw h at e in
     number-from s (bytesOf (r .size) (getD words (r .slot) 0) ++ t) (at + 3) 0 (r .size) (λ n.
     let a : at + 3 + n ≡ at + (3 + n) = omega arith in
     let b : 3 + n ≡ suc (suc (suc n)) = omega arith in
     let z : n ≡ 0 + n = omega arith in
     rw a (sym (getD-drop at s (3 + n) 0) ∙ ap (λ (l : List ℕ). getD l (3 + n) 0) e′ ∙ rw b (ap (λ (k : ℕ). getD (bytesOf (r .size) (getD words (r .slot) 0) ++ t) k 0) z)))
-    ∙ number-back (r .size) (getD words (r .slot) 0) t f
+    ∙ number-back (r .size) (getD words (r .slot) 0) t
 
-FitsIn : List Row → List ℕ → Type 0
-FitsIn rows words = (k : ℕ) → k < length rows → isNumber (getD rows k (row 0 0 0)) ≡ true → getD words (getD rows k (row 0 0 0) .slot) 0 < 256 ^ getD rows k (row 0 0 0) .size
-
-load-back : (rows : List Row) (words s t : List ℕ) (at : ℕ) (base : List ℕ) → FitsIn rows words → drop at s ≡ written rows words ++ t → loaded rows s at base ≡ carried rows words base
-unfolding loaded carried written FitsIn
-load-back [] words s t at base f e = refl
-load-back (r ∷ rows) words s t at base f e =
+load-back : (rows : List Row) (words s t : List ℕ) (at : ℕ) (base : List ℕ) → drop at s ≡ written rows words ++ t → loaded rows s at base ≡ carried rows words base
+unfolding loaded carried written
+load-back [] words s t at base e = refl
+load-back (r ∷ rows) words s t at base e =
     let q : drop at s ≡ fieldOf words r ++ (written rows words ++ t) = e ∙ append-assoc (fieldOf words r) (written rows words) t in
-    let step : (base′ : List ℕ) → loaded rows s (at + stepOf r) base′ ≡ carried rows words base′ = λ base′. load-back rows words s t (at + stepOf r) base′ (λ k l. f (suc k) (omega arith)) (after-field words s (written rows words ++ t) at r q) in
-    let same : taken s at r base ≡ cond (isNumber r) (set base (r .slot) (getD words (r .slot) 0)) base =
-    either (λ (x : List ℕ). taken s at r base ≡ cond (isNumber r) (set base (r .slot) (getD words (r .slot) 0)) base) (isNumber r) [] []
-    (λ h. rw (h, number-in words s (written rows words ++ t) at r h (f 0 (omega arith) h) q))
+    let step : (base′ : List ℕ) → loaded rows s (at + stepOf r) base′ ≡ carried rows words base′ = λ base′. load-back rows words s t (at + stepOf r) base′ (after-field words s (written rows words ++ t) at r q) in
+    let same : taken s at r base ≡ cond (isNumber r) (set base (r .slot) (getD words (r .slot) 0 % 256 ^ r .size)) base =
+    either (λ (x : List ℕ). taken s at r base ≡ cond (isNumber r) (set base (r .slot) (getD words (r .slot) 0 % 256 ^ r .size)) base) (isNumber r) [] []
+    (λ h. rw (h, number-in words s (written rows words ++ t) at r h q))
     (λ h. rw h) in
-    ap (λ (b : List ℕ). loaded rows s (at + stepOf r) b) same ∙ step (cond (isNumber r) (set base (r .slot) (getD words (r .slot) 0)) base)
+    ap (λ (b : List ℕ). loaded rows s (at + stepOf r) b) same ∙ step (cond (isNumber r) (set base (r .slot) (getD words (r .slot) 0 % 256 ^ r .size)) base)
 
 pub read-back : ReadBack
-unfolding wordsIn imageOf FitsIn
-read-back words base f = load-back format words (written format words) [] 0 base (λ k l. f k (rw rows-are at l)) (sym (append-nil (written format words)))
+unfolding wordsIn imageOf
+read-back words base = load-back format words (written format words) [] 0 base (sym (append-nil (written format words)))
 
 -- ---- what is read is the image of its words
 
@@ -189,6 +192,18 @@ all-apart : apart format ≡ true
 unfolding format apart lacks
 all-apart = refl
 
+pub read-length : ReadLength
+read-length s h = all-heads s h .0 ∙ size-is
+
+same-rows : (rows : List Row) (a b : List ℕ) → slots-in 84 rows → ((k : ℕ) → k < 84 → getD a k 0 ≡ getD b k 0) → written rows a ≡ written rows b
+unfolding written slots-in
+same-rows [] a b sl h = refl
+same-rows (r ∷ rows) a b sl h = rw (h (r .slot) (sl 0)) (ap (λ (t : List ℕ). fieldOf b r ++ t) (same-rows rows a b (λ k. sl (suc k)) h))
+
+pub same-image : SameImage
+unfolding imageOf slots-in
+same-image a b h = same-rows format a b slot-small h
+
 pub read-is-image : ReadIsImage
 unfolding imageOf wordsIn slots-in
 read-is-image s base small n h =
@@ -197,3 +212,49 @@ read-is-image s base small n h =
     let q : s ≡ written format (loaded format s 0 base) ++ drop (0 + bytes format) s = rows-back format s small 0 base all-apart (λ k. rw n (slot-small k)) (heads-in s (a .1) 80 0 refl) (rw bytes-are (omega (arith, e))) in
     let z : drop (0 + bytes format) s ≡ [] = rw (bytes-are, sym e) (drop-length s) in
     sym (q ∙ rw z (append-nil (written format (loaded format s 0 base))))
+
+-- ---- an image is bytes
+
+Small : List ℕ → Type 0
+Small [] = Unit
+Small (x ∷ l) = (x < 256) × Small l
+
+small-at : (l : List ℕ) → Small l → (i : ℕ) → getD l i 0 < 256
+unfolding Small
+small-at [] h i = omega arith
+small-at (x ∷ l) h zero = h .0
+small-at (x ∷ l) h (suc i) = small-at l (h .1) i
+
+small-join : (l m : List ℕ) → Small l → Small m → Small (l ++ m)
+unfolding Small
+small-join [] m h k = k
+small-join (x ∷ l) m h k = (h .0, small-join l m (h .1) k)
+
+small-bytes : (w n : ℕ) → Small (bytesOf w n)
+unfolding Small bytesOf
+small-bytes zero n = tt
+small-bytes (suc w) n = (omega arith, small-bytes w (n / 256))
+
+heads-small : List Row → Bool
+heads-small [] = true
+heads-small (r ∷ rows) = (ltb (r .tag) 256 && ltb (r .size / 256) 256) && heads-small rows
+
+small-rows : (rows : List Row) (words : List ℕ) → heads-small rows ≡ true → Small (written rows words)
+unfolding Small written heads-small
+small-rows [] words h = tt
+small-rows (r ∷ rows) words h =
+    let a = and-true (ltb (r .tag) 256 && ltb (r .size / 256) 256) (heads-small rows) h in
+    let b = and-true (ltb (r .tag) 256) (ltb (r .size / 256) 256) (a .0) in
+    let body : Small (cond (isNumber r) (bytesOf (r .size) (getD words (r .slot) 0)) []) = both Small (isNumber r) (bytesOf (r .size) (getD words (r .slot) 0)) [] (small-bytes (r .size) (getD words (r .slot) 0)) tt in
+    (ltb-true _ _ (b .0), (omega arith, (ltb-true _ _ (b .1), small-join (cond (isNumber r) (bytesOf (r .size) (getD words (r .slot) 0)) []) (written rows words) body (small-rows rows words (a .1)))))
+
+all-small : heads-small format ≡ true
+unfolding format heads-small
+all-small = refl
+
+pub image-bytes : ImageBytes
+unfolding imageOf
+image-bytes words i = small-at (written format words) (small-rows format words all-small) i
+
+pub carried-image : CarriedImage
+carried-image words base h = ap imageOf (sym (read-back words base)) ∙ read-is-image (imageOf words) base (image-bytes words) h (written-is-read words)

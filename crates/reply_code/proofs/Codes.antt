@@ -5,7 +5,7 @@ use mathlib.Core.List.{List, [], _∷_}
 use mathlib.Core.Path.{_≡_, refl, sym, ap, ap₂, _∙_}
 use Rattle.types.proofs.Replies.{reply-same}
 use Rattle.types.specs.Reply.{refusalNumber, replyNumber, replyValues, Outcome}
-use Rattle.types.specs.declared.Refusal.the-variants.{Unsupported, InvalidRegister, InvalidDelivery, InvalidAddress, OutOfRange, BadField, ScriptTooLong, NoPlan, ListFull, TooShort}
+use Rattle.types.specs.declared.Refusal.the-variants.{Unsupported, InvalidRegister, InvalidDelivery, InvalidAddress, OutOfRange, BadField, ScriptTooLong, NoPlan, ListFull, BadImage, TooShort}
 use Rattle.types.specs.declared.Reply.{Reply}
 use Rattle.types.specs.declared.Reply.the-variants.{Refused, Nothing, One, Two, Three}
 use Rattle.reply_code.specs.Lent.{replyCode, codeNumber, codeCount, codeValues, Fits, Lent, Shows}
@@ -20,6 +20,7 @@ code-number (Refused BadField) = refl
 code-number (Refused ScriptTooLong) = refl
 code-number (Refused NoPlan) = refl
 code-number (Refused ListFull) = refl
+code-number (Refused BadImage) = refl
 code-number (Refused TooShort) = refl
 code-number Nothing = refl
 code-number (One a) = omega arith
@@ -65,6 +66,7 @@ code-values (Refused BadField) h = refl
 code-values (Refused ScriptTooLong) h = refl
 code-values (Refused NoPlan) h = refl
 code-values (Refused ListFull) h = refl
+code-values (Refused BadImage) h = refl
 code-values (Refused TooShort) h = refl
 code-values Nothing h = refl
 code-values (One a) h = one-values (replyCode (One a)) a (omega arith) h

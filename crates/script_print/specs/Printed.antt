@@ -10,7 +10,7 @@ use Rattle.script_machine.specs.declared.Said.the-variants.{Did, Stopped}
 use Rattle.script_machine.specs.declared.Stop.{Stop}
 use Rattle.script_machine.specs.declared.Stop.the-variants as stop
 use Rattle.script_machine.specs.Machine.{Machine, newMachine}
-use Rattle.script_machine.specs.Run.{stepOf}
+use Rattle.script_machine.specs.Run.{stepOf, runOf}
 
 abbrev pub limit : ℕ
 limit = 65536
@@ -35,6 +35,14 @@ stepsText s m at (suc n) = saidText (stepOf s m at .said) at (stepsText s (stepO
 unfoldable pub linesFrom : List ℕ → Machine → ℕ → List ℕ
 linesFrom s m at = stepsText s m at (suc (length s - at))
 
--- what the program prints: all that, from the start, on a new machine
+-- all that, from the start of a script, on a machine
+abbrev pub printedFrom : List ℕ → Machine → List ℕ
+printedFrom s m = cond (ltb limit (length s)) tooLongLine (linesFrom s m 0)
+
+-- what the program prints: on a new machine
 unfoldable pub printed : List ℕ → List ℕ
-printed s = cond (ltb limit (length s)) tooLongLine (linesFrom s newMachine 0)
+printed s = printedFrom s newMachine
+
+-- the machine after it: a run that is allowed more fields than there can be
+abbrev pub machineAfter : List ℕ → Machine → Machine
+machineAfter s m = cond (ltb limit (length s)) m (runOf s m 0 (suc (length s)) .machine)

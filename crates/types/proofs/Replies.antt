@@ -6,7 +6,7 @@ use Prim.Native.Nat.{ℕ, zero, suc}
 use native.Mathlib.Omega.{arith}
 use lib.Dec.{eqb}
 use Rattle.types.specs.declared.Refusal.{Refusal}
-use Rattle.types.specs.declared.Refusal.the-variants.{Unsupported, InvalidRegister, InvalidDelivery, InvalidAddress, OutOfRange, BadField, ScriptTooLong, NoPlan, ListFull, TooShort}
+use Rattle.types.specs.declared.Refusal.the-variants.{Unsupported, InvalidRegister, InvalidDelivery, InvalidAddress, OutOfRange, BadField, ScriptTooLong, NoPlan, ListFull, BadImage, TooShort}
 use Rattle.types.specs.declared.Reply.{Reply}
 use Rattle.types.specs.declared.Reply.the-variants.{Refused, Nothing, One, Two, Three}
 use Rattle.types.specs.Reply.{refusalNumber, replyNumber, replyValues, flag, Outcome, Kept}
@@ -37,6 +37,7 @@ refused-not-done BadField e = omega arith
 refused-not-done ScriptTooLong e = omega arith
 refused-not-done NoPlan e = omega arith
 refused-not-done ListFull e = omega arith
+refused-not-done BadImage e = omega arith
 refused-not-done TooShort e = omega arith
 
 -- the refusal of a number: what can be read back wasn't lost
@@ -51,7 +52,8 @@ refusalOf (suc (suc (suc (suc (suc (suc zero)))))) = BadField
 refusalOf (suc (suc (suc (suc (suc (suc (suc zero))))))) = ScriptTooLong
 refusalOf (suc (suc (suc (suc (suc (suc (suc (suc zero)))))))) = NoPlan
 refusalOf (suc (suc (suc (suc (suc (suc (suc (suc (suc zero))))))))) = ListFull
-refusalOf (suc (suc (suc (suc (suc (suc (suc (suc (suc (suc n)))))))))) = TooShort
+refusalOf (suc (suc (suc (suc (suc (suc (suc (suc (suc (suc zero)))))))))) = BadImage
+refusalOf (suc (suc (suc (suc (suc (suc (suc (suc (suc (suc (suc n))))))))))) = TooShort
 
 refusal-back : (r : Refusal) → refusalOf (refusalNumber r) ≡ r
 refusal-back Unsupported = refl
@@ -63,6 +65,7 @@ refusal-back BadField = refl
 refusal-back ScriptTooLong = refl
 refusal-back NoPlan = refl
 refusal-back ListFull = refl
+refusal-back BadImage = refl
 refusal-back TooShort = refl
 
 pub refusal-same : (a b : Refusal) → refusalNumber a ≡ refusalNumber b → a ≡ b
@@ -86,6 +89,7 @@ reply-back (Refused BadField) = refl
 reply-back (Refused ScriptTooLong) = refl
 reply-back (Refused NoPlan) = refl
 reply-back (Refused ListFull) = refl
+reply-back (Refused BadImage) = refl
 reply-back (Refused TooShort) = refl
 reply-back Nothing = refl
 reply-back (One a) = refl

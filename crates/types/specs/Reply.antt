@@ -4,11 +4,11 @@ use mathlib.Core.List.{List, [], _∷_}
 use mathlib.Core.Path.{_≡_}
 use mathlib.Core.Bool.{Bool, true, false}
 use Rattle.types.specs.declared.Refusal.{Refusal}
-use Rattle.types.specs.declared.Refusal.the-variants.{Unsupported, InvalidRegister, InvalidDelivery, InvalidAddress, OutOfRange, BadField, ScriptTooLong, NoPlan, ListFull, TooShort}
+use Rattle.types.specs.declared.Refusal.the-variants.{Unsupported, InvalidRegister, InvalidDelivery, InvalidAddress, OutOfRange, BadField, ScriptTooLong, NoPlan, ListFull, BadImage, TooShort}
 use Rattle.types.specs.declared.Reply.{Reply}
 use Rattle.types.specs.declared.Reply.the-variants.{Refused, Nothing, One, Two, Three}
 
--- 1 width or port, 2 local register, 3 delivery, 4 address, 5 id, count or line, 6 script field, 7 script too long, 8 no plan, 9 waiting list full, 11 lent buffer too short
+-- 1 width or port, 2 local register, 3 delivery, 4 address, 5 id, count or line, 6 script field, 7 script too long, 8 no plan, 9 waiting list full, 10 image, 11 lent buffer too short
 abbrev pub refusalNumber : Refusal → ℕ
 refusalNumber Unsupported = 1
 refusalNumber InvalidRegister = 2
@@ -19,6 +19,7 @@ refusalNumber BadField = 6
 refusalNumber ScriptTooLong = 7
 refusalNumber NoPlan = 8
 refusalNumber ListFull = 9
+refusalNumber BadImage = 10
 refusalNumber TooShort = 11
 
 abbrev pub replyNumber : Reply → ℕ

@@ -119,6 +119,8 @@ pub enum Refusal {
     NoPlan,
     // A vCPU's waiting list with no place left.
     ListFull,
+    // An image that no state writes that keeps its chips' rules.
+    BadImage,
     // A lent buffer with fewer bytes than what goes into it.
     TooShort,
 }
@@ -137,6 +139,7 @@ impl Refusal {
             Refusal::ScriptTooLong => 7,
             Refusal::NoPlan => 8,
             Refusal::ListFull => 9,
+            Refusal::BadImage => 10,
             Refusal::TooShort => 11,
         }
     }

@@ -1,7 +1,7 @@
 //! The functions of the archives, as include/sillwander.h declares them.
 //!
 //! They are safe to call: it is proved that each takes any words and any numbers, and touches nothing but the words that it is lent. A reference to an
-//! array is the pointer that C passes. The planner's, the waiting lists' and that of several vCPUs take pointers with a count, and are called with those of slices.
+//! array is the pointer that C passes. The planner's, the waiting lists', the images' and that of several vCPUs take pointers with a count, and are called with those of slices.
 
 use super::vcpus::Vcpu;
 
@@ -114,4 +114,11 @@ unsafe extern "C" {
     pub fn sillwander_waiting_peek(lists: *const u8, bytes: usize, vcpu_id: usize, place: usize) -> u64;
     pub fn sillwander_waiting_claim_irq(lists: *mut u8, bytes: usize, pic: &mut [u64; PIC_WORDS], vcpu_id: usize, irq: u64) -> u64;
     pub fn sillwander_waiting_claim_pending_interrupt(lists: *mut u8, bytes: usize, pic: &mut [u64; PIC_WORDS], vcpu_id: usize) -> u64;
+}
+
+// SAFETY: as above.
+#[link(name = "image_c", kind = "static")]
+unsafe extern "C" {
+    pub fn sillwander_image_save(ioapic: &IoApic, apic: &Lapic, pic: &Pic, image: *mut u8, bytes: usize) -> u64;
+    pub fn sillwander_image_restore(image: *const u8, bytes: usize, ioapic: &mut IoApic, apic: &mut Lapic, pic: &mut Pic) -> u64;
 }

@@ -3,9 +3,15 @@
 use crate::{
     archives::*,
     code::{done, value},
-    types::{X86AccessWidth, X86GuestPhysAddr, X86VlapicResult},
+    types::{X86AccessWidth, X86GuestPhysAddr, X86VlapicError, X86VlapicResult},
     vioapic::{IoApicEois, IoApicInterrupt, IoApicWritten, sent},
+    vpic::EmulatedPic,
 };
+
+/// How many bytes the image of a board and a pair has, always.
+pub const IMAGE_SIZE: usize = 628;
+
+const VERSION: usize = 29;
 
 /// An I/O APIC of version 0x20, one local APIC and its request register as one: what the I/O APIC sends becomes a request, the guest accepts the highest one whose class is
 /// above that of PPR, and its EOI goes back to the I/O APIC.
@@ -87,6 +93,40 @@ impl EmulatedBoard {
     #[inline]
     pub fn read_local(&self, offset: usize) -> X86VlapicResult<usize> {
         done(sillwander_lapic_handle_read(&self.apic, offset as u64)).map(value)
+    }
+
+    /// Writes the image of this board and a pair to the buffer's start, and answers its length, [`IMAGE_SIZE`]; what is behind it stays. The format is docs/IMAGE.md's. Waiting lists
+    /// and the records of several vCPUs aren't in it. [`TooShort`](crate::X86VlapicError::TooShort), and the buffer untouched, for fewer bytes.
+    ///
+    /// ```
+    /// # use sillwander::{EmulatedBoard, EmulatedPic, IMAGE_SIZE};
+    /// let (mut here, pic) = (EmulatedBoard::new(), EmulatedPic::new());
+    /// here.receive(0x41, false);
+    /// let mut image = [0; IMAGE_SIZE];
+    /// here.save(&pic, &mut image)?;
+    ///
+    /// let (mut there, mut its_pic) = (EmulatedBoard::new(), EmulatedPic::new());
+    /// there.restore(&mut its_pic, &image)?;
+    /// assert_eq!(there.accept_interrupt(), Some(0x41));
+    /// # Ok::<(), sillwander::X86VlapicError>(())
+    /// ```
+    pub fn save(&self, pic: &EmulatedPic, image: &mut [u8]) -> X86VlapicResult<usize> {
+        // SAFETY: the pointer and the count are the slice's.
+        done(unsafe { sillwander_image_save(&self.ioapic, &self.apic, pic.lent(), image.as_mut_ptr(), image.len()) }).map(value)
+    }
+
+    /// Makes this board and a pair what they were when the image was saved. [`BadImage`](crate::X86VlapicError::BadImage), and both as they were, for bytes that no board and pair
+    /// write which keep their chips' rules; an image of an I/O APIC of version 0x11 too, since a board's is of version 0x20.
+    pub fn restore(&mut self, pic: &mut EmulatedPic, image: &[u8]) -> X86VlapicResult {
+        let mut read = Self { ioapic: [0; IOAPIC_WORDS], apic: [0; LAPIC_WORDS] };
+        let mut words = [0; PIC_WORDS];
+        // SAFETY: as above.
+        done(unsafe { sillwander_image_restore(image.as_ptr(), image.len(), &mut read.ioapic, &mut read.apic, &mut words) })?;
+        if read.ioapic[VERSION] != 0x20 {
+            return Err(X86VlapicError::BadImage);
+        }
+        (*self, *pic.words()) = (read, words);
+        Ok(())
     }
 }
 

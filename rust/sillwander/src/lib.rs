@@ -34,7 +34,7 @@ mod vpic;
 mod waiting;
 
 pub use self::{
-    board::EmulatedBoard,
+    board::{EmulatedBoard, IMAGE_SIZE},
     locked::Locked,
     planner::{TakenVectors, VectorRange, VectorShortage, check_vectors, plan_vectors, vector_shortage},
     types::{

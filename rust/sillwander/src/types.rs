@@ -31,6 +31,8 @@ pub enum X86VlapicError {
     NoPlan = 8,
     /// A vCPU's waiting list with no place left.
     ListFull = 9,
+    /// Bytes that no state which keeps its chips' rules writes as its image.
+    BadImage = 10,
     /// A lent buffer with fewer bytes than what goes into it.
     TooShort = 11,
 }
@@ -41,7 +43,7 @@ impl X86VlapicError {
         self as u8
     }
 
-    /// The archives' refusals are 1 to 5, 8, 9 and 11.
+    /// The archives' refusals are 1 to 5 and 8 to 11.
     #[inline]
     pub(crate) const fn of_number(number: u8) -> Self {
         match number {
@@ -51,6 +53,7 @@ impl X86VlapicError {
             4 => Self::InvalidAddress,
             8 => Self::NoPlan,
             9 => Self::ListFull,
+            10 => Self::BadImage,
             11 => Self::TooShort,
             _ => {
                 debug_assert!(number == 5);
@@ -70,6 +73,7 @@ impl core::fmt::Display for X86VlapicError {
             Self::OutOfRange => "a destination, vCPU count or vCPU id is too large, or there are too many lines",
             Self::NoPlan => "there aren't enough free vectors for the lines",
             Self::ListFull => "64 interrupts wait for the vCPU already",
+            Self::BadImage => "no board and pair have this image",
             Self::TooShort => "the lent buffer is too short",
         })
     }

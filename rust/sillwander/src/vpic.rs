@@ -115,10 +115,16 @@ impl EmulatedPic {
         Self { words }
     }
 
-    /// The words, for the waiting lists' claims.
+    /// The words, for the waiting lists' claims and for images.
     #[inline]
     pub(crate) fn words(&mut self) -> &mut [u64; PIC_WORDS] {
         &mut self.words
+    }
+
+    /// The words, for reading.
+    #[inline]
+    pub(crate) fn lent(&self) -> &[u64; PIC_WORDS] {
+        &self.words
     }
 
     /// The command and data port of the master, and of the slave.

@@ -1,6 +1,7 @@
 use Prim.Native.Nat.{_≤_, _+_, _-_}
 use mathlib.Core.Path.{_≡_, sym, _∙_}
 use native.Mathlib.Omega.{arith}
+use borrow.Author.Tests.{lt-ltb, le-ltb}
 use lib.ListN.{drop}
 use Rattle.image_format.specs.Format.{bytes, format}
 use Rattle.image_format.specs.Image.{loaded, wordsIn}
@@ -24,7 +25,7 @@ loop-holds c = (omega arith, all-bytes, load-start _ _)
 
 -- src/lib.rt:256:9
 take-field-requires : tie.Need-take-field-requires Inv-loop μ-loop
-take-field-requires c κs = (c .before .loop-test .taken, row-fits _ _ _ (c .before .loop-test .taken) (c .before .before .loop .inv .1) (c .before .before .before .before .pre))
+take-field-requires c κs = (c .before .loop-test .taken, row-fits _ _ _ (c .before .loop-test .taken) (c .before .before .loop .inv .1) (c .before .before .before .if1 .left))
 
 -- src/lib.rt:257:15
 step-requires : tie.Need-step-requires Inv-loop μ-loop
@@ -32,7 +33,7 @@ step-requires c κs = c .before .before .loop-test .taken
 
 -- src/lib.rt:257:9
 add-at : tie.Need-add-at Inv-loop μ-loop
-add-at c = let x = row-fits _ _ _ (c .before .before .before .loop-test .taken) (c .before .before .before .before .loop .inv .1) (c .before .before .before .before .before .before .pre) in omega (arith, x, c .step .ensures)
+add-at c = let x = row-fits _ _ _ (c .before .before .before .loop-test .taken) (c .before .before .before .before .loop .inv .1) (c .before .before .before .before .before .if1 .left) in omega (arith, x, c .step .ensures)
 
 -- src/lib.rt:258:9
 add-row : tie.Need-add-row Inv-loop μ-loop
@@ -48,7 +49,11 @@ loop-again c = (omega arith, bytes-more _ _ _ (c .before .before .before .loop-t
 
 -- src/lib.rt:249:1
 returns : tie.Need-returns Inv-loop μ-loop
-returns c = sym (load-end _ _ _ _ (let e : c .before .loop .row ≡ 80 = omega (arith, c .loop-test .left, c .before .loop .inv .0) in e)) ∙ c .before .loop .inv .2
+returns c = rw (lt-ltb _ _ (c .if1 .taken))
+
+-- src/lib.rt:249:1
+returns-2 : tie.Need-returns-2 Inv-loop μ-loop
+returns-2 c = rw (le-ltb _ _ (c .before .before .if1 .left)) (sym (load-end _ _ _ _ (let e : c .before .loop .row ≡ 80 = omega (arith, c .loop-test .left, c .before .loop .inv .0) in e)) ∙ c .before .loop .inv .2)
 
 pub load-spec : {M : Type 1} → statement M
 load-spec =
@@ -56,6 +61,7 @@ load-spec =
     (tie.spec
     Inv-loop
     μ-loop
+    returns
     loop-holds
     take-field-requires
     step-requires
@@ -63,4 +69,4 @@ load-spec =
     add-row
     loop-less
     loop-again
-    returns)
+    returns-2)

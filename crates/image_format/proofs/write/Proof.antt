@@ -1,6 +1,7 @@
 use Prim.Native.Nat.{_≤_, _+_, _-_}
 use mathlib.Core.Path.{_≡_, refl, sym, _∙_}
 use native.Mathlib.Omega.{arith}
+use borrow.Author.Tests.{lt-ltb, le-ltb}
 use lib.ListN.{length, drop}
 use lib.Seq.{sets}
 use Rattle.image_format.specs.Format.{bytes, format, rowAt}
@@ -30,7 +31,7 @@ word-of-requires c κs = c .before .loop-test .taken
 
 -- src/lib.rt:314:9
 put-field-requires : tie.Need-put-field-requires Inv-loop μ-loop
-put-field-requires c κs = (c .before .before .loop-test .taken, row-fits _ _ _ (c .before .before .loop-test .taken) (c .before .before .before .loop .inv .1) (omega (arith, c .before .before .before .loop .inv .2, c .before .before .before .before .before .pre)))
+put-field-requires c κs = (c .before .before .loop-test .taken, row-fits _ _ _ (c .before .before .loop-test .taken) (c .before .before .before .loop .inv .1) (omega (arith, c .before .before .before .loop .inv .2, c .before .before .before .before .if1 .left)))
 
 -- src/lib.rt:315:15
 step-requires : tie.Need-step-requires Inv-loop μ-loop
@@ -38,7 +39,7 @@ step-requires c κs = c .before .before .before .before .before .loop-test .take
 
 -- src/lib.rt:315:9
 add-at : tie.Need-add-at Inv-loop μ-loop
-add-at c = let x = row-fits _ _ (length (c .before .before .before .before .before .before .before .loop .buf)) (c .before .before .before .before .before .before .loop-test .taken) (c .before .before .before .before .before .before .before .loop .inv .1) (omega (arith, c .before .before .before .before .before .before .before .loop .inv .2, c .before .before .before .before .before .before .before .before .before .pre)) in omega (arith, x, c .step .ensures)
+add-at c = let x = row-fits _ _ (length (c .before .before .before .before .before .before .before .loop .buf)) (c .before .before .before .before .before .before .loop-test .taken) (c .before .before .before .before .before .before .before .loop .inv .1) (omega (arith, c .before .before .before .before .before .before .before .loop .inv .2, c .before .before .before .before .before .before .before .before .if1 .left)) in omega (arith, x, c .step .ensures)
 
 -- src/lib.rt:316:9
 add-row : tie.Need-add-row Inv-loop μ-loop
@@ -50,7 +51,7 @@ loop-less c = omega arith
 
 -- src/lib.rt:313:5
 loop-again : tie.Need-loop-again Inv-loop μ-loop
-loop-again c = (omega arith, bytes-more _ _ _ (c .before .before .before .before .before .before .loop-test .taken) (c .step .ensures) (c .before .before .before .before .before .before .before .loop .inv .1), same-length (c .before .before .before .before .before .before .before .loop .buf) _ (fieldWith (c .before .before .before .before .word-of .result) (rowAt (c .before .before .before .before .before .before .before .loop .row))) (c .before .before .before .before .before .before .before .loop .at) _ (c .before .before .before .put-field .ensures) (c .before .before .before .before .before .before .before .loop .inv .2), write-more (c .before .before .before .before .before .before .before .before .before .args .words .now) _ _ _ _ (c .before .before .before .before .before .before .before .loop .buf) _ (c .before .before .before .before .before .before .loop-test .taken) (c .step .ensures) (c .before .before .before .before .word-of .ensures) (c .before .before .before .put-field .ensures) ∙ c .before .before .before .before .before .before .before .loop .inv .3)
+loop-again c = (omega arith, bytes-more _ _ _ (c .before .before .before .before .before .before .loop-test .taken) (c .step .ensures) (c .before .before .before .before .before .before .before .loop .inv .1), same-length (c .before .before .before .before .before .before .before .loop .buf) _ (fieldWith (c .before .before .before .before .word-of .result) (rowAt (c .before .before .before .before .before .before .before .loop .row))) (c .before .before .before .before .before .before .before .loop .at) _ (c .before .before .before .put-field .ensures) (c .before .before .before .before .before .before .before .loop .inv .2), write-more (c .before .before .before .before .before .before .before .before .before .before .args .words .now) _ _ _ _ (c .before .before .before .before .before .before .before .loop .buf) _ (c .before .before .before .before .before .before .loop-test .taken) (c .step .ensures) (c .before .before .before .before .word-of .ensures) (c .before .before .before .put-field .ensures) ∙ c .before .before .before .before .before .before .before .loop .inv .3)
 
 -- src/lib.rt:307:1
 same-length-all : tie.Need-same-length Inv-loop μ-loop
@@ -58,7 +59,11 @@ same-length-all c = c .before .loop .inv .2
 
 -- src/lib.rt:307:1
 returns : tie.Need-returns Inv-loop μ-loop
-returns c = write-end _ _ _ _ _ (let e : c .before .loop .row ≡ 80 = omega (arith, c .loop-test .left, c .before .loop .inv .0) in e) (c .before .before .before .pre) (c .before .loop .inv .3)
+returns c = rw (lt-ltb _ _ (c .if1 .taken))
+
+-- src/lib.rt:307:1
+returns-2 : tie.Need-returns-2 Inv-loop μ-loop
+returns-2 c = rw (le-ltb _ _ (c .before .before .if1 .left)) (write-end _ _ _ _ _ (let e : c .before .loop .row ≡ 80 = omega (arith, c .loop-test .left, c .before .loop .inv .0) in e) (c .before .before .if1 .left) (c .before .loop .inv .3))
 
 pub write-spec : {M : Type 1} → statement M
 write-spec =
@@ -66,6 +71,7 @@ write-spec =
     (tie.spec
     Inv-loop
     μ-loop
+    returns
     loop-holds
     word-of-requires
     put-field-requires
@@ -75,4 +81,4 @@ write-spec =
     loop-less
     loop-again
     same-length-all
-    returns)
+    returns-2)

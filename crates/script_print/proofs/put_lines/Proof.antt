@@ -5,22 +5,19 @@ use borrow.Author.Needs.{needs}
 use Rattle.script_machine.specs.Machine.{machineIn}
 use Rattle.script_machine.specs.Run.{stepIn}
 use Rattle.script_machine.proofs.Places.{did-lies}
-use Rattle.script_print.proofs.Printing.{Printing, printing-none, printing-did, printed-stopped, printed-fits}
+use Rattle.script_print.proofs.Printing.{Printing, printing-none, printing-did, printed-stopped, ran-stopped, printed-fits}
 use Rattle.script_print.proofs.put_lines.Statement.{statement}
 use Rattle.script_print.proofs.put_lines.Tie as tie
 
 abbrev Inv-loop : tie.InvT-loop
-Inv-loop script out₀ ioapic₀ pic₀ apic₀ bio₀ bl₀ vm₀ next₀ end₀ out ioapic pic apic bio bl vm next end =
-    Printing script out₀ (machineIn ioapic pic apic bio bl vm) (next .at) end out
+Inv-loop ioapic₀ pic₀ apic₀ bio₀ bl₀ script out₀ after₀ next₀ end₀ ioapic pic apic bio bl out after next end =
+    Printing script out₀ (machineIn ioapic₀ pic₀ apic₀ bio₀ bl₀ after₀) (machineIn ioapic pic apic bio bl after) (next .at) end out
 
 abbrev μ-loop : tie.MeasureT-loop
-μ-loop script out₀ ioapic₀ pic₀ apic₀ bio₀ bl₀ vm₀ next₀ end₀ out ioapic pic apic bio bl vm next end = length script - next .at
-
-new-requires : tie.Need-new-requires Inv-loop μ-loop
-new-requires c κs = search needs
+μ-loop ioapic₀ pic₀ apic₀ bio₀ bl₀ script out₀ after₀ next₀ end₀ ioapic pic apic bio bl out after next end = length script - next .at
 
 loop-holds : tie.Need-loop-holds Inv-loop μ-loop
-loop-holds c = printing-none _ _ _ (c .new .ensures)
+loop-holds c = printing-none _ _ _
 
 step-requires : tie.Need-step-requires Inv-loop μ-loop
 step-requires c κs = search needs
@@ -34,16 +31,16 @@ put-line-requires c κs = search needs
 loop-less : tie.Need-loop-less Inv-loop μ-loop
 loop-less c =
     let l = c .before .before .before .before .before .before .before .before .before .before .before .before .before .before .before .loop in
-    let a = c .before .before .before .before .before .before .before .before .before .before .before .before .before .before .before .before .before .before .before .before .before .before .before .before .args in
+    let a = c .before .before .before .before .before .before .before .before .before .before .before .before .before .before .before .before .before .before .args in
     let x = c .before .before .before .before .before .before .before .before .before .step in
-    omega (arith, did-lies (a .script .now) (machineIn (l .ioapic) (l .pic) (l .apic) (l .board-ioapic) (l .board-apic) (l .vm)) (l .next .at) (stepIn (x .last .0) (x .last .1 .0) (x .last .1 .1 .0) (x .last .1 .1 .1 .0) (x .last .1 .1 .1 .1 .0) (x .result)) _ _ (x .ensures) (c .before .before .before .before .before .said .given .1))
+    omega (arith, did-lies (a .script .now) (machineIn (l .ioapic) (l .pic) (l .apic) (l .board-ioapic) (l .board-apic) (l .after)) (l .next .at) (stepIn (x .last .0) (x .last .1 .0) (x .last .1 .1 .0) (x .last .1 .1 .1 .0) (x .last .1 .1 .1 .1 .0) (x .result)) _ _ (x .ensures) (c .before .before .before .before .before .said .given .1))
 
 loop-again : tie.Need-loop-again Inv-loop μ-loop
 loop-again c =
     let l = c .before .before .before .before .before .before .before .before .before .before .before .before .before .before .before .loop in
-    let p = c .before .before .before .before .before .before .before .before .before .before .before .before .before .before .before .before .before .before .before .before .before .before .before .before .pre in
+    let p = c .before .before .before .before .before .before .before .before .before .before .before .before .before .before .before .before .before .before .pre in
     let x = c .before .before .before .before .before .before .before .before .before .step in
-    printing-did _ _ _ _ _ _ (p .0) (p .1) (l .inv) (stepIn (x .last .0) (x .last .1 .0) (x .last .1 .1 .0) (x .last .1 .1 .1 .0) (x .last .1 .1 .1 .1 .0) (x .result)) _ _ _ _ (x .ensures) (c .before .before .before .before .before .said .given .1) (c .before .before .put-line .ensures .0) (c .before .before .put-line .ensures .1)
+    printing-did _ _ _ _ _ _ _ (p .0) (p .1) (l .inv) (stepIn (x .last .0) (x .last .1 .0) (x .last .1 .1 .0) (x .last .1 .1 .1 .0) (x .last .1 .1 .1 .1 .0) (x .result)) _ _ _ _ (x .ensures) (c .before .before .before .before .before .said .given .1) (c .before .before .put-line .ensures .0) (c .before .before .put-line .ensures .1)
 
 enum-known-said-2 : tie.Need-enum-known-said-2 Inv-loop μ-loop
 enum-known-said-2 c = search needs
@@ -57,10 +54,13 @@ same-length c = search needs
 returns : tie.Need-returns Inv-loop μ-loop
 returns c =
     let l = c .before .before .before .before .before .before .before .before .before .before .before .before .before .before .before .loop in
-    let p = c .before .before .before .before .before .before .before .before .before .before .before .before .before .before .before .before .before .before .before .before .before .before .before .before .pre in
+    let p = c .before .before .before .before .before .before .before .before .before .before .before .before .before .before .before .before .before .before .pre in
     let x = c .before .before .before .before .before .before .before .before .before .step in (
-      printed-stopped _ _ _ _ _ _ (p .0) (p .1) (l .inv) (stepIn (x .last .0) (x .last .1 .0) (x .last .1 .1 .0) (x .last .1 .1 .1 .0) (x .last .1 .1 .1 .1 .0) (x .result)) _ _ _ (x .ensures) (c .before .before .before .before .before .said2 .given .1) (c .before .before .put-stop .ensures .0),
-      printed-fits _ _ _ _ _ _ (p .0) (p .1) (l .inv) _ (c .before .before .put-stop .ensures .1),
+      printed-stopped _ _ _ _ _ _ _ (p .0) (p .1) (l .inv) (stepIn (x .last .0) (x .last .1 .0) (x .last .1 .1 .0) (x .last .1 .1 .1 .0) (x .last .1 .1 .1 .1 .0) (x .result)) _ _ _ (x .ensures) (c .before .before .before .before .before .said2 .given .1) (c .before .before .put-stop .ensures .0),
+      (
+        printed-fits _ _ _ _ _ _ _ (p .0) (p .1) (l .inv) _ (c .before .before .put-stop .ensures .1),
+        ran-stopped _ _ _ _ _ _ _ (p .0) (p .1) (l .inv) (stepIn (x .last .0) (x .last .1 .0) (x .last .1 .1 .0) (x .last .1 .1 .1 .0) (x .last .1 .1 .1 .1 .0) (x .result)) _ (x .ensures) (c .before .before .before .before .before .said2 .given .1),
+      ),
     )
 
 pub put-lines-spec : {M : Type 1} → statement M
@@ -69,7 +69,6 @@ put-lines-spec =
     (tie.spec
     Inv-loop
     μ-loop
-    new-requires
     loop-holds
     step-requires
     enum-known-said

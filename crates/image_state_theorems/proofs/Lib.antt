@@ -1,0 +1,13 @@
+pub mod Laws
+pub mod PairLaws
+pub mod ApicLaws
+pub mod Row
+pub mod Alike
+pub mod Back
+pub mod Taken
+pub mod MadePair
+pub mod MadeBoard
+pub mod Made
+pub mod After
+pub mod Cleared
+pub mod Tests

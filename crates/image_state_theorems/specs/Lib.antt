@@ -1,0 +1,5 @@
+pub mod Rules
+pub mod States
+pub mod Made
+pub mod After
+pub mod Tests
