@@ -1,13 +1,13 @@
 """The fields of a script, as one table: `script-text` and the comparison with the Rust (oracle/) go by it. (Document 01, "Scripts"; 06,
-16 and 30 to 35, document 02.)
+16 and 30 to 35, document 02; 40 to 45, the program `lists`, crates/script_lists.)
 
 A new field is a row of FIELDS, a new value of a code one of that part's `codes`, a new chip a row of CHIPS.
 docs/CONTRIBUTING.md says what else a field touches.
 """
 from collections import namedtuple
 
-from script_words import (ACCEPTED, BOARD_ENDED, BROADCAST, CLAIMED, DONE, ENDED, READ, REGISTERS, SENT, WRITTEN, asking, given_back, gsi,
-                          message, words_of)
+from script_words import (ACCEPTED, BOARD_ENDED, BROADCAST, CANCELLED, CLAIMED, DELIVERED, DONE, ENDED, READ, REGISTERS, SENT, TAKEN_IN, WAITS,
+                          WRITTEN, asking, asking_for, given_back, gsi, message, words_of)
 
 LONGEST = 65536  # bytes of a script
 HEADER = 3  # bytes: the tag and the two of the length
@@ -41,14 +41,17 @@ ID = Part("id", 1)
 COUNT = Part("count", 1)
 ACTIVE = Part("active", 8, hex=True)
 TPR = Part("tpr", 1, hex=True)
+VCPU = Part("vcpu", 1)
 
-# A chip, by the high digit of its fields' tags: its name, whether the Rust has it, and the version of its I/O APIC if no field chooses.
-Chip = namedtuple("Chip", "name in_rust version", defaults=(None,))
+# A chip, by the high digit of its fields' tags: its name, whether the Rust has it, the version of its I/O APIC if no field chooses, and the
+# command of script-text that runs its fields where `run` doesn't.
+Chip = namedtuple("Chip", "name in_rust version command", defaults=(None, None))
 CHIPS = {
     0x0: Chip("the I/O APIC", True, 0x11),
     0x1: Chip("the pair", True),
     0x2: Chip("the local APIC", True),
     0x3: Chip("the board", False, 0x20),
+    0x4: Chip("the waiting lists", False, command="lists"),
 }
 
 # Why a call is refused, by its number.
@@ -65,6 +68,9 @@ NOT_WRITTEN = {
     5: "a physical destination above 63; ICR is stored",
 }
 NO_SETUP = {5: "a vCPU count is at most 64, an id at most 63"}
+NO_VCPU = {5: "the host has vCPUs 0 to 3"}
+FULL = NO_VCPU | {9: "64 wait for this vCPU already"}
+RESTORED = NO_VCPU | {9: "64 wait for this vCPU already; the claim is given back to the pair"}
 
 # A field: its tag and name, the parts of its body, a line of help, what it does in a run ({register} is the one that its address, port
 # or offset names; or a function of its numbers, where the words depend on them), its answer, its refusals; and whether it chooses what
@@ -97,6 +103,13 @@ FIELDS = (
     Field(0x33, "board-tpr", (TPR,), "its guest writes TPR, and PPR follows", "TPR := {tpr}", DONE),
     Field(0x34, "board-write", (WIDTH, ADDRESS, VALUE), "its I/O APIC's registers are written", "{register} := {value}", WRITTEN, NOT_IO),
     Field(0x35, "board-message", (VECTOR, LEVEL), "a device without a line asks for a vector", message, DONE),
+    Field(0x40, "list-take", (VCPU, VECTOR), "an interrupt waits for a stopped vCPU", "vector {vector} for vCPU {vcpu}", TAKEN_IN, FULL),
+    Field(0x41, "list-deliver", (VCPU,), "its oldest is delivered", "the oldest of vCPU {vcpu}", DELIVERED, NO_VCPU),
+    Field(0x42, "list-cancel", (VCPU, VECTOR), "its oldest of a vector is cancelled", "the oldest {vector} of vCPU {vcpu}", CANCELLED, NO_VCPU),
+    Field(0x43, "list-claim", (VCPU, LINE), "a PIC line is requested, what is claimed waits", asking_for, WAITS, RESTORED),
+    Field(0x44, "list-claim-pending", (VCPU,), "the highest request is claimed, and waits", "the highest request, for vCPU {vcpu}", WAITS,
+          RESTORED),
+    Field(0x45, "list-new", (VCPU,), "a new list: what waited is forgotten", "a new list for vCPU {vcpu}", DONE, NO_VCPU),
 )
 BY_NAME = {field.name: field for field in FIELDS}
 BY_TAG = {field.tag: field for field in FIELDS}

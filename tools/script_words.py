@@ -69,6 +69,10 @@ def asking(numbers):
     return "line {line} " + ("asks" if numbers["line"] < LINES else f"isn't there: the pair has 0 to {LINES - 1}")
 
 
+def asking_for(numbers):
+    return f"{asking(numbers)}, for vCPU {{vcpu}}"
+
+
 def given_back(numbers):
     line, flags = numbers["line"], numbers["flags"] & (3 if numbers["line"] >= 8 else 1)
     if line >= LINES:
@@ -117,6 +121,10 @@ ENDED = Answer("nothing ended", (
 CLAIMED = Answer("nothing claimed", ((("vector", "line", "flags"), "vector {vector}, line {line}, in service on {flags}"),))
 BROADCAST = Answer("no broadcast", ((("vector",), "broadcast: vector {vector}"),))
 ACCEPTED = Answer("nothing accepted", ((("vector",), "vector {vector} in service"),))
+TAKEN_IN = Answer("waits", ())
+DELIVERED = Answer("nothing waits", ((("vector",), "delivered: vector {vector}"),))
+CANCELLED = Answer("none waits", ((("vector",), "cancelled: vector {vector}"),))
+WAITS = Answer(CLAIMED.nothing, ((("vector", "line", "flags"), "vector {vector} waits, line {line}, in service on {flags}"),))
 BOARD_ENDED = Answer("no entry ended", ENDED_ALL.forms)
 IPI = Answer("nothing sent", ((("kind", "vector", "mask"), "sent: {kind}, vector {vector}, to {mask}"),))
 

@@ -302,8 +302,8 @@ def check_messages(checks, folder):
     folder.joinpath("bytes").write_bytes(b"\x13\x00\x00")
     none = str(folder / "none")
     for arguments, status, words in (
-        ((), 2, "a command is missing: run, diff, board, encode or decode"),
-        (("encrypt",), 2, "no command is called 'encrypt'; there are run, diff, board, encode and decode"),
+        ((), 2, "a command is missing: run, diff, board, lists, save, resume, image, encode or decode"),
+        (("encrypt",), 2, "no command is called 'encrypt'; there are run, diff, board, lists, save, resume, image, encode and decode"),
         (("encode", "a", "b"), 2, "encode takes one file, not 2: a b"),
         (("diff", "a"), 2, "diff takes two files, not 1: a"),
         (("diff", "-", "-"), 2, "standard input, -, can be read only once"),

@@ -36,11 +36,12 @@ class Repository:
     def __init__(self, folder):
         self.top = folder / "a repository"
         self.kit = folder / "kit"
-        for crate in ("script", "states", "plan", "pair_examples"):
+        for crate in ("script", "states", "lists", "plan", "pair_examples"):
             self.write(f"crates/{crate}/src/main.rt", "")
         self.write("crates/utils/src/lib.rt", "")
-        self.write("crates.txt", "vioapic_c: types io\nvpic_c: types vpic\nvlapic_c: vlapic\nboard_c: vlapic\nvcpus: vlapic\nwaiting_c: vpic\nplanner_c: planner\n")
-        for tool in ("run", "prove", "archives", "script-text", "script_fields.py", "script_words.py", "board_words.py", "board_page.py"):
+        self.write("crates.txt", "vioapic_c: types io\nvpic_c: types vpic\nvlapic_c: vlapic\nboard_c: vlapic\nvcpus: vlapic\nwaiting_c: vpic\nimage_c: image\nplanner_c: planner\n")
+        for tool in ("run", "prove", "archives", "script-text", "script_fields.py", "script_words.py", "board_words.py", "board_page.py",
+                     "list_words.py", "image_words.py"):
             (self.top / "tools").mkdir(exist_ok=True)
             shutil.copy(TOP / "tools" / tool, self.top / "tools")
         self.answer("")
@@ -134,7 +135,7 @@ def check_text(checks, folder):
 
 def check_statuses(checks, folder):
     there = Repository(folder)
-    for name, (lines, status, words) in itertools.product(("script", "states"), (
+    for name, (lines, status, words) in itertools.product(("script", "states", "lists"), (
         ("", 0, ""),
         ("12 0 -\n13 0 -\n", 0, ""),
         ("12 0 -\nbad 14\n", 1, "the script ended early, at the bad field at offset 14"),
@@ -182,12 +183,12 @@ def check_archives(checks, folder):
     status, out, said = there.tool("archives")
     checks.same("tools/archives", (status, out), (0, f"{there.top}/target/staticlib\n"))
     checks.same("what rt was asked", there.asked(),
-                ["check io planner types vlapic vpic", "staticlib vioapic_c", "staticlib vpic_c", "staticlib vlapic_c", "staticlib board_c",
-                 "staticlib vcpus", "staticlib waiting_c", "staticlib planner_c"])
+                ["check image io planner types vlapic vpic", "staticlib vioapic_c", "staticlib vpic_c", "staticlib vlapic_c", "staticlib board_c",
+                 "staticlib vcpus", "staticlib waiting_c", "staticlib image_c", "staticlib planner_c"])
     checks.true(f"how long it takes: {said!r}", SLOW in said.splitlines()[0])
-    checks.same("lines for crates", said.splitlines()[1:3], ["  utils proved (12 s)", "  io proved (3 s)"])
+    checks.same("lines for crates", said.splitlines()[1:3], ["  utils proved (12 s)", "  image proved (3 s)"])
     checks.same("the second time", (there.tool("archives"), there.asked()), ((0, f"{there.top}/target/staticlib\n", ""), []))
     there.forget()
     there.write("broken", "")
     status, out, said = there.tool("archives")
-    checks.same("a proof that fails", (status, out, "NOT PROVED" in said, there.asked()), (1, "", True, ["check io planner types vlapic vpic"]))
+    checks.same("a proof that fails", (status, out, "NOT PROVED" in said, there.asked()), (1, "", True, ["check image io planner types vlapic vpic"]))
