@@ -36,10 +36,15 @@ macro_rules! kind {
     };
 }
 
-kind!(io, TheirIo = TheirIo::new_default(), IoWords<Line> = IoWords::new(), sillwander::EmulatedIoApic = Default::default());
+kind!(io, TheirIo = TheirIo::new_default(), IoWords<Line> = IoWords::new(), sillwander::EmulatedIoApic11 = Default::default());
 // The original has no version 0x20 and no rules 1 and 2: beside them stand its version 0x11 and its rule 0.
 kind!(io20, TheirIo = TheirIo::new_default(), IoWords<Lines> = IoWords::new(), sillwander::EmulatedIoApic20 = Default::default());
-kind!(pic, TheirPic = TheirPic::new(), PicWords = PicWords::new(0), sillwander::EmulatedPic = sillwander::EmulatedPic::new());
+kind!(
+    pic,
+    TheirPic = TheirPic::new(),
+    PicWords = PicWords::new(0),
+    sillwander::EmulatedPic = sillwander::EmulatedPic::new_rule(sillwander::PicRule::Latch)
+);
 kind!(
     cascade,
     TheirPic = TheirPic::new(),

@@ -117,7 +117,7 @@ fn body_length(tag: u8) -> Option<usize> {
         0x01 => 9,
         0x02 => 17,
         0x03 | 0x20 | 0x23 => 2,
-        0x04 | 0x05 | 0x12 => 1,
+        0x04 | 0x05 | 0x06 | 0x12 | 0x16 => 1,
         0x10 | 0x14 => 3,
         0x11 | 0x21 | 0x24 => 11,
         0x13 | 0x22 => 0,
@@ -154,6 +154,8 @@ fn perform<P: Pic>(
         (0x03, [gsi, up]) => told(io.set_level((*gsi).into(), *up != 0)),
         (0x04, [gsi]) => told(io.assert((*gsi).into())),
         (0x05, [vector]) => machine.io_eoi(*vector),
+        // What both sides are here, by name.
+        (0x06, [0x11]) | (0x16, [0]) => Reply::nothing(),
         (0x10, [code, port @ ..]) => done(pic.read(number(port), width(*code)?)),
         (0x11, [code, rest @ ..]) => done(pic.write(number(&rest[..2]), width(*code)?, number(&rest[2..]))),
         (0x12, [line]) => claimed::<P>(pic.claim((*line).into())),
@@ -198,7 +200,7 @@ fn main() -> std::io::Result<()> {
             run(Machine { io: Plain(io), pic: Plain(pic), local: Plain(local) }, &script)
         }
         Some("krate") => {
-            let (io, pic) = (sillwander::EmulatedIoApic::new_default(), sillwander::EmulatedPic::new());
+            let (io, pic) = (sillwander::EmulatedIoApic11::new_default(), sillwander::EmulatedPic::new_rule(sillwander::PicRule::Latch));
             let local = sillwander::EmulatedLocalApic::default();
             run(Machine { io: Plain(io), pic: Plain(pic), local: Plain(local) }, &script)
         }

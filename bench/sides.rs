@@ -21,7 +21,6 @@ use x86_vlapic::X86VlapicHostOps;
 
 pub const SELECT: u64 = 0xfec0_0000;
 pub const WINDOW: u64 = 0xfec0_0010;
-const SIZE: u64 = 0x1000;
 const LOCAL: u64 = 0xfee0_0000;
 
 /// Why a call was refused, as its side says it.
@@ -292,11 +291,7 @@ impl<E: Ended> Io for IoWords<E> {
     }
     #[inline(always)]
     fn renew(&mut self) {
-        let words = black_box(&mut self.0);
-        match E::VERSION {
-            0x11 => sillwander_ioapic_new_default(words),
-            version => sillwander_ioapic_new_version(words, SELECT, SIZE, version),
-        };
+        sillwander_ioapic_new_default_version(black_box(&mut self.0), E::VERSION);
     }
 }
 
@@ -352,8 +347,8 @@ macro_rules! io_of_crate {
 }
 io_of_crate! {
     Plain<x86_vlapic::EmulatedIoApic>, Line;
-    Plain<sillwander::EmulatedIoApic>, Line;
-    Locked<sillwander::EmulatedIoApic>, Line;
+    Plain<sillwander::EmulatedIoApic11>, Line;
+    Locked<sillwander::EmulatedIoApic11>, Line;
     Plain<sillwander::EmulatedIoApic20>, Lines;
     Locked<sillwander::EmulatedIoApic20>, Lines;
 }
@@ -432,12 +427,12 @@ impl Pic for PicWords {
     }
     #[inline(always)]
     fn renew(&mut self) {
-        sillwander_pic_new(black_box(&mut self.0));
+        sillwander_pic_new_rule(black_box(&mut self.0), 0);
     }
 }
 
 macro_rules! pic_of_crate {
-    ($($holder:ident<$krate:ident>;)*) => {$(
+    ($($holder:ident<$krate:ident>, $new:expr;)*) => {$(
         impl Pic for $holder<$krate::EmulatedPic> {
             type Claim = $krate::PicInterruptClaim;
 
@@ -477,15 +472,15 @@ macro_rules! pic_of_crate {
             }
             #[inline(always)]
             fn renew(&mut self) {
-                self.lend(|pic| *black_box(pic) = $krate::EmulatedPic::new());
+                self.lend(|pic| *black_box(pic) = $new);
             }
         }
     )*};
 }
 pic_of_crate! {
-    Plain<x86_vlapic>;
-    Plain<sillwander>;
-    Locked<sillwander>;
+    Plain<x86_vlapic>, x86_vlapic::EmulatedPic::new();
+    Plain<sillwander>, sillwander::EmulatedPic::new_rule(sillwander::PicRule::Latch);
+    Locked<sillwander>, sillwander::EmulatedPic::new_rule(sillwander::PicRule::Latch);
 }
 
 // ---- the local APIC

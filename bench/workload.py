@@ -2,7 +2,7 @@
 
 Only fields that the original answers by itself are in it: no NMI, INIT or startup (which it only logs), no SVR bit 8, no reads of the start's DFR.
 """
-from scripts import (accept, assert_gsi, claim, claim_pending, io_eoi, line, local_eoi, local_read, local_write, pic_read, pic_write, read_window, select,
+from scripts import (NAMED, accept, assert_gsi, claim, claim_pending, io_eoi, line, local_eoi, local_read, local_write, pic_read, pic_write, read_window, select,
                      setup, window, write_low)
 
 LONGEST = 65_536
@@ -11,8 +11,8 @@ LEVEL = 0x8000
 
 
 def start():
-    """The guest programs its controllers."""
-    fields = [setup(0, 1, 8, 0xFF), local_write(DFR, 0xFFFFFFFF), local_write(LDR, 0x02000000)]
+    """The guest programs its controllers, which are named as the original's: version 0x11, rule 0."""
+    fields = [*NAMED.values(), setup(0, 1, 8, 0xFF), local_write(DFR, 0xFFFFFFFF), local_write(LDR, 0x02000000)]
     for gsi in range(24):
         fields += write_low(gsi, 0x30 + gsi if gsi < 16 else LEVEL | 0x30 + gsi)
         fields += [select(0x11 + 2 * gsi), window(0x01000000)]

@@ -25,13 +25,14 @@ int main(void)
         sillwander_lapic_accept_interrupt(local, SILLWANDER_OF_TWO(sent, 0), SILLWANDER_OF_TWO(sent, 1));
     }
 
-    /* The guest's EOI, while the line is still up: the local APIC broadcasts it, and the I/O APIC sends again. */
+    /* The guest's EOI, while the line is still up: the local APIC broadcasts it, and the I/O APIC sends again. A new I/O APIC is of version 0x20, and answers with two
+       sets of lines, a bit each: those that the EOI ended, and those that it sends again. */
     uint64_t broadcast = sillwander_lapic_handle_eoi(local);
     if (SILLWANDER_COUNT(broadcast) == 1) {
         uint64_t ended = sillwander_ioapic_end_of_interrupt(io, SILLWANDER_VALUE(broadcast));
-        if (SILLWANDER_COUNT(ended) == 3)
-            printf("EOI of 0x%x ended GSI %u; inject 0x%x again\n", SILLWANDER_VALUE(broadcast), SILLWANDER_OF_THREE(ended, 0),
-                   SILLWANDER_OF_THREE(ended, 1));
+        if (SILLWANDER_COUNT(ended) == 2)
+            printf("EOI of 0x%x ended the lines 0x%x; inject it again for the lines 0x%x\n", SILLWANDER_VALUE(broadcast),
+                   SILLWANDER_OF_TWO(ended, 0), SILLWANDER_OF_TWO(ended, 1));
     }
 
     /* The guest sends vector 0x50 to the other vCPU of two. */

@@ -70,15 +70,18 @@ extern "C" {
  */
 #define SILLWANDER_IOAPIC_WORDS 32
 
-/* A new I/O APIC of version 0x11. Refused: 4 where base + size is 2^64 or more. */
+/* A new I/O APIC of version 0x20. Refused: 4 where base + size is 2^64 or more. */
 uint64_t sillwander_ioapic_new(uint64_t words[32], uint64_t base, uint64_t size);
 
 /* A new I/O APIC of version 0x11 or 0x20. Refused: 1 for another number, then 4 as above. The refusal 1 is the boundary's own: behind it a version is one of the
    two, and nothing else can be said. */
 uint64_t sillwander_ioapic_new_version(uint64_t words[32], uint64_t base, uint64_t size, uint64_t version);
 
-/* A new I/O APIC of version 0x11 at 0xfec00000, of size 0x1000. Answers 0. */
+/* A new I/O APIC of version 0x20 at 0xfec00000, of size 0x1000. Answers 0. */
 uint64_t sillwander_ioapic_new_default(uint64_t words[32]);
+
+/* The same of version 0x11 or 0x20. Refused: 1 for another number. */
+uint64_t sillwander_ioapic_new_default_version(uint64_t words[32], uint64_t version);
 
 /* The vector programmed for a line: one value, or none where its entry is masked, isn't of fixed delivery or has a vector below 16, and from line 24 up. */
 uint64_t sillwander_ioapic_vector_for_gsi(const uint64_t words[32], uint64_t gsi);
@@ -134,7 +137,7 @@ uint64_t sillwander_ioapic_handle_write(uint64_t words[32], uint64_t addr, uint6
  */
 #define SILLWANDER_PIC_WORDS 4
 
-/* A new pair of rule 0. Answers 0. */
+/* A new pair of rule 1. Answers 0. */
 uint64_t sillwander_pic_new(uint64_t words[4]);
 
 /* A new pair of rule 0, 1 or 2. Refused: 1 for another number. That refusal is the boundary's own: in the core the rule is a type of three values, and a new pair is never refused. */

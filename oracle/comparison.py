@@ -66,8 +66,8 @@ class Comparison:
     def cut(self, pieces):
         """The pieces up to the first line that differs, if that is enough to show it; nothing if no line differs.
 
-        Nothing too where dropping fields has made a late choice the first of its chip, one to which the Rust has no answer:
-        that difference would be a false alarm.
+        Nothing too where dropping fields has taken the name of what the Rust is from a chip, or made a late choice the first of
+        its chip, one to which the Rust has no answer: that difference would be a false alarm.
         """
         if is_unjudged(b"".join(pieces)):
             return None

@@ -47,8 +47,8 @@ class Dice:
         return self.word() % 100 < in_hundred
 
 
-def packed(episodes, longest=LONGEST):
-    """Episodes (lists of fields that belong together) joined into scripts that are as long as they may be."""
+def packed(episodes, longest=LONGEST - NAMES):
+    """Episodes (lists of fields that belong together) joined into scripts that are as long as they may be with their names in front."""
     script = []
     size = 0
     for episode in episodes:
@@ -305,11 +305,11 @@ def choices():
     """Document 02's choices that name what the Rust is: before all else, before their chip's fields, and too late; and bytes that name nothing."""
     fields = one_of_each()
     whole = b"".join(fields)
-    named = {tag: field(tag, byte) for tag, (byte, _) in CHOICES.items()}
-    for order in itertools.permutations(named.values()):
+    names = {tag: field(tag, byte) for tag, (byte, _) in CHOICES.items()}
+    for order in itertools.permutations(names.values()):
         yield b"".join(order) + whole
         yield order[0] + whole + order[0]
-    for (tag, choice), n in itertools.product(named.items(), range(len(fields) + 1)):
+    for (tag, choice), n in itertools.product(names.items(), range(len(fields) + 1)):
         yield b"".join(fields[:n]) + choice + b"".join(fields[n:])
         yield b"".join(f for f in fields[:n] if f[0] >> 4 != tag >> 4) + choice + b"".join(fields[n:])
     for tag, (byte, unjudged) in CHOICES.items():
@@ -328,12 +328,12 @@ def exactly(size):
 
 
 def around_longest():
-    """Whole and cut scripts of 65,530 to 65,540 bytes, and far longer ones."""
-    for size in range(LONGEST - 6, LONGEST + 5):
+    """Whole and cut scripts of 65,530 to 65,540 bytes, and far longer ones, their names counted."""
+    for size in range(LONGEST - NAMES - 6, LONGEST - NAMES + 5):
         yield exactly(size)
         yield exactly(size + 1)[:size]
     for size in (LONGEST, LONGEST + 1, 2 * LONGEST, 3 * LONGEST):
-        yield bytes(size)
+        yield bytes(size - NAMES)
 
 
 def whole_domains(thin):
@@ -613,7 +613,7 @@ def short_scripts(seed, count):
     """So many short scripts from a new machine, every second one damaged, each ended by reads of everything where no bad
     field ends it."""
     dice = Dice(seed)
-    whole, hurt = judged(endless_short(dice, False)), judged(endless_short(dice, True))
+    whole, hurt = compared(endless_short(dice, False)), compared(endless_short(dice, True))
     return (next(hurt if n % 2 else whole) for n in range(count))
 
 
@@ -625,23 +625,23 @@ def gate_short_scripts():
 # ---- all ------------------------------------------------------------------------------------------------------------
 
 
-def judged(scripts):
-    """Leaves out the scripts to which the Rust has no answer.
+def compared(scripts):
+    """The scripts with the names of what the Rust is in front, without those to which it has no answer.
 
     A damaged or random byte can make a first field `06 20`, `16 01` or `16 02`, which chooses what the Rust isn't. Ours would take
     it, the harness calls it bad, and that would be a false alarm. (While a difference is made small, `cut` in comparison.py
-    sees to the same.)
+    sees to the same, and to it that the names stay.)
     """
-    return (script for script in scripts if not is_unjudged(script))
+    return (script for script in map(named, scripts) if not is_unjudged(script))
 
 
 def scripts(seed, least_fields, thin):
     """The whole domains, then seeded scripts: some at least, and until there are as many fields as asked."""
     fields = 0
-    for script in judged(whole_domains(thin)):
+    for script in compared(whole_domains(thin)):
         fields += count_lines(script)
         yield script
-    for n, script in enumerate(judged(seeded(Dice(seed)))):
+    for n, script in enumerate(compared(seeded(Dice(seed)))):
         if fields >= least_fields and n >= LEAST_SEEDED:
             return
         fields += count_lines(script)

@@ -18,6 +18,8 @@ TAGS = {
 WITH_WIDTH = [tag for tag, parts in TAGS.items() if parts and parts[0][0] == "width"]
 # The choices of what a chip is: the byte that names what the Rust is, and those to which it has no answer.
 CHOICES = {tag: (codes[0], codes[1:]) for tag, codes in table.choices().items() if tag in TAGS}
+# How many bytes `named` puts in front of a script without choices.
+NAMES = len(table.unnamed(b""))
 
 
 def field(tag, *values):
@@ -146,22 +148,33 @@ def ends_badly(script):
     return any(bad for _, bad in performed(script))
 
 
-# How the fields start to which the Rust has no answer: choices of what it isn't, and all fields of chips that it hasn't.
-UNJUDGED = tuple(
-    [field(tag, byte) for tag, (_, others) in CHOICES.items() for byte in others]
-    + [bytes([tag]) + length.to_bytes(2, "little") for tag, length in LENGTH.items() if tag not in TAGS]
-)
+# What the Rust is, by name: a chip's choice.
+NAMED = {table.chip_of(tag): field(tag, byte) for tag, (byte, _) in CHOICES.items()}
+
+
+def named(script):
+    """A script that names what the Rust is, version 0x11 and rule 0, each where it doesn't choose itself: what ours is without a choice the
+    Rust isn't (document 02, T-14)."""
+    return table.unnamed(script) + script
 
 
 def is_unjudged(script):
-    """Whether a script has such a field where it is good: `06 20`, `16 01` or `16 02` before all other fields of its chip.
+    """Whether a script comes to a good field to which the Rust has no answer: `06 20`, `16 01` or `16 02` before all other fields of its chip,
+    a field of a chip that isn't named as what the Rust is, one of a chip that the Rust hasn't.
 
-    Ours takes it, and the Rust has no answer to it (the harness calls it bad): such a script compares nothing. Too late, the
-    same choice is bad to both.
+    Ours takes it (the harness calls the first and the last bad): such a script compares nothing. Too late, the same choice is bad to both.
     """
-    if len(script) > LONGEST or not any(start in script for start in UNJUDGED):
+    if len(script) > LONGEST:
         return False
-    return any(piece.startswith(UNJUDGED) and not bad for piece, bad in performed(script))
+    seen = set()
+    for piece, bad in performed(script):
+        if bad:
+            return False
+        chip = table.chip_of(piece[0])
+        if piece[0] not in TAGS or (chip not in seen and piece != NAMED.get(chip, piece)):
+            return True
+        seen.add(chip)
+    return False
 
 
 def describe(piece):

@@ -47,7 +47,7 @@ VCPU = Part("vcpu", 1)
 # command of script-text that runs its fields where `run` doesn't.
 Chip = namedtuple("Chip", "name in_rust version command", defaults=(None, None))
 CHIPS = {
-    0x0: Chip("the I/O APIC", True, 0x11),
+    0x0: Chip("the I/O APIC", True, 0x20),
     0x1: Chip("the pair", True),
     0x2: Chip("the local APIC", True),
     0x3: Chip("the board", False, 0x20),
@@ -126,6 +126,23 @@ CODED = {
 def choices():
     """The tags of the fields that choose what their chip is, and the bytes that each may have."""
     return {field.tag: tuple(field.parts[0].codes) for field in FIELDS if field.chooses}
+
+
+def unnamed(script):
+    """The choices that a script leaves out, as fields: each names the first of its codes, what a new chip was before document 02's T-14.
+
+    In front of the script they keep its lines as they were. A script that chooses itself, before all other fields of the chip, goes without:
+    its own choice would come too late. What stands behind a bad field isn't looked at.
+    """
+    first, used, at = {}, set(), 0
+    while at < len(script):
+        first.setdefault(chip_of(script[at]), script[at])
+        if what_is_wrong(script, at, used):
+            break
+        used.add(chip_of(script[at]))
+        at = end_of(script, at)
+    missing = [(tag, codes[0]) for tag, codes in choices().items() if first.get(chip_of(tag)) != tag]
+    return b"".join(bytes([tag, 1, 0, code]) for tag, code in missing)
 
 
 def chip_of(tag):

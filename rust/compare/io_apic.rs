@@ -7,7 +7,7 @@ const BASE: usize = 0xfec0_0000;
 
 pub struct IoApics {
     original: x86_vlapic::EmulatedIoApic,
-    ours: sillwander::EmulatedIoApic,
+    ours: sillwander::EmulatedIoApic11,
 }
 
 #[derive(Clone, Debug)]
@@ -64,7 +64,7 @@ impl Pair for IoApics {
     type Call = Call;
 
     fn new() -> Self {
-        Self { original: x86_vlapic::EmulatedIoApic::new_default(), ours: sillwander::EmulatedIoApic::new_default() }
+        Self { original: x86_vlapic::EmulatedIoApic::new_default(), ours: sillwander::EmulatedIoApic11::new_default() }
     }
 
     fn next(dice: &mut Dice, calls: &mut Vec<Call>) {
@@ -118,7 +118,7 @@ impl Pair for IoApics {
         match call {
             Call::New { base, size } => {
                 self.original = x86_vlapic::EmulatedIoApic::new(theirs(base), *size);
-                let ours = sillwander::EmulatedIoApic::new(own(base), *size);
+                let ours = sillwander::EmulatedIoApic11::new(own(base), *size);
                 (Said::done(Vec::new()), Said::ours(ours.map(|ours| self.ours = ours), nothing))
             }
             Call::Read { addr, width } => (

@@ -136,12 +136,12 @@ static int lend_all(void)
     return wrong == 0;
 }
 
-/* A new machine: the I/O APIC at its usual place, the pair, and the local APIC of vCPU 0. */
+/* A new machine of document 01's rules: the I/O APIC of version 0x11 at its usual place, the pair by rule 0, and the local APIC of vCPU 0. */
 static void start(const char *name)
 {
     part = name;
-    EXPECT(sillwander_ioapic_new_default(io), NONE);
-    EXPECT(sillwander_pic_new(pic), NONE);
+    EXPECT(sillwander_ioapic_new_default_version(io, 0x11), NONE);
+    EXPECT(sillwander_pic_new_rule(pic, 0), NONE);
     EXPECT(sillwander_lapic_new(lapic), NONE);
 }
 
@@ -597,21 +597,30 @@ static void versions(void)
         io[29] = as_11[k];
         EXPECT(look(), one(0x00170011));
     }
+    /* Without a version it is 0x20; by name it is either, and all else is the same. */
     EXPECT(sillwander_ioapic_new_default(io), NONE);
+    CHECK(io[29] == 0x20);
     remember(&io_lent);
     memset(io, 0xff, SILLWANDER_IOAPIC_WORDS * 8);
-    EXPECT(sillwander_ioapic_new_version(io, BASE, 0x1000, 0x11), NONE);
+    EXPECT(sillwander_ioapic_new(io, BASE, 0x1000), NONE);
     CHECK(is_as_before(&io_lent));
-    memset(io, 0xff, SILLWANDER_IOAPIC_WORDS * 8);
-    EXPECT(sillwander_ioapic_new_version(io, BASE, 0x1000, 0x20), NONE);
-    io_lent.before[29] = 0x20;
-    CHECK(is_as_before(&io_lent));
+    const uint64_t versions[] = {0x20, 0x11};
+    for (unsigned k = 0; k < 2; k++) {
+        io_lent.before[29] = versions[k];
+        memset(io, 0xff, SILLWANDER_IOAPIC_WORDS * 8);
+        EXPECT(sillwander_ioapic_new_version(io, BASE, 0x1000, versions[k]), NONE);
+        CHECK(is_as_before(&io_lent));
+        memset(io, 0xff, SILLWANDER_IOAPIC_WORDS * 8);
+        EXPECT(sillwander_ioapic_new_default_version(io, versions[k]), NONE);
+        CHECK(is_as_before(&io_lent));
+    }
 
     start_20("refused versions", 0x28, 0x8041);
     const uint64_t others[] = {0, 1, 0x10, 0x12, 0x1f, 0x21, 256 + 0x11, 256 + 0x20, HIGH + 0x20, 0x00170020, UINT64_MAX};
     for (unsigned k = 0; k < sizeof others / sizeof *others; k++) {
         REFUSED(io_lent, sillwander_ioapic_new_version(io, BASE, 0x1000, others[k]), SILLWANDER_UNSUPPORTED);
         REFUSED(io_lent, sillwander_ioapic_new_version(io, 1, UINT64_MAX, others[k]), SILLWANDER_UNSUPPORTED);
+        REFUSED(io_lent, sillwander_ioapic_new_default_version(io, others[k]), SILLWANDER_UNSUPPORTED);
     }
     REFUSED(io_lent, sillwander_ioapic_new_version(io, 1, UINT64_MAX, 0x20), SILLWANDER_INVALID_ADDRESS);
     REFUSED(io_lent, sillwander_ioapic_new_version(io, UINT64_MAX, 1, 0x11), SILLWANDER_INVALID_ADDRESS);
@@ -678,6 +687,13 @@ static void cascade_rule(void)
     CHECK((pic[0] >> 16 & 0xffff) == 0);
 
     start("rules");
+    memset(pic, 0xff, SILLWANDER_PIC_WORDS * 8);
+    EXPECT(sillwander_pic_new_rule(pic, 1), NONE);
+    CHECK(pic[2] == 1 && pic[3] == 0);
+    remember(&pic_lent);
+    memset(pic, 0xff, SILLWANDER_PIC_WORDS * 8);
+    EXPECT(sillwander_pic_new(pic), NONE); /* rule 1, where none is named */
+    CHECK(is_as_before(&pic_lent));
     memset(pic, 0xff, SILLWANDER_PIC_WORDS * 8);
     EXPECT(sillwander_pic_new_rule(pic, 0), NONE);
     CHECK(pic[2] == 0 && pic[3] == 0);
@@ -1096,7 +1112,7 @@ static uint64_t sendable(void)
 }
 
 /* The calls by number: the I/O APIC's, the pair's, the local APIC's. */
-enum { NEW_STATES_OF_IO = 3, IO_EOI = 6, IO_WRITE = 9, OF_PAIR = 10, PIC_PENDING = 14, PIC_READ = 18, OF_LAPIC = 20, LAPIC_WRITES = 25, CALLS = 27 };
+enum { NEW_STATES_OF_IO = 4, IO_EOI = 7, IO_WRITE = 10, OF_PAIR = 11, PIC_PENDING = 15, PIC_READ = 19, OF_LAPIC = 21, LAPIC_WRITES = 26, CALLS = 28 };
 
 static uint64_t call(unsigned which)
 {
@@ -1105,29 +1121,30 @@ static uint64_t call(unsigned which)
     case 0: return sillwander_ioapic_new(io, a, b);
     case 1: return sillwander_ioapic_new_default(io);
     case 2: return sillwander_ioapic_new_version(io, a, b, d % 4 == 0 ? c : d % 4 == 1 ? 0x11 : 0x20);
-    case 3: return sillwander_ioapic_vector_for_gsi(io, a);
-    case 4: return sillwander_ioapic_assert_gsi(io, a);
-    case 5: return sillwander_ioapic_set_gsi_level(io, a, b % 2);
-    case 6: return sillwander_ioapic_end_of_interrupt(io, a);
-    case 7: return sillwander_ioapic_address_range(io, range);
-    case 8: return sillwander_ioapic_handle_read(io, d % 2 ? io[27] + a % 32 : a, b);
-    case 9: return sillwander_ioapic_handle_write(io, d % 2 ? io[27] + (a % 3 == 2 ? 0x40 : a % 3 * 16) : a, b, c);
-    case 10: return sillwander_pic_new(pic);
-    case 11: return sillwander_pic_new_rule(pic, d % 4 == 0 ? c : d % 3);
-    case 12: return sillwander_pic_port_ranges(ranges);
-    case 13: return sillwander_pic_claim_irq(pic, a);
-    case 14: return sillwander_pic_claim_pending_interrupt(pic);
-    case 15: return sillwander_pic_pulse_irq(pic, a);
-    case 16: return sillwander_pic_next_interrupt(pic);
-    case 17: return sillwander_pic_restore_interrupt(pic, d % 2 ? claim_code(a % 257, b % 17, c % 5) : a);
-    case 18: return sillwander_pic_handle_read(pic, a, b);
-    case 19: return sillwander_pic_handle_write(pic, a, b, c);
-    case 20: return sillwander_lapic_new(lapic);
-    case 21: return sillwander_lapic_setup(lapic, a, b, c);
-    case 22: return sillwander_lapic_accept_interrupt(lapic, a, b);
-    case 23: return sillwander_lapic_handle_eoi(lapic);
-    case 24: return sillwander_lapic_handle_read(lapic, a);
-    case 25: return sillwander_lapic_handle_write(lapic, a, b, c, d % 70, e, ipi);
+    case 3: return sillwander_ioapic_new_default_version(io, d % 4 == 0 ? c : d % 4 == 1 ? 0x11 : 0x20);
+    case 4: return sillwander_ioapic_vector_for_gsi(io, a);
+    case 5: return sillwander_ioapic_assert_gsi(io, a);
+    case 6: return sillwander_ioapic_set_gsi_level(io, a, b % 2);
+    case 7: return sillwander_ioapic_end_of_interrupt(io, a);
+    case 8: return sillwander_ioapic_address_range(io, range);
+    case 9: return sillwander_ioapic_handle_read(io, d % 2 ? io[27] + a % 32 : a, b);
+    case 10: return sillwander_ioapic_handle_write(io, d % 2 ? io[27] + (a % 3 == 2 ? 0x40 : a % 3 * 16) : a, b, c);
+    case 11: return sillwander_pic_new(pic);
+    case 12: return sillwander_pic_new_rule(pic, d % 4 == 0 ? c : d % 3);
+    case 13: return sillwander_pic_port_ranges(ranges);
+    case 14: return sillwander_pic_claim_irq(pic, a);
+    case 15: return sillwander_pic_claim_pending_interrupt(pic);
+    case 16: return sillwander_pic_pulse_irq(pic, a);
+    case 17: return sillwander_pic_next_interrupt(pic);
+    case 18: return sillwander_pic_restore_interrupt(pic, d % 2 ? claim_code(a % 257, b % 17, c % 5) : a);
+    case 19: return sillwander_pic_handle_read(pic, a, b);
+    case 20: return sillwander_pic_handle_write(pic, a, b, c);
+    case 21: return sillwander_lapic_new(lapic);
+    case 22: return sillwander_lapic_setup(lapic, a, b, c);
+    case 23: return sillwander_lapic_accept_interrupt(lapic, a, b);
+    case 24: return sillwander_lapic_handle_eoi(lapic);
+    case 25: return sillwander_lapic_handle_read(lapic, a);
+    case 26: return sillwander_lapic_handle_write(lapic, a, b, c, d % 70, e, ipi);
     default: return sillwander_lapic_handle_write(lapic, 0x300, a * 0x9e3779b97f4a7c15 >> 44, b % 2 ? 4 : 8, d % 65, e, ipi);
     }
 }

@@ -52,7 +52,12 @@ fn main() {
     let mut pic = opened(PicRule::Cascade);
     assert_eq!((pic.pulse_irq(2), requests(&mut pic)), (None, [0, 0]));
     restored_at_once();
-    assert_eq!(PicRule::default(), PicRule::Latch);
+    // Which rule a new pair has, where none is named.
+    assert_eq!(PicRule::default(), PicRule::Cascade);
+    for mut pic in [EmulatedPic::new(), EmulatedPic::default()] {
+        pic.handle_write(0x21_u16.into(), Byte, 0).expect("the port takes it");
+        assert_eq!((pic.pulse_irq(2), requests(&mut pic)), (None, [0, 0]));
+    }
     let shared = Locked::new(opened(PicRule::Cascade));
     assert_eq!(shared.with(|pic| pic.pulse_irq(12)), Some(0x74));
     println!("the cascade rule: example 7 ends with 0x76, example 8 answers nothing");

@@ -2,7 +2,7 @@
 //! Controller Hub's EOI register, and the 82093AA's read-only Remote IRR.
 
 use sillwander::{
-    EmulatedIoApic, EmulatedIoApic20, IoApicEoi, IoApicEois, IoApicInterrupt, IoApicWritten, Locked, X86AccessWidth,
+    EmulatedIoApic, EmulatedIoApic11, EmulatedIoApic20, IoApicEoi, IoApicEois, IoApicInterrupt, IoApicWritten, Locked, X86AccessWidth,
     X86GuestPhysAddr, X86VlapicError,
 };
 
@@ -53,7 +53,7 @@ fn window(io: &mut EmulatedIoApic20, value: usize) -> Option<IoApicInterrupt> {
 
 /// Two devices hold their lines and share a vector. In version 0x11 the lower one is sent at each EOI, and the upper one never; in version 0x20 both are.
 fn last_spring() {
-    let mut old = EmulatedIoApic::new_default();
+    let mut old = EmulatedIoApic11::new_default();
     for gsi in [3, 5] {
         assert_eq!(old.handle_write(at(0), X86AccessWidth::Dword, 0x10 + 2 * gsi), Ok(()));
         assert_eq!(old.handle_write(at(0x10), X86AccessWidth::Dword, 0x8041), Ok(()));
@@ -121,7 +121,7 @@ fn threaded_handler() {
 }
 
 fn other_calls() {
-    let mut io = EmulatedIoApic20::default();
+    let mut io = EmulatedIoApic::default(); // version 0x20, where none is named
     assert_eq!(io.handle_write(at(0), X86AccessWidth::Dword, 1), Ok(IoApicWritten::Done));
     assert_eq!(io.handle_read(at(0x10), X86AccessWidth::Dword), Ok(0x0017_0020));
     assert_eq!(io.vector_for_gsi(2), None);
@@ -139,7 +139,7 @@ fn other_calls() {
     assert_eq!(shared.with(|io| io.end_of_interrupt(VECTOR)), eois(0x28, 0x28));
 
     // In version 0x11 there is no register at 0x40.
-    let mut old = EmulatedIoApic::new_default();
+    let mut old = EmulatedIoApic11::new_default();
     assert_eq!(old.handle_write(at(0), X86AccessWidth::Dword, 0x16), Ok(()));
     assert_eq!(old.handle_write(at(0x10), X86AccessWidth::Dword, 0x8041), Ok(()));
     assert_eq!(old.set_gsi_level(3, true), SENT);

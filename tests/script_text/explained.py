@@ -39,7 +39,8 @@ WORDS = (
     ([NEWER, "io-write 4 0xfec00040 0x130"], "02 0 20,16",
      "EOI register := 0x130 (vector 0x30) -> ended GSI 2, 4; sent again GSI 4"),
     ([NEWER, "io-write 4 0xfec00040 0x30"], "02 0 -", "EOI register := 0x30 (vector 0x30) -> nothing ended"),
-    (["io-write 4 0xfec00040 0x30"], "02 0 -", "offset 0x40 := 0x30 -> done"),
+    (["io-write 4 0xfec00040 0x30"], "02 0 -", "EOI register := 0x30 (vector 0x30) -> nothing ended"),
+    (["io-version 0x11", "io-write 4 0xfec00040 0x30"], "02 0 -", "offset 0x40 := 0x30 -> done"),
     ([NEWER, f"{SELECT} 0x16", "io-write 4 0xfec00010 0x8041"], "02 0 65,1",
      "entry 3, low word := 0x8041 (vector 0x41, level) -> sent: vector 0x41, level"),
     # Lines.
@@ -302,8 +303,8 @@ def check_messages(checks, folder):
     folder.joinpath("bytes").write_bytes(b"\x13\x00\x00")
     none = str(folder / "none")
     for arguments, status, words in (
-        ((), 2, "a command is missing: run, diff, board, lists, save, resume, image, encode or decode"),
-        (("encrypt",), 2, "no command is called 'encrypt'; there are run, diff, board, lists, save, resume, image, encode and decode"),
+        ((), 2, "a command is missing: run, diff, board, lists, save, resume, image, encode, decode or upgrade"),
+        (("encrypt",), 2, "no command is called 'encrypt'; there are run, diff, board, lists, save, resume, image, encode, decode and upgrade"),
         (("encode", "a", "b"), 2, "encode takes one file, not 2: a b"),
         (("diff", "a"), 2, "diff takes two files, not 1: a"),
         (("diff", "-", "-"), 2, "standard input, -, can be read only once"),
@@ -366,7 +367,7 @@ import sys
 sys.dont_write_bytecode = True
 sys.path.insert(0, sys.argv[1])
 import scripts
-asked = "16 01 00 09", "16 01 00 00", "70 02 00 03 01", "70 02 00 03", "13 00 00 16 01 00 09"
+asked = "16 01 00 09", "16 01 00 00", "70 02 00 03 01", "70 02 00 03", "13 00 00", "16 01 00 00 13 00 00 16 01 00 09"
 print([scripts.is_unjudged(bytes.fromhex(one)) for one in asked])
 print(0x70 in scripts.TAGS, scripts.describe(bytes.fromhex("70 02 00 03 01")), 9 in scripts.CHOICES[0x16][1])
 """
@@ -395,7 +396,7 @@ def check_new_row(checks, folder):
     checks.true("new fields in help", "other-line GSI up|down" in command("--help", tool=tool).stdout.decode())
     said = subprocess.run([sys.executable, "-c", JUDGED, folder / "oracle"], stdout=subprocess.PIPE, stderr=subprocess.STDOUT, text=True)
     checks.same("what the Rust can't judge, with the new fields", said.stdout,
-                "[True, False, True, False, False]\nFalse other-line 3 up True\n")
+                "[True, False, True, False, True, False]\nFalse other-line 3 up True\n")
 
 
 # The proved program.

@@ -8,12 +8,12 @@ use Rattle.vioapic.specs.State.{IoApicState}
 use Rattle.vioapic.specs.State as io-words
 use Rattle.types.specs.declared.Reply.the-variants.{Nothing}
 use Rattle.vioapic.specs.declared.IoApicVersion.{IoApicVersion}
-use Rattle.vioapic.specs.declared.IoApicVersion.the-variants.{V11}
+use Rattle.vioapic.specs.declared.IoApicVersion.the-variants.{V20}
 use Rattle.vioapic.specs.IoApic.{Makes, createdVersion}
 use Rattle.vioapic.specs.Calls.{outcome}
 use Rattle.vpic.specs.Words as pic-words
 use Rattle.vpic.specs.declared.PicRule.{PicRule as Rule}
-use Rattle.vpic.specs.declared.PicRule.the-variants.{Latch}
+use Rattle.vpic.specs.declared.PicRule.the-variants.{Cascade}
 use Rattle.vpic.specs.Pair.{newState}
 use Rattle.vlapic_words.specs.Calls.{IsNew}
 use Rattle.board.specs.Board.{boardIn}
@@ -72,7 +72,7 @@ module _ (io pair l bio bl : List ℕ) (vm vm′ : Vm) (call : Call) (r : Reply)
   perform-board bio′ bl′ c k h = rw (e, k, ← h)
 
 -- a new machine
-pub new-machine : (before io pair l bio bl new : List ℕ) (m : IoApicState) (r : Reply) → Makes before io r (createdVersion m 0xfec00000 0x1000 V11) new → pic-words.view pair ≡ newState Latch → IsNew l
+pub new-machine : (before io pair l bio bl new : List ℕ) (m : IoApicState) (r : Reply) → Makes before io r (createdVersion m 0xfec00000 0x1000 V20) new → pic-words.view pair ≡ newState Cascade → IsNew l
     → board-promise.Makes bio bl
     → machineIn io pair l bio bl (record { «vcpu_num» = 1; «active_vcpus» = 1; used = unused }) ≡ newMachine
 unfolding machineIn newMachine createdVersion

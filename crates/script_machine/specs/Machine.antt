@@ -15,7 +15,7 @@ use Rattle.vioapic.specs.IoApic.{chipOf, versionNumber, newDefault}
 use Rattle.vioapic.specs.Calls as ioapic
 use Rattle.vpic.specs.Words.{PicState}
 use Rattle.vpic.specs.Words as pic-words
-use Rattle.vpic.specs.declared.PicRule.the-variants.{Latch}
+use Rattle.vpic.specs.declared.PicRule.the-variants.{Cascade}
 use Rattle.vpic.specs.Pair as vpic
 use Rattle.vlapic.specs.declared.VirtualApicRegs.{VirtualApicRegs}
 use Rattle.vlapic.specs.Regs.{start}
@@ -95,11 +95,11 @@ machineOf m = machineIn (m .ioapic) (m .pic) (m .apic) (m .«board_ioapic») (m 
 abbrev pub unused : Used
 unused = record { io = false; pic = false }
 
--- the I/O APIC at 0xfec00000, size 0x1000; the local APIC in xAPIC mode with id 0; one vCPU, and it is active; a new board
+-- the I/O APIC of version 0x20 at 0xfec00000, size 0x1000; the pair by the cascade rule; the local APIC in xAPIC mode with id 0; one vCPU, and it is active; a new board
 unfoldable pub newMachine : Machine
 newMachine = record {
   ioapic = newDefault;
-  pic = vpic.newState Latch;
+  pic = vpic.newState Cascade;
   local = record { apic = start false 0; «vcpu_num» = 1; «active_vcpus» = 1 };
   board = newBoard;
   used = unused;

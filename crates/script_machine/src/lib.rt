@@ -256,7 +256,7 @@ fn call_board(ioapic: &mut [u64; 32], apic: &mut [u64; 48], call: BoardCall) -> 
 
 // ---- one call on the machine
 
-// A new machine in these words: the I/O APIC at its usual address; the local APIC of vCPU 0, the only one, in xAPIC mode; a new board.
+// A new machine in these words: the I/O APIC of version 0x20 at its usual address; the pair by the cascade rule; the local APIC of vCPU 0, the only one, in xAPIC mode; a new board.
 pub fn new(
     ioapic: &mut [u64; 32],
     pic: &mut [u64; 4],

@@ -14,17 +14,17 @@ use Rattle.vioapic.specs.State.{IoApicState}
 use Rattle.vioapic.specs.declared.IoApicVersion.{IoApicVersion}
 use Rattle.vioapic.specs.IoApic.{versionNumber}
 use Rattle.vioapic_theorems.specs.Rules.{ChipRules}
-use Rattle.vioapic.specs.Calls.{outcome, run}
+use Rattle.vioapic.specs.Calls.{Call as ChipCall, outcome, next, run}
 use Rattle.script_format.specs.declared.Call.{Call}
 use Rattle.script_format.specs.declared.Call.the-variants.{Io, IoVersion, Pic, PicRule, Apic, Board}
 use Rattle.script_format.specs.declared.IoCall.the-variants.{SetGsiLevel}
 use mathlib.Core.Bool.{true, not, _&&_}
 use Rattle.script_machine.specs.declared.Used.{Used}
 use Rattle.script_machine.specs.Late.{usedAfter}
-use Rattle.script_machine.specs.Machine.{Machine, newMachine, ioCall, chosen, performed}
+use Rattle.script_machine.specs.Machine.{Machine, unused, newMachine, ioCall, chosen, performed}
 use Rattle.script_machine.specs.Run.{afterCalls, callsFrom, runOf}
 use Rattle.script_theorems.specs.Runs.{inTime}
-use Rattle.script_theorems.specs.Heard.{ioCalls, startOf, ioReplies, answers, scriptSends, IoApicRuns, IoApicAnswers, IoApicSends, MachineRules, MachinesKeepRules, callsAfter, HeardInScripts, HeardInScripts20}
+use Rattle.script_theorems.specs.Heard.{ioCalls, startOf, ioReplies, answers, scriptSends, IoApicRuns, IoApicAnswers, IoApicSends, MachineRules, MachinesKeepRules, versionChosen, ScriptVersion, callsAfter, HeardInScripts, HeardInScripts20}
 use Rattle.script_theorems.proofs.Calls.{later}
 use Rattle.script_theorems.proofs.Runs.{in-time}
 
@@ -82,7 +82,7 @@ io-apic-sends used g m (Board c ∷ cs) h = zero-add _ ∙ io-apic-sends (usedAf
 
 new-rules : MachineRules newMachine
 unfolding newMachine
-new-rules = record { rules = new-keeps-rules 0x11 0xfec00000 0x1000; place = refl }
+new-rules = record { rules = new-keeps-rules 0x20 0xfec00000 0x1000; place = refl }
 
 one-keeps : (m : Machine) (c : Call) → MachineRules m → MachineRules (performed m c .state)
 unfolding performed
@@ -106,6 +106,29 @@ machines-keep-rules = (new-rules, all-keep)
 
 reached : (s : List ℕ) (a : ℕ) (m : Machine) → m ≡ runOf s newMachine 0 a .machine → MachineRules m
 reached s a m e = rw e (all-keep newMachine (callsFrom s (newMachine .used) 0 a) new-rules)
+
+-- ---- the version
+
+kept-version : (chip : IoApicState) (cs : List ChipCall) → run chip cs .version ≡ chip .version
+unfolding run
+kept-version chip [] = refl
+kept-version chip (c ∷ cs) = kept-version (next chip c) cs ∙ calls-keep-version chip c .0
+
+start-version : (chip : IoApicState) (cs : List Call) → startOf chip cs .version ≡ versionChosen (chip .version) cs
+unfolding startOf versionChosen
+start-version chip [] = refl
+start-version chip (Io c ∷ cs) = refl
+start-version chip (IoVersion v ∷ cs) = refl
+start-version chip (Pic c ∷ cs) = start-version chip cs
+start-version chip (PicRule rule ∷ cs) = start-version chip cs
+start-version chip (Apic c ∷ cs) = start-version chip cs
+start-version chip (Board c ∷ cs) = start-version chip cs
+
+pub script-version : ScriptVersion
+unfolding newMachine
+script-version s a =
+    let cs = callsFrom s unused 0 a in
+    ap (λ (x : IoApicState). x .version) (io-apic-runs unused newMachine cs (in-time s unused 0 a)) ∙ kept-version (startOf (newMachine .ioapic) cs) (ioCalls cs) ∙ start-version (newMachine .ioapic) cs
 
 -- ---- demand 3
 

@@ -6,7 +6,7 @@ use mathlib.Core.Path.{_≡_, refl, ap, _∙_}
 use native.Mathlib.Omega.{arith}
 use Rattle.types.specs.Reply.{Outcome}
 use Rattle.vpic.specs.Words.{PicState}
-use Rattle.vpic.specs.declared.PicRule.the-variants.{Latch}
+use Rattle.vpic.specs.declared.PicRule.the-variants.{Cascade}
 use Rattle.vpic.specs.Pair.{newState, Keeps}
 use Rattle.vpic_theorems.proofs.Rule.{new-keeps, calls-keep, calls-keep-number, slave-heard}
 use Rattle.script_format.specs.declared.Call.{Call}
@@ -14,11 +14,12 @@ use Rattle.script_format.specs.declared.Call.the-variants.{Io, IoVersion, Pic, 
 use Rattle.script_format.specs.declared.PicCall.{PicCall}
 use Rattle.script_machine.specs.declared.Used.{Used}
 use Rattle.script_machine.specs.Late.{usedAfter}
-use Rattle.script_machine.specs.Machine.{Machine, newMachine, picOutcome, performed}
+use Rattle.script_machine.specs.Machine.{Machine, unused, newMachine, picOutcome, performed}
 use Rattle.script_machine.specs.Run.{callsFrom, afterCalls}
 use Rattle.script_theorems.specs.Runs.{inTime}
-use Rattle.script_theorems.specs.Pairs.{ruleChosen, PairRule, pairAfter, PairKeeps, SlaveHeardInScripts}
+use Rattle.script_theorems.specs.Pairs.{ruleChosen, PairRule, pairAfter, ScriptRule, PairKeeps, SlaveHeardInScripts}
 use Rattle.script_theorems.proofs.Calls.{picCall, as-call, later}
+use Rattle.script_theorems.proofs.Runs.{in-time}
 
 -- ---- the rule chosen
 
@@ -53,6 +54,10 @@ pair-rule used m (Apic c ∷ cs) h =
 pair-rule used m (Board c ∷ cs) h =
     pair-rule (usedAfter used (Board c)) (performed m (Board c) .state) cs (later used (Board c) cs h)
 
+pub script-rule : ScriptRule
+unfolding newMachine newState
+script-rule s a = pair-rule unused newMachine (callsFrom s unused 0 a) (in-time s unused 0 a)
+
 -- ---- the rule kept
 
 one-keeps : (m : Machine) (c : Call) → Keeps (m .pic) → Keeps (performed m c .state .pic)
@@ -71,7 +76,7 @@ all-keep m (c ∷ cs) k = all-keep (performed m c .state) cs (one-keeps m c k)
 
 new-machine-keeps : Keeps (newMachine .pic)
 unfolding newMachine
-new-machine-keeps = new-keeps Latch
+new-machine-keeps = new-keeps Cascade
 
 pub pair-keeps : PairKeeps
 pair-keeps s a = all-keep newMachine (callsFrom s (newMachine .used) 0 a) new-machine-keeps

@@ -1,6 +1,6 @@
--- The numbered examples 1 to 12 of document 01, about the definitions: one list under one statement, computed. Each is a list of calls on a new machine, what
--- each of them says back (the number, and then the values), and what is looked at in the machine after them. And six more of the same form: of T-01, last spring's lines in
--- both versions; of T-08, a line that is masked while it is served, in both; of T-02, examples 7 and 8 under the cascade rule.
+-- The numbered examples 1 to 12 of document 01, about the definitions: one list under one statement, computed. Each is a list of calls on a new machine for which version 0x11 and
+-- the pair's rule 0 were chosen (document 02, T-14), what each of them says back (the number, and then the values), and what is looked at in the machine after them. And six more of the
+-- same form on a new machine: of T-01, last spring's lines in both versions; of T-08, a line that is masked while it is served, in both; of T-02, examples 7 and 8 under the cascade rule.
 use Prim.Native.Nat.{ℕ, suc}
 use mathlib.Core.Bool.{Bool, true, false}
 use mathlib.Core.List.{List, [], _∷_, map}
@@ -15,7 +15,7 @@ use Rattle.vioapic.specs.IoApic as vioapic
 use Rattle.vioapic.specs.Calls as ioapic
 use Rattle.vioapic.specs.declared.IoApicVersion.{IoApicVersion}
 use Rattle.vioapic.specs.declared.IoApicVersion.the-variants.{V11, V20}
-use Rattle.vpic.specs.declared.PicRule.the-variants.{Cascade}
+use Rattle.vpic.specs.declared.PicRule.the-variants.{Latch}
 use Rattle.vpic_priority.specs.Ring as ring
 use Rattle.vpic_chip.specs.Chip as chip
 use Rattle.vpic.specs.Pair as pair
@@ -44,12 +44,16 @@ pub record Example : Type 0 where
 abbrev pub numbers : Reply → List ℕ
 numbers r = replyNumber r ∷ replyValues r
 
--- the examples with these numbers, from the first to the last and in their order: each says what it should, and leaves what it should
-abbrev pub Holds : ℕ → ℕ → List Example → Type 0
-Holds first last [] = first ≡ suc last
-Holds first last (e ∷ es) =
-    ((e .number ≡ first) × (map numbers (replies newMachine (e .calls)) ≡ e .says) × (e .look (afterCalls newMachine (e .calls)) ≡ e .seen))
-    × Holds (suc first) last es
+-- the examples with these numbers, from the first to the last and in their order, on the machine m: each says what it should, and leaves what it should
+abbrev pub Holds : Machine → ℕ → ℕ → List Example → Type 0
+Holds m first last [] = first ≡ suc last
+Holds m first last (e ∷ es) =
+    ((e .number ≡ first) × (map numbers (replies m (e .calls)) ≡ e .says) × (e .look (afterCalls m (e .calls)) ≡ e .seen))
+    × Holds m (suc first) last es
+
+-- the rules of document 01, named
+abbrev pub oldRules : List Call
+oldRules = IoVersion V11 ∷ PicRule Latch ∷ []
 
 -- ---- the calls of the examples
 
@@ -210,7 +214,7 @@ examples =
     }
     ∷ []
 
-pub examples-hold : Holds 1 12 examples
+pub examples-hold : Holds (afterCalls newMachine oldRules) 1 12 examples
 unfolding ring.firstRank ring.firstBy ring.above set.with set.without set.outside set.lowest set.highest set.lastSet32 redirection.sendEntry redirection.raiseEntry redirection.lowerEntry redirection.endEntry redirection.writeLow redirection.writeHigh table.interruptForEntry table.setLevel table.firstAwaiting table.endOfEntry table.endOf table.vectorFor window.readFixed window.readWord window.readSelected window.writeWord window.writeSelected window.readAt window.writeAt vioapic.assertGsi vioapic.setGsiLevel vioapic.endOfInterrupt vioapic.vectorForGsi vioapic.addressRange vioapic.handleRead vioapic.handleWrite ioapic.outcome ioapic.run chip.opened chip.commanded chip.fed chip.commandRead chip.readShown chip.pulsed chip.counts chip.pendingLine chip.pendingIrq chip.asks chip.driven chip.acknowledged chip.acknowledge chip.unacknowledged pair.newState pair.settled pair.latched pair.masterClaim pair.slaveClaim pair.claimPending pair.claimIrq pair.restored pair.portRead pair.portLeft pair.writtenAt pair.portWritten vectors.highestFrom icr.destFieldMatched icr.destNoShorthand icr.calculateDest icr.command icr.selfIpi register.priority priority.updatePpr priority.acceptInterrupt priority.handleEoi registers.handleRead registers.stored registers.writeStored vlapic.setup vlapic.writeIcr vlapic.writeIcrLow vlapic.writeSelfIpi vlapic.handleWrite newMachine machine.picOutcome machine.localOutcome performed afterCalls replies
 examples-hold = ((refl, refl, refl), ((refl, refl, refl), ((refl, refl, refl), ((refl, refl, refl), ((refl, refl, refl), ((refl, refl, refl), ((refl, refl, refl), ((refl, refl, refl), ((refl, refl, refl), ((refl, refl, refl), ((refl, refl, refl), ((refl, refl, refl), refl))))))))))))
 
@@ -244,7 +248,7 @@ springs =
     }
     ∷ []
 
-pub springs-hold : Holds 1 2 springs
+pub springs-hold : Holds newMachine 1 2 springs
 unfolding vioapic.createdVersion set.with set.without set.outside set.lowest set.highest set.lastSet32 redirection.sendEntry redirection.raiseEntry redirection.lowerEntry redirection.endEntry redirection.endEntry20 redirection.writeLow redirection.storeLow20 redirection.writeLow20 redirection.writeHigh table.interruptForEntry table.setLevel table.firstAwaiting table.endOfEntry table.endOfEvery table.endOf table.vectorFor window.readFixed window.readWord window.readSelected window.writeWord window.writeSelected window.readAt window.writeEoi window.writeAt vioapic.assertGsi vioapic.setGsiLevel vioapic.endOfInterrupt vioapic.vectorForGsi vioapic.addressRange vioapic.handleRead vioapic.handleWrite ioapic.outcome ioapic.run newMachine machine.picOutcome machine.localOutcome performed afterCalls replies
 springs-hold = ((refl, refl, refl), ((refl, refl, refl), refl))
 
@@ -277,32 +281,32 @@ maskings =
     }
     ∷ []
 
-pub maskings-hold : Holds 1 2 maskings
+pub maskings-hold : Holds newMachine 1 2 maskings
 unfolding vioapic.createdVersion set.with set.without set.outside set.lowest set.highest set.lastSet32 redirection.sendEntry redirection.raiseEntry redirection.lowerEntry redirection.endEntry redirection.endEntry20 redirection.writeLow redirection.storeLow20 redirection.writeLow20 redirection.writeHigh table.interruptForEntry table.setLevel table.firstAwaiting table.endOfEntry table.endOfEvery table.endOf table.vectorFor window.readFixed window.readWord window.readSelected window.writeWord window.writeSelected window.readAt window.writeEoi window.writeAt vioapic.assertGsi vioapic.setGsiLevel vioapic.endOfInterrupt vioapic.vectorForGsi vioapic.addressRange vioapic.handleRead vioapic.handleWrite ioapic.outcome ioapic.run newMachine machine.picOutcome machine.localOutcome performed afterCalls replies
 maskings-hold = ((refl, refl, refl), ((refl, refl, refl), refl))
 
--- ---- T-02: examples 7 and 8 under the cascade rule. Line 14 is answered once line 13 is done, and its request is gone; line 2, raised or restored, is no request
+-- ---- T-02: examples 7 and 8 under the cascade rule, a new machine's. Line 14 is answered once line 13 is done, and its request is gone; line 2, raised or restored, is no request
 
 abbrev pub cascades : List Example
 cascades =
     record {
       number = 7;
-      calls = PicRule Cascade ∷ seventh;
+      calls = seventh;
       says =
-          (0 ∷ []) ∷ (0 ∷ []) ∷ (0 ∷ []) ∷ (0 ∷ 0x74 ∷ 12 ∷ 3 ∷ []) ∷ (0 ∷ []) ∷ (0 ∷ []) ∷ (0 ∷ []) ∷ (0 ∷ []) ∷ (0 ∷ 0x75 ∷ 13 ∷ 3 ∷ []) ∷ (0 ∷ []) ∷ (0 ∷ [])
+          (0 ∷ []) ∷ (0 ∷ []) ∷ (0 ∷ 0x74 ∷ 12 ∷ 3 ∷ []) ∷ (0 ∷ []) ∷ (0 ∷ []) ∷ (0 ∷ []) ∷ (0 ∷ []) ∷ (0 ∷ 0x75 ∷ 13 ∷ 3 ∷ []) ∷ (0 ∷ []) ∷ (0 ∷ [])
           ∷ (0 ∷ 0x76 ∷ 14 ∷ 3 ∷ []) ∷ (0 ∷ 0 ∷ []) ∷ [];
       look = nothing;
       seen = [];
     }
     ∷ record {
       number = 8;
-      calls = PicRule Cascade ∷ eighth;
-      says = (0 ∷ []) ∷ (0 ∷ []) ∷ (0 ∷ []) ∷ (0 ∷ []) ∷ (0 ∷ []) ∷ [];
+      calls = eighth;
+      says = (0 ∷ []) ∷ (0 ∷ []) ∷ (0 ∷ []) ∷ (0 ∷ []) ∷ [];
       look = masterLines;
       seen = 0 ∷ 0 ∷ [];
     }
     ∷ []
 
-pub cascades-hold : Holds 7 8 cascades
+pub cascades-hold : Holds newMachine 7 8 cascades
 unfolding ring.firstRank ring.firstBy ring.above set.with set.without set.outside set.lowest set.highest set.lastSet32 chip.opened chip.commanded chip.fed chip.commandRead chip.readShown chip.pulsed chip.counts chip.pendingLine chip.pendingIrq chip.asks chip.driven chip.acknowledged chip.acknowledge chip.unacknowledged pair.newState pair.settled pair.latched pair.masterClaim pair.slaveClaim pair.claimPending pair.claimIrq pair.restored pair.portRead pair.portLeft pair.writtenAt pair.portWritten newMachine machine.picOutcome machine.localOutcome performed afterCalls replies
 cascades-hold = ((refl, refl, refl), ((refl, refl, refl), refl))

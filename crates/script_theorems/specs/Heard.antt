@@ -10,6 +10,7 @@ use Rattle.types.specs.declared.Reply.{Reply}
 use Rattle.types.specs.declared.Reply.the-variants.{Two}
 use Rattle.vioapic.specs.State.{IoApicState}
 use Rattle.vioapic.specs.Table.{isVersion20}
+use Rattle.vioapic.specs.IoApic.{versionNumber}
 use Rattle.vioapic.specs.Calls as ioapic
 use Rattle.vioapic_theorems.specs.Rules.{ChipRules}
 use Rattle.vioapic_theorems.specs.Sends.{sent, sends, eois, lowerInFlight}
@@ -19,7 +20,7 @@ use Rattle.script_format.specs.declared.IoCall.the-variants.{SetGsiLevel}
 use Rattle.script_format.specs.declared.Call.{Call}
 use Rattle.script_format.specs.declared.Call.the-variants.{Io}
 use Rattle.script_machine.specs.declared.Used.{Used}
-use Rattle.script_machine.specs.Machine.{Machine, newMachine, chosen, performed}
+use Rattle.script_machine.specs.Machine.{Machine, unused, newMachine, chosen, performed}
 use Rattle.script_machine.specs.Run.{callsFrom, afterCalls, runOf}
 use Rattle.script_theorems.specs.Parts.{ioPart, byPart}
 use Rattle.script_theorems.specs.Runs.{inTime}
@@ -79,6 +80,15 @@ pub record MachineRules (m : Machine) : Type 0 where
 -- a new machine does, and every call keeps that, a choice of version too
 abbrev pub MachinesKeepRules : Type 0
 MachinesKeepRules = MachineRules newMachine × ((m : Machine) (cs : List Call) → MachineRules m → MachineRules (afterCalls m cs))
+
+-- the version that calls choose: that of the first of fields 01 to 06, if that is a 06; else it stays
+unfoldable pub versionChosen : ℕ → List Call → ℕ
+versionChosen version [] = version
+versionChosen version (c ∷ cs) = byPart (ioPart c) (λ d. version) (λ chosen. versionNumber chosen) (versionChosen version cs)
+
+-- a script's I/O APIC has it after its first a fields, and without a choice 0x20 (document 02, T-14)
+abbrev pub ScriptVersion : Type 0
+ScriptVersion = (s : List ℕ) (a : ℕ) → runOf s newMachine 0 a .machine .ioapic .version ≡ versionChosen 0x20 (callsFrom s unused 0 a)
 
 -- where a run from a new machine has come after a fields, and the calls of the next b
 abbrev pub callsAfter : List ℕ → ℕ → ℕ → List Call

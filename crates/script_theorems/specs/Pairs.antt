@@ -1,4 +1,4 @@
--- The pair in scripts (document 02, T-02): it has the rule that field 16 chooses, if there is one, to the script's end; after every field of every script it keeps that
+-- The pair in scripts (document 02, T-02): it has the rule that field 16 chooses, or rule 1 if there is none, to the script's end; after every field of every script it keeps that
 -- rule; and by rules 1 and 2 no slave request that counts goes unheard there.
 use Prim.Native.Nat.{ℕ}
 use mathlib.Core.Bool.{true}
@@ -10,8 +10,8 @@ use Rattle.vpic.specs.Pair.{ruleNumber, isCascade, Keeps}
 use Rattle.vpic_theorems.specs.Rule.{Clear, Heard}
 use Rattle.script_format.specs.declared.Call.{Call}
 use Rattle.script_machine.specs.declared.Used.{Used}
-use Rattle.script_machine.specs.Machine.{Machine, newMachine}
-use Rattle.script_machine.specs.Run.{afterCalls, runOf}
+use Rattle.script_machine.specs.Machine.{Machine, unused, newMachine}
+use Rattle.script_machine.specs.Run.{callsFrom, afterCalls, runOf}
 use Rattle.script_theorems.specs.Parts.{picPart, byPart}
 use Rattle.script_theorems.specs.Runs.{inTime}
 
@@ -30,6 +30,10 @@ PairRule =
 -- the pair after the first a fields of a script
 abbrev pub pairAfter : List ℕ → ℕ → PicState
 pairAfter s a = runOf s newMachine 0 a .machine .pic
+
+-- it has the rule that was chosen, and without a choice rule 1 (document 02, T-14)
+abbrev pub ScriptRule : Type 0
+ScriptRule = (s : List ℕ) (a : ℕ) → pairAfter s a .rule ≡ ruleChosen 1 (callsFrom s unused 0 a)
 
 -- it keeps its rule: by rules 1 and 2 the master's request 2 is set exactly when some slave request counts
 abbrev pub PairKeeps : Type 0

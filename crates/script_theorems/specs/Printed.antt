@@ -80,10 +80,12 @@ pub example-prints : printed example ≡ exampleText
 unfolding ring.firstRank ring.firstBy ring.above set.with set.without set.outside set.lowest set.highest set.lastSet32 chip.opened chip.commanded chip.fed chip.commandRead chip.readShown chip.pulsed chip.counts chip.pendingLine chip.pendingIrq chip.asks chip.driven chip.acknowledged chip.acknowledge chip.unacknowledged pair.newState pair.settled pair.latched pair.masterClaim pair.slaveClaim pair.claimPending pair.claimIrq pair.restored pair.portRead pair.portLeft pair.writtenAt pair.portWritten newMachine machine.picOutcome machine.localOutcome performed numberAt decoded fieldAt fieldFor stepOf stepsText linesFrom printed line replyText decimalIn
 example-prints = refl
 
--- lines 3 and 5 are held with one vector; only when line 3 is let go is line 5 heard
+-- by version 0x11, lines 3 and 5 are held with one vector; only when line 3 is let go is line 5 heard
 abbrev pub spring : List ℕ
 spring =
-    0x02 ∷ 0x11 ∷ 0x00 ∷ 0x04 ∷ 0x00 ∷ 0x00 ∷ 0xc0 ∷ 0xfe ∷ 0x00 ∷ 0x00 ∷ 0x00 ∷ 0x00 ∷ 0x16 ∷ 0x00 ∷ 0x00 ∷ 0x00 ∷ 0x00 ∷ 0x00 ∷ 0x00 ∷ 0x00
+    0x06 ∷ 0x01 ∷ 0x00 ∷ 0x11
+    ∷ 0x16 ∷ 0x01 ∷ 0x00 ∷ 0x00
+    ∷ 0x02 ∷ 0x11 ∷ 0x00 ∷ 0x04 ∷ 0x00 ∷ 0x00 ∷ 0xc0 ∷ 0xfe ∷ 0x00 ∷ 0x00 ∷ 0x00 ∷ 0x00 ∷ 0x16 ∷ 0x00 ∷ 0x00 ∷ 0x00 ∷ 0x00 ∷ 0x00 ∷ 0x00 ∷ 0x00
     ∷ 0x02 ∷ 0x11 ∷ 0x00 ∷ 0x04 ∷ 0x10 ∷ 0x00 ∷ 0xc0 ∷ 0xfe ∷ 0x00 ∷ 0x00 ∷ 0x00 ∷ 0x00 ∷ 0x41 ∷ 0x80 ∷ 0x00 ∷ 0x00 ∷ 0x00 ∷ 0x00 ∷ 0x00 ∷ 0x00
     ∷ 0x02 ∷ 0x11 ∷ 0x00 ∷ 0x04 ∷ 0x00 ∷ 0x00 ∷ 0xc0 ∷ 0xfe ∷ 0x00 ∷ 0x00 ∷ 0x00 ∷ 0x00 ∷ 0x1a ∷ 0x00 ∷ 0x00 ∷ 0x00 ∷ 0x00 ∷ 0x00 ∷ 0x00 ∷ 0x00
     ∷ 0x02 ∷ 0x11 ∷ 0x00 ∷ 0x04 ∷ 0x10 ∷ 0x00 ∷ 0xc0 ∷ 0xfe ∷ 0x00 ∷ 0x00 ∷ 0x00 ∷ 0x00 ∷ 0x41 ∷ 0x80 ∷ 0x00 ∷ 0x00 ∷ 0x00 ∷ 0x00 ∷ 0x00 ∷ 0x00
@@ -103,7 +105,9 @@ spring =
 
 abbrev pub springText : List ℕ
 springText =
-    48 ∷ 50 ∷ 32 ∷ 48 ∷ 32 ∷ 45 ∷ 10  -- 02 0 -
+    48 ∷ 54 ∷ 32 ∷ 48 ∷ 32 ∷ 45 ∷ 10  -- 06 0 -
+    ∷ 49 ∷ 54 ∷ 32 ∷ 48 ∷ 32 ∷ 45 ∷ 10  -- 16 0 -
+    ∷ 48 ∷ 50 ∷ 32 ∷ 48 ∷ 32 ∷ 45 ∷ 10  -- 02 0 -
     ∷ 48 ∷ 50 ∷ 32 ∷ 48 ∷ 32 ∷ 45 ∷ 10  -- 02 0 -
     ∷ 48 ∷ 50 ∷ 32 ∷ 48 ∷ 32 ∷ 45 ∷ 10  -- 02 0 -
     ∷ 48 ∷ 50 ∷ 32 ∷ 48 ∷ 32 ∷ 45 ∷ 10  -- 02 0 -

@@ -8,13 +8,17 @@ use Rattle.types.specs.Reply.{replyValues}
 use Rattle.vioapic_entry.specs.Redirection.{sendEntry, raiseEntry, endEntry, endEntry20, writeLow, writeHigh, storeLow20, writeLow20}
 use Rattle.vioapic.specs.Table.{setLevel, interruptForEntry, firstAwaiting, endOfEntry, endOfEvery, endOf}
 use Rattle.vioapic.specs.Registers.{readFixed, readWord, readSelected, writeWord, writeSelected, writeEoi, readAt, writeAt}
-use Rattle.vioapic.specs.IoApic.{chipOf, setGsiLevel, assertGsi, endOfInterrupt, handleRead, handleWrite}
+use Rattle.vioapic.specs.IoApic.{chipOf, newDefault, setGsiLevel, assertGsi, endOfInterrupt, handleRead, handleWrite}
 use Rattle.vioapic.specs.Calls.{Call, HandleWrite, outcome, run}
 use Rattle.vioapic.specs.Departures.{raise, lower, assert, eoi, select, write, read}
 
 -- the values that the last of some calls answers, on a chip of a version at address 0 with entries 0 and 1 level entries of vector 0x30
 abbrev after : ℕ → List Call → Call → List ℕ
 after version cs c = replyValues (outcome (run (run (chipOf version 0 0x1000) (select 0x10 ∷ write 0x8030 ∷ select 0x12 ∷ write 0x8030 ∷ [])) cs) c .reply)
+
+-- a new chip's version, where none is asked for (document 02, T-14)
+pub default-version : newDefault .version ≡ 0x20
+default-version = refl
 
 -- the EOI register: none in version 0x11
 pub eoi-register : (after 0x11 (assert 0 ∷ HandleWrite 0x40 4 0x30 ∷ []) (eoi 0x30) ≡ 0 ∷ []) × (after 0x20 (assert 0 ∷ HandleWrite 0x40 4 0x30 ∷ []) (eoi 0x30) ≡ [])

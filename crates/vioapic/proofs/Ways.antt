@@ -386,14 +386,21 @@ module _ (l : List ℕ) (base size : ℕ) (version : IoApicVersion) (c : Bool) (
       }
 
 -- by value: a new state in the place of one that covers no address
-pub new-value : (l w : List ℕ) (r : Reply) (base size : ℕ) (version : IoApicVersion) → l ≡ newWords 0x11 0 0
+pub new-value : (l w : List ℕ) (r : Reply) (base size : ℕ) (version : IoApicVersion) → l ≡ newWords 0x20 0 0
     → Makes l w r (createdVersion (view l) base size version) (newWords (versionNumber version) base size)
-    → Makes (newWords 0x11 0 0) w r (createdVersion (chipAt 0 0) base size version) (newWords (versionNumber version) base size)
+    → Makes (newWords 0x20 0 0) w r (createdVersion (chipAt 0 0) base size version) (newWords (versionNumber version) base size)
 new-value l w r base size version e k =
     record {
-      outcome = k .outcome ∙ ap (λ (m : IoApicState). createdVersion m base size version) (ap view e ∙ new-shows 0x11 0 0);
+      outcome = k .outcome ∙ ap (λ (m : IoApicState). createdVersion m base size version) (ap view e ∙ new-shows 0x20 0 0);
       words = k .words ∙ ap (λ (x : List ℕ). newOr r (newWords (versionNumber version) base size) x) e;
     }
 
-pub new-default : (l : List ℕ) → l ≡ newWords 0x11 0xfec00000 0x1000 → view l ≡ newDefault
-new-default l e = ap view e ∙ new-shows 0x11 0xfec00000 0x1000
+pub new-default : (l : List ℕ) → l ≡ newWords 0x20 0xfec00000 0x1000 → view l ≡ newDefault
+new-default l e = ap view e ∙ new-shows 0x20 0xfec00000 0x1000
+
+module _ (l : List ℕ) (n : ℕ) (version : IoApicVersion) (h : n ≡ versionNumber version) (e : l ≡ newWords n 0xfec00000 0x1000) where
+  pub new-default-words : l ≡ newWords (versionNumber version) 0xfec00000 0x1000
+  new-default-words = e ∙ ap (λ (x : ℕ). newWords x 0xfec00000 0x1000) h
+
+  pub new-default-of : view l ≡ chipOf (versionNumber version) 0xfec00000 0x1000
+  new-default-of = ap view new-default-words ∙ new-shows (versionNumber version) 0xfec00000 0x1000

@@ -85,18 +85,18 @@ abbrev pub chipOf : ℕ → ℕ → ℕ → IoApicState
 chipOf version base size =
     record { base = base; size = size; version = version; selector = 0; «in_flight» = 0; entries = replicate 24 newEntry }
 
--- and in version 0x11, which a new state has if nothing else is asked for
+-- and in version 0x20, which a new state has if nothing else is asked for (document 02, T-14)
 abbrev pub chipAt : ℕ → ℕ → IoApicState
-chipAt base size = chipOf 0x11 base size
+chipAt base size = chipOf 0x20 base size
 
 abbrev pub made : IoApicState → Outcome IoApicState
 made s = record { state = s; reply = Nothing }
 
--- `new_version`, and `new` with version 0x11, in the place of the state m: its range alone can be refused
+-- `new_version`, and `new` with version 0x20, in the place of the state m: its range alone can be refused
 unfoldable pub createdVersion : IoApicState → ℕ → ℕ → IoApicVersion → Outcome IoApicState
 createdVersion m base size version = cond (fits base size) (made (chipOf (versionNumber version) base size)) (refuse m InvalidAddress)
 
--- `new_default`
+-- `new_default`, and by value `new_default_version` is `chipOf` there
 abbrev pub newDefault : IoApicState
 newDefault = chipAt 0xfec00000 0x1000
 

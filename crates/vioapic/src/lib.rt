@@ -24,11 +24,11 @@ ghost use Rattle.vioapic_entry.specs.Answers.{routedReply};
 ghost use Rattle.vioapic_entry.specs.Redirection.{vectorOf, remoteIrr, isLevel, withRemoteIrr, withoutRemoteIrr, withWord, withDeferred, withInput, awaits, sendEntry, raiseEntry, lowerEntry, endEntry, endEntry20, writeLow, writeHigh, isOwed, replaceLow20, writeLow20};
 ghost use Rattle.vioapic_entry.specs.declared.Routed.the-variants.{Interrupt};
 ghost use Rattle.vioapic.specs.Answers.{eoiReply, everyReply, gsiVectorReply, readReply, writtenReply, rangeReply, endedReply};
-ghost use Rattle.vioapic.specs.declared.IoApicVersion.the-variants.{V11};
+ghost use Rattle.vioapic.specs.declared.IoApicVersion.the-variants.{V20};
 ghost use Rattle.vioapic.specs.State.{view, newWords};
 ghost use Rattle.vioapic.specs.Table.{isVersion20, entryAt, put, routing, routeAt, ending, firstAwaiting, endOfEntry, everyAnswer, endOfEvery, vectorOfEntry};
 ghost use Rattle.vioapic.specs.Registers.{isEntryWord, isLow, entryOf, versionWord, readFixed, readLow, readSelected, writing, writtenSend, writeSelected, readAt, writtenBy, writeEoi, writeAt};
-ghost use Rattle.vioapic.specs.IoApic.{goodWidth, fits, versionNumber, versionOf, isVersion, chipAt, newDefault, Leaves, Wrote, Makes, createdVersion, vectorForGsi, addressRange, assertGsi, setGsiLevel, endOfInterrupt, handleRead, handleWriting};
+ghost use Rattle.vioapic.specs.IoApic.{goodWidth, fits, versionNumber, versionOf, isVersion, chipOf, chipAt, newDefault, Leaves, Wrote, Makes, createdVersion, vectorForGsi, addressRange, assertGsi, setGsiLevel, endOfInterrupt, handleRead, handleWriting};
 ghost use Rattle.vioapic.specs.Inside.{Keeps, putFlag, withLow, NoneDeferred, Quiet, Flown, forgetting, everyEnd, endNext, everyEnding, clearedIn, sentIn};
 
 pub const IOAPIC_BASE: u64 = 0xfec0_0000;
@@ -1006,18 +1006,25 @@ pub fn new_version(words: &mut [u64; 32], base: u64, size: u64, version: IoApicV
     Written::Done
 }
 
-// Of version 0x11.
+// Of version 0x20; the Rust's is 0x11 (`new_version`).
 pub fn new(words: &mut [u64; 32], base: u64, size: u64) -> Written
-    ensures { λ r. ⌜ Makes (now (words .entry)) (now (words .exit)) (writtenReply r) (createdVersion (view (now (words .entry))) base size V11) (newWords 0x11 base size) ⌝ }
+    ensures { λ r. ⌜ Makes (now (words .entry)) (now (words .exit)) (writtenReply r) (createdVersion (view (now (words .entry))) base size V20) (newWords 0x20 base size) ⌝ }
 {
-    new_version(&mut *words, base, size, IoApicVersion::V11)
+    new_version(&mut *words, base, size, IoApicVersion::V20)
 }
 
 // Create an IO APIC at the default PC-compatible GPA.
 pub fn new_default(words: &mut [u64; 32]) -> Written
-    ensures { λ r. ⌜ Makes (now (words .entry)) (now (words .exit)) (writtenReply r) (createdVersion (view (now (words .entry))) 0xfec00000 0x1000 V11) (newWords 0x11 0xfec00000 0x1000) ⌝ }
+    ensures { λ r. ⌜ Makes (now (words .entry)) (now (words .exit)) (writtenReply r) (createdVersion (view (now (words .entry))) 0xfec00000 0x1000 V20) (newWords 0x20 0xfec00000 0x1000) ⌝ }
 {
     new(&mut *words, IOAPIC_BASE, IOAPIC_SIZE)
+}
+
+// The same of either version.
+pub fn new_default_version(words: &mut [u64; 32], version: IoApicVersion) -> Written
+    ensures { λ r. ⌜ Makes (now (words .entry)) (now (words .exit)) (writtenReply r) (createdVersion (view (now (words .entry))) 0xfec00000 0x1000 version) (newWords (versionNumber version) 0xfec00000 0x1000) ⌝ }
+{
+    new_version(&mut *words, IOAPIC_BASE, IOAPIC_SIZE, version)
 }
 
 // ---- What the registers say
@@ -1121,20 +1128,20 @@ pub struct IoApicWriting {
 }
 
 impl EmulatedIoApic {
-    // Create a new `EmulatedIoApic`, of version 0x11. Where base and size don't fit, nothing is created: beside the refusal stands
+    // Create a new `EmulatedIoApic`, of version 0x20. Where base and size don't fit, nothing is created: beside the refusal stands
     // a chip that covers no address.
     pub fn new(base: u64, size: u64) -> IoApicWriting
-        ensures { λ r. ⌜ Makes (newWords 0x11 0 0) (r .chip .words) (writtenReply (r .answer)) (createdVersion (chipAt 0 0) base size V11) (newWords 0x11 base size) ⌝ }
+        ensures { λ r. ⌜ Makes (newWords 0x20 0 0) (r .chip .words) (writtenReply (r .answer)) (createdVersion (chipAt 0 0) base size V20) (newWords 0x20 base size) ⌝ }
     {
-        EmulatedIoApic::new_version(base, size, IoApicVersion::V11)
+        EmulatedIoApic::new_version(base, size, IoApicVersion::V20)
     }
 
     // The same of either version.
     pub fn new_version(base: u64, size: u64, version: IoApicVersion) -> IoApicWriting
-        ensures { λ r. ⌜ Makes (newWords 0x11 0 0) (r .chip .words) (writtenReply (r .answer)) (createdVersion (chipAt 0 0) base size version) (newWords (versionNumber version) base size) ⌝ }
+        ensures { λ r. ⌜ Makes (newWords 0x20 0 0) (r .chip .words) (writtenReply (r .answer)) (createdVersion (chipAt 0 0) base size version) (newWords (versionNumber version) base size) ⌝ }
     {
         let mut words = [0; 32];
-        put_new(&mut words, VERSION_11, 0, 0);
+        put_new(&mut words, VERSION_20, 0, 0);
         let answer = new_version(&mut words, base, size, version);
         IoApicWriting {
             chip: EmulatedIoApic { words },
@@ -1144,10 +1151,19 @@ impl EmulatedIoApic {
 
     // Create an IO APIC at the default PC-compatible GPA.
     pub fn new_default() -> EmulatedIoApic
-        ensures { λ r. ⌜ (view (r .words) ≡ newDefault) × (r .words ≡ newWords 0x11 0xfec00000 0x1000) ⌝ }
+        ensures { λ r. ⌜ (view (r .words) ≡ newDefault) × (r .words ≡ newWords 0x20 0xfec00000 0x1000) ⌝ }
     {
         let mut words = [0; 32];
-        put_new(&mut words, VERSION_11, IOAPIC_BASE, IOAPIC_SIZE);
+        put_new(&mut words, VERSION_20, IOAPIC_BASE, IOAPIC_SIZE);
+        EmulatedIoApic { words }
+    }
+
+    // The same of either version.
+    pub fn new_default_version(version: IoApicVersion) -> EmulatedIoApic
+        ensures { λ r. ⌜ (view (r .words) ≡ chipOf (versionNumber version) 0xfec00000 0x1000) × (r .words ≡ newWords (versionNumber version) 0xfec00000 0x1000) ⌝ }
+    {
+        let mut words = [0; 32];
+        put_new(&mut words, version.number(), IOAPIC_BASE, IOAPIC_SIZE);
         EmulatedIoApic { words }
     }
 

@@ -3,7 +3,7 @@
 
 ghost use mathlib.Core.Path.{_≡_};
 ghost use Rattle.reply_code.specs.Lent.{replyCode, isUp, lent};
-ghost use Rattle.vioapic.specs.declared.IoApicVersion.the-variants.{V11};
+ghost use Rattle.vioapic.specs.declared.IoApicVersion.the-variants.{V20};
 ghost use Rattle.vioapic.specs.State.{view, newWords};
 ghost use Rattle.vioapic.specs.IoApic.{createdVersion, vectorForGsi, assertGsi, setGsiLevel, handleRead, handleWrite};
 ghost use Rattle.vioapic_c.specs.Calls.{Coded, Made, newNumber, endNumber, rangeWords};
@@ -14,6 +14,8 @@ use types::Refusal;
 use types::Reply;
 use types::Vector;
 use vioapic::AddressRange;
+use vioapic::IOAPIC_BASE;
+use vioapic::IOAPIC_SIZE;
 use vioapic::IoApicVersion;
 use vioapic::is_version;
 
@@ -34,16 +36,23 @@ pub extern "C" fn sillwander_ioapic_new_version(
 
 #[no_mangle]
 pub extern "C" fn sillwander_ioapic_new(words: &mut [u64; 32], base: u64, size: u64) -> u64
-    ensures { λ r. ⌜ Made (now (words .entry)) (now (words .exit)) r (createdVersion (view (now (words .entry))) base size V11) (newWords 0x11 base size) ⌝ }
+    ensures { λ r. ⌜ Made (now (words .entry)) (now (words .exit)) r (createdVersion (view (now (words .entry))) base size V20) (newWords 0x20 base size) ⌝ }
 {
     code(vioapic::new(&mut *words, base, size).reply())
 }
 
 #[no_mangle]
 pub extern "C" fn sillwander_ioapic_new_default(words: &mut [u64; 32]) -> u64
-    ensures { λ r. ⌜ Made (now (words .entry)) (now (words .exit)) r (createdVersion (view (now (words .entry))) 0xfec00000 0x1000 V11) (newWords 0x11 0xfec00000 0x1000) ⌝ }
+    ensures { λ r. ⌜ Made (now (words .entry)) (now (words .exit)) r (createdVersion (view (now (words .entry))) 0xfec00000 0x1000 V20) (newWords 0x20 0xfec00000 0x1000) ⌝ }
 {
     code(vioapic::new_default(&mut *words).reply())
+}
+
+#[no_mangle]
+pub extern "C" fn sillwander_ioapic_new_default_version(words: &mut [u64; 32], version: u64) -> u64
+    ensures { λ r. ⌜ Made (now (words .entry)) (now (words .exit)) r (newNumber (view (now (words .entry))) 0xfec00000 0x1000 version) (newWords version 0xfec00000 0x1000) ⌝ }
+{
+    sillwander_ioapic_new_version(&mut *words, IOAPIC_BASE, IOAPIC_SIZE, version)
 }
 
 #[no_mangle]

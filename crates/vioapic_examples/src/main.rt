@@ -1,5 +1,5 @@
-// Runs document 01's numbered examples 1 to 6 on the I/O APIC, and document 02's masking (T-08) on version 0x20, and prints the number
-// and the values of each reply.
+// Runs document 01's numbered examples 1 to 6 on the I/O APIC of version 0x11, and document 02's masking (T-08) on a new one, which is of version
+// 0x20, and prints the number and the values of each reply.
 
 use types::Gsi;
 use types::Reply;
@@ -54,13 +54,18 @@ fn eoi(chip: EmulatedIoApic, vector: u8) -> EmulatedIoApic {
     ending.chip
 }
 
-// A new chip with the low words of one entry written, which stays selected.
+// A new chip of document 01's version.
+fn old() -> EmulatedIoApic {
+    EmulatedIoApic::new_default_version(IoApicVersion::V11)
+}
+
+// The same with the low words of one entry written, which stays selected.
 fn with_entry(selector: u64, low: u64) -> EmulatedIoApic {
-    write(select(EmulatedIoApic::new_default(), selector), low)
+    write(select(old(), selector), low)
 }
 
 fn example_1() {
-    let chip = EmulatedIoApic::new_default();
+    let chip = old();
     read(select(chip, 0x10));
     read(select(chip, 0x40));
 }
@@ -99,7 +104,7 @@ fn example_5() {
 }
 
 fn example_6() {
-    let chip = EmulatedIoApic::new_default();
+    let chip = old();
     let narrow = chip.handle_read(0xfebf_ffff, 2);
     say(b"read of width 2 below the base", narrow.reply());
     let wide = chip.handle_read(0xfebf_ffff, 4);
@@ -124,8 +129,8 @@ fn tell(chip: EmulatedIoApic, value: u64) -> EmulatedIoApic {
 // its line, so that the unmasking sends (82093AA: Remote IRR is read-only, and a level that is up is delivered once it isn't masked). Then the
 // same with the end after the unmasking.
 fn threaded() {
-    let made = EmulatedIoApic::new_version(IOREGSEL, 0x1000, IoApicVersion::V20);
-    let chip = raise(write(select(made.chip, 0x14), 0x8030), 2);
+    let made = EmulatedIoApic::new_default();
+    let chip = raise(write(select(made, 0x14), 0x8030), 2);
     let chip = tell(chip, 0x18030);
     read(chip);
     let chip = eoi(chip, 0x30);

@@ -17,7 +17,7 @@ use Rattle.vioapic_entry.specs.Answers.{routedReply}
 use Rattle.vioapic.specs.Answers.{eoiReply}
 use Rattle.vioapic_entry.specs.Redirection.{EntryStep, isLevel, hasVector, awaits, sendEntry, raiseEntry, moveLine, endEntry}
 use Rattle.vioapic.specs.Table.{Routing, Ending, isVersion20, entryAt, put, firstAwaiting, endOf, interruptForEntry, setLevel}
-use Rattle.vioapic.specs.IoApic.{chipAt, setGsiLevel, assertGsi, endOfInterrupt}
+use Rattle.vioapic.specs.IoApic.{chipOf, setGsiLevel, assertGsi, endOfInterrupt}
 use Rattle.vioapic.specs.Calls.{Call, SetGsiLevel, AssertGsi, EndOfInterrupt, VectorForGsi, AddressRange, HandleRead, HandleWrite, outcome, next, run}
 use Rattle.vioapic_entry.specs.declared.Entry.{Entry}
 use Rattle.vioapic.specs.State.{IoApicState}
@@ -155,7 +155,7 @@ heard-from-rules m g v after o k q h =
 
 pub demand-3 : Demand3
 demand-3 base size before after g v q h =
-    heard-from-rules (run (chipAt base size) before) g v after (run-isVersion20 (chipAt base size) before) (runs-keep-rules (chipAt base size) before (new-keeps-rules 0x11 base size)) q h
+    heard-from-rules (run (chipOf 0x11 base size) before) g v after (run-isVersion20 (chipOf 0x11 base size) before) (runs-keep-rules (chipOf 0x11 base size) before (new-keeps-rules 0x11 base size)) q h
 
 -- ---- last spring's story
 

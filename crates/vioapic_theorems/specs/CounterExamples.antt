@@ -1,5 +1,5 @@
 -- What each of demand 3's premises is for: a run in which that premise alone fails, and in which the count is another than demand 3's.
--- On a new chip at address 0, entries 0 and 1 are level entries of vector 0x30; entry 1 is the one that is counted.
+-- On a new chip of version 0x11 at address 0, entries 0 and 1 are level entries of vector 0x30; entry 1 is the one that is counted.
 use Prim.Native.Nat.{ℕ, _+_, _-_}
 use mathlib.Core.Bool.{Bool, true, false, _&&_}
 use mathlib.Core.List.{List, [], _∷_}
@@ -10,7 +10,7 @@ use Rattle.types.specs.declared.Vector.{Vector}
 use Rattle.vioapic_entry.specs.Redirection.{sendEntry, raiseEntry, lowerEntry, endEntry, writeLow, writeHigh}
 use Rattle.vioapic.specs.Table.{interruptForEntry, setLevel, firstAwaiting, endOfEntry, endOf}
 use Rattle.vioapic.specs.Registers.{writeWord, writeSelected, writeAt}
-use Rattle.vioapic.specs.IoApic.{chipAt, assertGsi, setGsiLevel, endOfInterrupt, handleWrite}
+use Rattle.vioapic.specs.IoApic.{chipOf, assertGsi, setGsiLevel, endOfInterrupt, handleWrite}
 use Rattle.vioapic.specs.Calls.{Call, outcome, next, run}
 use Rattle.vioapic.specs.Departures.{raise, lower, assert, eoi, select, write}
 use Rattle.vioapic.specs.State.{IoApicState}
@@ -22,7 +22,7 @@ vector = record { 0 = 0x30 }
 
 -- the chip after both entries were written and some further calls
 abbrev pub after : List Call → IoApicState
-after cs = run (run (chipAt 0 0x1000) (select 0x10 ∷ write 0x8030 ∷ select 0x12 ∷ write 0x8030 ∷ [])) cs
+after cs = run (run (chipOf 0x11 0 0x1000) (select 0x10 ∷ write 0x8030 ∷ select 0x12 ∷ write 0x8030 ∷ [])) cs
 
 -- two lists of answers, joined one by one
 abbrev pub both : List Bool → List Bool → List Bool

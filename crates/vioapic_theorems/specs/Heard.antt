@@ -10,7 +10,7 @@ use Rattle.types.specs.declared.Reply.the-variants.{Two}
 use Rattle.vioapic_entry.specs.Redirection.{awaits}
 use Rattle.vioapic.specs.Table.{isVersion20, entryAt}
 use Rattle.vioapic.specs.Agreement.{Agrees}
-use Rattle.vioapic.specs.IoApic.{chipAt, setGsiLevel}
+use Rattle.vioapic.specs.IoApic.{chipOf, setGsiLevel}
 use Rattle.vioapic.specs.Calls.{Call, SetGsiLevel, EndOfInterrupt, next, run}
 use Rattle.vioapic.specs.State.{IoApicState}
 use Rattle.vioapic_theorems.specs.Rules.{ChipRules}
@@ -43,13 +43,13 @@ HeardFromRules =
     → throughout (demanded v (g .0)) (next m (SetGsiLevel g true)) after ≡ true
     → SentOnTime m g v after
 
--- demand 3 itself: after any calls on a new chip
+-- demand 3 as document 01 has it: after any calls on a new chip of version 0x11
 abbrev pub Demand3 : Type 0
 Demand3 =
     (base size : ℕ) (before after : List Call) (g : Gsi) (v : Vector)
-    → setGsiLevel (run (chipAt base size) before) g true .reply ≡ Two (v .0) 1
-    → throughout (demanded v (g .0)) (next (run (chipAt base size) before) (SetGsiLevel g true)) after ≡ true
-    → SentOnTime (run (chipAt base size) before) g v after
+    → setGsiLevel (run (chipOf 0x11 base size) before) g true .reply ≡ Two (v .0) 1
+    → throughout (demanded v (g .0)) (next (run (chipOf 0x11 base size) before) (SetGsiLevel g true)) after ≡ true
+    → SentOnTime (run (chipOf 0x11 base size) before) g v after
 
 -- last spring's story, and what the premise on lower lines is for: of two entries of one vector the lower one is in flight with its line up.
 -- However many EOIs of the vector come, and nothing else, the upper entry is not sent again, in flight or not

@@ -13,7 +13,7 @@ use Rattle.types.specs.declared.Reply.the-variants.{Two}
 use Rattle.vioapic_entry.specs.Redirection.{vectorOf, remoteIrr, isLevel, isMasked, isFit, awaits}
 use Rattle.vioapic.specs.Table.{isVersion20, entryAt}
 use Rattle.vioapic.specs.Agreement.{Agrees}
-use Rattle.vioapic.specs.IoApic.{goodWidth, chipOf, setGsiLevel}
+use Rattle.vioapic.specs.IoApic.{goodWidth, chipAt, setGsiLevel}
 use Rattle.vioapic.specs.Calls.{Call, SetGsiLevel, AssertGsi, EndOfInterrupt, VectorForGsi, AddressRange, HandleRead, HandleWrite, outcome, next, run}
 use Rattle.vioapic_entry.specs.declared.Entry.{Entry}
 use Rattle.vioapic.specs.State.{IoApicState}
@@ -118,13 +118,13 @@ SentAtItsEois =
     → throughout (λ n c. staysLevel g n c ∷ asksAtEoi g n c ∷ []) m cs ≡ true
     → sends g m cs ≡ ownEois g m cs
 
--- after any calls on a new chip of version 0x20
+-- demand 3 itself: after any calls on a new chip, which is of version 0x20 if no other was asked for
 abbrev pub Demand3Of20 : Type 0
 Demand3Of20 =
     (base size : ℕ) (before after : List Call) (g : Gsi) (v : Vector)
-    → setGsiLevel (run (chipOf 0x20 base size) before) g true .reply ≡ Two (v .0) 1
-    → throughout (heldUp (g .0)) (next (run (chipOf 0x20 base size) before) (SetGsiLevel g true)) after ≡ true
-    → SentEachTime (run (chipOf 0x20 base size) before) g v after
+    → setGsiLevel (run (chipAt base size) before) g true .reply ≡ Two (v .0) 1
+    → throughout (heldUp (g .0)) (next (run (chipAt base size) before) (SetGsiLevel g true)) after ≡ true
+    → SentEachTime (run (chipAt base size) before) g v after
 
 -- ---- the cure
 

@@ -289,10 +289,11 @@ pub fn new_rule(words: &mut [u64; 4], rule: PicRule)
     words[3] = 0;
 }
 
+// By the cascade rule; the Rust's pair is `new_rule`'s of `PicRule::Latch`.
 pub fn new(words: &mut [u64; 4])
-    ensures { λ _. ⌜ view (now (words .exit)) ≡ newState rules.Latch ⌝ }
+    ensures { λ _. ⌜ view (now (words .exit)) ≡ newState rules.Cascade ⌝ }
 {
-    new_rule(&mut *words, PicRule::Latch);
+    new_rule(&mut *words, PicRule::Cascade);
 }
 
 // The two command and data port ranges.
@@ -1029,9 +1030,9 @@ pub struct PicRead {
 
 impl EmulatedPic {
     pub fn new() -> Self
-        ensures { λ r. ⌜ view (r .words) ≡ newState rules.Latch ⌝ }
+        ensures { λ r. ⌜ view (r .words) ≡ newState rules.Cascade ⌝ }
     {
-        EmulatedPic::new_rule(PicRule::Latch)
+        EmulatedPic::new_rule(PicRule::Cascade)
     }
 
     pub fn new_rule(rule: PicRule) -> Self

@@ -4,7 +4,7 @@
 
 ghost use mathlib.Core.Path.{_≡_};
 ghost use Rattle.vpic.specs.Words.{view};
-ghost use Rattle.vpic.specs.declared.PicRule.the-variants.{Latch};
+ghost use Rattle.vpic.specs.declared.PicRule.the-variants.{Cascade};
 ghost use Rattle.vpic.specs.Pair.{claimIrq, claimPending, withClaim, withVector, handleRead, handleWrite};
 ghost use Rattle.reply_code.specs.Lent.{lent};
 ghost use Rattle.vpic_c.specs.Calls.{shown, coded, made, newRule, line, lineOf, rangeWords, isClaim, claimedLine, claimOf, restoreCode};
@@ -72,7 +72,7 @@ pub extern "C" fn sillwander_pic_new_rule(words: &mut [u64; 4], rule: u64) -> u6
 
 #[no_mangle]
 pub extern "C" fn sillwander_pic_new(words: &mut [u64; 4]) -> u64
-    ensures { λ r. ⌜ shown (view (now (words .exit))) r ≡ coded (made Latch) ⌝ }
+    ensures { λ r. ⌜ shown (view (now (words .exit))) r ≡ coded (made Cascade) ⌝ }
 {
     vpic::new(&mut *words);
     code(Reply::Nothing)

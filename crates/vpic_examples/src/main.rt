@@ -1,4 +1,4 @@
-// Examples 7, 8 and 9 of document 01 on the pair, and 7 and 8 again by the cascade rule (document 02, T-02): each line is what was asked, the number, and the values.
+// Examples 7, 8 and 9 of document 01 on the pair by rule 0, and 7 and 8 again on a new one, by the cascade rule (document 02, T-02 and T-14): each line is what was asked, the number, and the values.
 use types::PicLine;
 use vpic::EmulatedPic;
 use vpic::PicClaim;
@@ -13,12 +13,14 @@ const SLAVE_COMMAND: u16 = 0xa0;
 const SLAVE_DATA: u16 = 0xa1;
 
 fn main() {
-    example_7(PicRule::Latch);
-    example_8(PicRule::Latch);
-    example_9();
+    let old = EmulatedPic::new_rule(PicRule::Latch);
+    example_7(old);
+    example_8(old);
+    example_9(old);
     reply_text::print_text(b"by rule 1\n");
-    example_7(PicRule::Cascade);
-    example_8(PicRule::Cascade);
+    let new = EmulatedPic::new();
+    example_7(new);
+    example_8(new);
 }
 
 // A byte written to a port.
@@ -28,8 +30,7 @@ fn write(pic: EmulatedPic, port: u16, value: u64) -> EmulatedPic {
     after
 }
 
-fn masks_0(rule: PicRule) -> EmulatedPic {
-    let pic = EmulatedPic::new_rule(rule);
+fn masks_0(pic: EmulatedPic) -> EmulatedPic {
     write(write(pic, MASTER_DATA, 0), SLAVE_DATA, 0)
 }
 
@@ -66,8 +67,8 @@ fn read(name: &[u8], pic: EmulatedPic, port: u16) {
     reply_text::print_reply(value.reply());
 }
 
-fn example_7(rule: PicRule) {
-    let mut pic = masks_0(rule);
+fn example_7(new: EmulatedPic) {
+    let mut pic = masks_0(new);
     pic = claim(b"7 claim 12: ", pic, 12);
     pic = claim(b"7 claim 13: ", pic, 13);
     pic = claim(b"7 claim 14: ", pic, 14);
@@ -76,8 +77,8 @@ fn example_7(rule: PicRule) {
     read(b"7 slave requests: ", pic, SLAVE_COMMAND);
 }
 
-fn example_8(rule: PicRule) {
-    let claimed = masks_0(rule).claim_irq(PicLine(2));
+fn example_8(new: EmulatedPic) {
+    let claimed = masks_0(new).claim_irq(PicLine(2));
     let after = claimed.pic;
     let answer = claimed.claim;
     print_claim(b"8 claim 2: ", answer);
@@ -97,8 +98,8 @@ fn example_8(rule: PicRule) {
     );
 }
 
-fn example_9() {
-    let mut pic = write(EmulatedPic::new(), MASTER_DATA, 0xf8);
+fn example_9(new: EmulatedPic) {
+    let mut pic = write(new, MASTER_DATA, 0xf8);
     pic = write(pic, MASTER_COMMAND, 0x11);
     pic = write(pic, MASTER_DATA, 0x20);
     pic = write(pic, MASTER_DATA, 4);

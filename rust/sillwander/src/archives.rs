@@ -19,6 +19,7 @@ unsafe extern "C" {
     pub safe fn sillwander_ioapic_new(words: &mut IoApic, base: u64, size: u64) -> u64;
     pub safe fn sillwander_ioapic_new_version(words: &mut IoApic, base: u64, size: u64, version: u64) -> u64;
     pub safe fn sillwander_ioapic_new_default(words: &mut IoApic) -> u64;
+    pub safe fn sillwander_ioapic_new_default_version(words: &mut IoApic, version: u64) -> u64;
     pub safe fn sillwander_ioapic_vector_for_gsi(words: &IoApic, gsi: u64) -> u64;
     pub safe fn sillwander_ioapic_assert_gsi(words: &mut IoApic, gsi: u64) -> u64;
     pub safe fn sillwander_ioapic_set_gsi_level(words: &mut IoApic, gsi: u64, asserted: u64) -> u64;

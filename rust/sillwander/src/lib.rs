@@ -42,7 +42,7 @@ pub use self::{
         X86PortRange, X86VcpuId, X86VlapicError, X86VlapicResult,
     },
     vcpus::{LocalApicRegisters, SendingRegister, Vcpu, send_ipi},
-    vioapic::{EmulatedIoApic, EmulatedIoApic20, IoApicEoi, IoApicEois, IoApicInterrupt, IoApicWritten},
+    vioapic::{EmulatedIoApic, EmulatedIoApic11, EmulatedIoApic20, IoApicEoi, IoApicEois, IoApicInterrupt, IoApicWritten},
     vlapic::{EmulatedLocalApic, Ipi, IpiKind},
     vpic::{EmulatedPic, PicInterruptClaim, PicRule},
     waiting::WaitingLists,

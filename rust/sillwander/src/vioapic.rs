@@ -1,4 +1,5 @@
-//! The I/O APIC, in two versions: 0x11, the original's, and 0x20, whose EOI ends every entry of a vector and whose Remote IRR (bit 14) is read-only.
+//! The I/O APIC, in two versions: 0x11, the original's, and 0x20, whose EOI ends every entry of a vector and whose Remote IRR (bit 14) is read-only. [`EmulatedIoApic`] is
+//! of version 0x20.
 //!
 //! The names and signatures are those of vioapic.rs of x86_vlapic 0.5.4 (Copyright The Axvisor Team, Apache License 2.0; `NOTICE`); behind them are calls of the archive.
 //! The original has no version 0x20: [`EmulatedIoApic20`], [`IoApicEois`] and [`IoApicWritten`] are ours.
@@ -9,9 +10,8 @@ use crate::{
     types::{X86AccessWidth, X86GuestPhysAddr, X86GuestPhysAddrRange, X86VlapicResult},
 };
 
-const IOAPIC_BASE: usize = 0xfec0_0000;
 const IOAPIC_SIZE: usize = 0x1000;
-const VERSION_20: u64 = 0x20;
+const VERSION_11: u64 = 0x11;
 const IOEOI: u64 = 0x40;
 /// The word that holds the base address.
 const BASE: usize = 27;
@@ -98,9 +98,12 @@ fn lines(mut set: u32) -> impl Iterator<Item = usize> {
     })
 }
 
-/// A 24-line I/O APIC of version 0x11 (82093AA).
+/// The I/O APIC that is made where no version is asked for.
+pub type EmulatedIoApic = EmulatedIoApic20;
+
+/// A 24-line I/O APIC of version 0x11 (82093AA), the original's, with its signatures.
 #[derive(Debug)]
-pub struct EmulatedIoApic {
+pub struct EmulatedIoApic11 {
     words: [u64; IOAPIC_WORDS],
 }
 
@@ -180,22 +183,23 @@ macro_rules! calls_of_both_versions {
         }
     )*};
 }
-calls_of_both_versions!(EmulatedIoApic, EmulatedIoApic20);
+calls_of_both_versions!(EmulatedIoApic11, EmulatedIoApic20);
 
-impl EmulatedIoApic {
+impl EmulatedIoApic11 {
     /// An I/O APIC at a base address, of 0x1000 bytes where no size is given. [`InvalidAddress`](crate::X86VlapicError::InvalidAddress) where base + size is 2^64 or
     /// more; the original makes such a one, and panics when it is asked for its range.
     pub fn new(base: X86GuestPhysAddr, size: Option<usize>) -> X86VlapicResult<Self> {
         let mut words = [0; IOAPIC_WORDS];
         let size = size.unwrap_or(IOAPIC_SIZE);
-        done(sillwander_ioapic_new(&mut words, base.as_usize() as u64, size as u64))?;
+        done(sillwander_ioapic_new_version(&mut words, base.as_usize() as u64, size as u64, VERSION_11))?;
         Ok(Self { words })
     }
 
     /// An I/O APIC at the PC's address, 0xfec00000.
     pub fn new_default() -> Self {
         let mut words = [0; IOAPIC_WORDS];
-        sillwander_ioapic_new_default(&mut words);
+        let code = sillwander_ioapic_new_default_version(&mut words, VERSION_11);
+        debug_assert!(code == 0, "there is such a version");
         Self { words }
     }
 
@@ -223,15 +227,14 @@ impl EmulatedIoApic20 {
     pub fn new(base: X86GuestPhysAddr, size: Option<usize>) -> X86VlapicResult<Self> {
         let mut words = [0; IOAPIC_WORDS];
         let size = size.unwrap_or(IOAPIC_SIZE);
-        done(sillwander_ioapic_new_version(&mut words, base.as_usize() as u64, size as u64, VERSION_20))?;
+        done(sillwander_ioapic_new(&mut words, base.as_usize() as u64, size as u64))?;
         Ok(Self { words })
     }
 
     /// An I/O APIC at the PC's address, 0xfec00000.
     pub fn new_default() -> Self {
         let mut words = [0; IOAPIC_WORDS];
-        let code = sillwander_ioapic_new_version(&mut words, IOAPIC_BASE as u64, IOAPIC_SIZE as u64, VERSION_20);
-        debug_assert!(code == 0, "the version is one, and the range fits");
+        sillwander_ioapic_new_default(&mut words);
         Self { words }
     }
 

@@ -66,9 +66,9 @@ impl Debug for PicInterruptClaim {
 #[repr(u8)]
 pub enum PicRule {
     /// The original's: a latch that a line of the slave sets, and that one acknowledgement clears for all lines of the slave that wait.
-    #[default]
     Latch = 0,
     /// The 8259A's: it is requested exactly while a request of the slave counts.
+    #[default]
     Cascade = 1,
     /// The same, and each chip is a full 8259A: its priorities rotate by all eight OCW2 commands, and it takes special mask mode, polls and special fully nested mode. A restored
     /// claim doesn't turn priorities back.
@@ -82,7 +82,7 @@ pub struct EmulatedPic {
 }
 
 impl EmulatedPic {
-    /// A new pair of the original's rule, [`PicRule::Latch`], every line masked.
+    /// A new pair of the 8259A's rule, [`PicRule::Cascade`], every line masked. The original's is `new_rule(PicRule::Latch)`.
     pub fn new() -> Self {
         let mut words = [0; PIC_WORDS];
         sillwander_pic_new(&mut words);
