@@ -2,8 +2,8 @@
 //! Controller Hub's EOI register, and the 82093AA's read-only Remote IRR.
 
 use sillwander::{
-    EmulatedIoApic, EmulatedIoApic11, EmulatedIoApic20, IoApicEoi, IoApicEois, IoApicInterrupt, IoApicWritten, Locked, X86AccessWidth,
-    X86GuestPhysAddr, X86VlapicError,
+    EmulatedIoApic, EmulatedIoApic11, EmulatedIoApic20, IoApicEoi, IoApicEois, IoApicInterrupt, IoApicWritten, Locked,
+    X86AccessWidth, X86GuestPhysAddr, X86VlapicError,
 };
 
 const BASE: usize = 0xfec0_0000;
