@@ -5,17 +5,19 @@ use mathlib.Core.Bool.{Bool, true, false, not, cond, _&&_, _||_}
 use mathlib.Core.List.{List, [], _∷_}
 use mathlib.Core.Path.{_≡_, refl, sym, ap, _∙_}
 use mathlib.Core.Logic.{_⊎_, inl, inr}
-use borrow.Author.Tests.{eqb-true, ne-eqb, ltb-true}
+use borrow.Author.Tests.{eqb-true, ne-eqb, ltb-true, ltb-false}
+use lib.ListN.{length, getD}
 use lib.Dec.{ltb}
 use Rattle.utils.proofs.Bools.{never, and-true, not-is}
 use Rattle.types.specs.declared.Gsi.{Gsi}
 use Rattle.types.specs.declared.Vector.{Vector}
-use Rattle.vioapic_entry.specs.Redirection.{vectorOf, remoteIrr, awaits}
+use Rattle.vioapic_entry.specs.Redirection.{vectorOf, remoteIrr, isLevel, awaits}
+use Rattle.vioapic_entry.specs.declared.Entry.{Entry}
 use Rattle.vioapic_entry.specs.declared.IoApicInterrupt.{IoApicInterrupt}
 use Rattle.vioapic_entry.specs.declared.Routed.{Routed}
 use Rattle.vioapic_entry.specs.declared.Routed.the-variants as routed
-use Rattle.vioapic.specs.Table.{entryAt, setLevel}
-use Rattle.vioapic_theorems.proofs.Steps.{awaits-yes}
+use Rattle.vioapic.specs.Table.{noEntry, entryAt, setLevel}
+use Rattle.vioapic_theorems.proofs.Steps.{awaits-yes, awaiting}
 use Rattle.vioapic_theorems.proofs.Views.{level-view}
 use Rattle.vlapic_regs.specs.Vectors.{inWords}
 use Rattle.vlapic_requests.specs.declared.Acceptance.{Acceptance}
@@ -80,27 +82,42 @@ from-raise b g i cs k e f =
 
 -- ---- a held line
 
--- v isn't requested: the entry is held and in flight, and v has its trace
+-- v isn't requested: the entry is in flight with v, and v has its trace
 record Standing (v : Vector) (g : ℕ) (b : Board) : Type 0 where
-  held : isHeld v g b ≡ true
   flies : awaits v (entryAt (b .ioapic) g) ≡ true
   traced : trace v (b .apic) ≡ true
 
 stands-on : (v : Vector) (g : ℕ) → g < 24 → (b : Board) (c : Call) → BoardRules b → Tells b → Standing v g b → isHeld v g (next b c) ≡ true → isEdgeOf v (asked b c) ≡ false → Standing v g (next b c)
 stands-on v g l b c k t h i e =
-    let w : awaits v (entryAt (next b c .ioapic) g) ≡ true = flight-stays v b c g k (h .held) (h .flies) i in
-    record { held = i; flies = w; traced = trace-stays v b c g k t l (h .traced) e w }
-
-standing : (v : Vector) (g : ℕ) (b : Board) → isHeld v g b ≡ true → remoteIrr (entryAt (b .ioapic) g .word) ≡ true → trace v (b .apic) ≡ true → Standing v g b
-standing v g b h i r =
-    let e = holding v (entryAt (b .ioapic) g) h in
-    record { held = h; flies = awaits-yes v (entryAt (b .ioapic) g) (record { vector = e .vector; level = e .level; flight = i }); traced = r }
+    let w : awaits v (entryAt (next b c .ioapic) g) ≡ true = flight-stays v b c g k (h .flies) i in
+    record { flies = w; traced = trace-stays v b c g k t l (h .traced) e w }
 
 stands-waits : (v : Vector) (g : ℕ) (b : Board) → Standing v g b → waits v b ≡ true
 stands-waits v g b h = and-true (inWords (b .apic .irr) (v .0) || inWords (b .apic .isr) (v .0)) (inWords (b .apic .tmr) (v .0)) (h .traced) .0
 
-held-small : (v : Vector) (g : ℕ) (b : Board) → isHeld v g b ≡ true → v .0 < 256
-held-small v g b h = omega (arith, eqb-true (entryAt (b .ioapic) g .word % 256) (v .0) (holding v (entryAt (b .ioapic) g) h .vector))
+flies-small : (v : Vector) (g : ℕ) (b : Board) → awaits v (entryAt (b .ioapic) g) ≡ true → v .0 < 256
+flies-small v g b h = omega (arith, eqb-true (entryAt (b .ioapic) g .word % 256) (v .0) (awaiting v (entryAt (b .ioapic) g) h .vector))
+
+past : (es : List Entry) (g : ℕ) → length es ≤ g → getD es g noEntry ≡ noEntry
+past [] g h = refl
+past (e ∷ es) zero h = absurd (omega arith)
+past (e ∷ es) (suc g) h = past es g (omega arith)
+
+-- there are 24 entries, and what stands for one behind them is edge-triggered
+inside : (g : ℕ) (b : Board) → BoardRules b → isLevel (entryAt (b .ioapic) g .word) ≡ true → g < 24
+inside g b k h = go (ltb g 24) refl
+  where
+    go : (d : Bool) → ltb g 24 ≡ d → g < 24
+    go true q = ltb-true g 24 q
+    go false q =
+        let n : 24 ≤ g = ltb-false g 24 q in
+        never h (ap (λ (e : Entry). isLevel (e .word)) (past (b .ioapic .entries) g (omega (arith, k .chip .agrees .table))))
+
+flies-inside : (v : Vector) (g : ℕ) (b : Board) → BoardRules b → awaits v (entryAt (b .ioapic) g) ≡ true → g < 24
+flies-inside v g b k h = inside g b k (awaiting v (entryAt (b .ioapic) g) h .level)
+
+held-inside : (v : Vector) (g : ℕ) (b : Board) → BoardRules b → isHeld v g b ≡ true → g < 24
+held-inside v g b k h = inside g b k (holding v (entryAt (b .ioapic) g) h .level)
 
 -- so v is requested, or will be
 record Heard (v : Vector) (g : ℕ) (b : Board) : Type 0 where
@@ -117,9 +134,9 @@ heard-waits v g b s = go (s .stands)
 heard-on : (v : Vector) (g : ℕ) → v .0 < 256 → g < 24 → (b : Board) (c : Call) → BoardRules b → Heard v g b → obeys b c ≡ true → holds v g b c ≡ true → accepts v b c ≡ false → Heard v g (next b c)
 heard-on v g n l b c k s o p a = record { tells = tells-next b c (s .tells); stands = go (s .stands) }
   where
-    stand : Standing v g b → (d : Bool) → isRequested v (next b c) ≡ d → (isRequested v (next b c) ≡ true) ⊎ Standing v g (next b c)
-    stand h true e = inl e
-    stand h false e = inr (stands-on v g l b c k (s .tells) h (rw e at p) (quiet (isEdgeOf v (asked b c)) refl))
+    stand : Standing v g b → (isRequested v (next b c) || isHeld v g (next b c)) ≡ true → (d : Bool) → isRequested v (next b c) ≡ d → (isRequested v (next b c) ≡ true) ⊎ Standing v g (next b c)
+    stand h p true e = inl e
+    stand h p false e = inr (stands-on v g l b c k (s .tells) h (rw e at p) (quiet (isEdgeOf v (asked b c)) refl))
       where
         quiet : (x : Bool) → isEdgeOf v (asked b c) ≡ x → isEdgeOf v (asked b c) ≡ false
         quiet true q = never (edge-requests v b c k n q) e
@@ -127,12 +144,17 @@ heard-on v g n l b c k s o p a = record { tells = tells-next b c (s .tells); sta
 
     go : (isRequested v b ≡ true) ⊎ Standing v g b → (isRequested v (next b c) ≡ true) ⊎ Standing v g (next b c)
     go (inl h) = inl (request-stays v b k n (heard-waits v g b s) c o a h)
-    go (inr h) = stand h (isRequested v (next b c)) refl
+    go (inr h) = already (isRequested v b) refl
+      where
+        already : (d : Bool) → isRequested v b ≡ d → (isRequested v (next b c) ≡ true) ⊎ Standing v g (next b c)
+        already true q = inl (request-stays v b k n (heard-waits v g b s) c o a q)
+        already false q = stand h (rw q at p) (isRequested v (next b c)) refl
 
 pub from-held : FromHeld
-from-held v g b cs k t l h i r f n =
-    let small : v .0 < 256 = held-small v g b h in
-    exactly v small (Heard v g) (holds v g) (heard-waits v g) (heard-on v g small l) b cs k (record { tells = t; stands = inr (standing v g b h i r) }) f n
+from-held v g b cs k t h r f n =
+    let l : g < 24 = flies-inside v g b k h in
+    let small : v .0 < 256 = flies-small v g b h in
+    exactly v small (Heard v g) (holds v g) (heard-waits v g) (heard-on v g small l) b cs k (record { tells = t; stands = inr (record { flies = h; traced = r }) }) f n
 
 -- ---- a held line above v
 
@@ -144,8 +166,8 @@ passes-over u v g b AcceptInterrupt k m s = go (canAccept b) refl
   where
     go : (d : Bool) → canAccept b ≡ d → isOf v (acceptInterrupt b .answer) ≡ false
     go true a =
-        let n : u .0 ≤ highest (b .apic .irr) = at-least u b k (held-small u g b (s .held)) (stands-waits u g b s) a in
-        ap (λ (o : After Acceptance). isOf v (o .answer)) (accept-is u b k (held-small u g b (s .held)) (stands-waits u g b s) a) ∙ ne-eqb (highest (b .apic .irr)) (v .0) (λ z. omega arith)
+        let n : u .0 ≤ highest (b .apic .irr) = at-least u b k (flies-small u g b (s .flies)) (stands-waits u g b s) a in
+        ap (λ (o : After Acceptance). isOf v (o .answer)) (accept-is u b k (flies-small u g b (s .flies)) (stands-waits u g b s) a) ∙ ne-eqb (highest (b .apic .irr)) (v .0) (λ z. omega arith)
     go false a = ap (λ (o : After Acceptance). isOf v (o .answer)) (accepts-none b (λ w l. none-at (canPass (b .apic)) 256 w a l))
 passes-over u v g b HandleEoi k m s = refl
 passes-over u v g b (WriteTpr x) k m s = refl
@@ -167,7 +189,7 @@ starves-from u v g l m b (c ∷ cs) k t s h e =
     )
 
 pub starves : Starves
-starves u v g b cs k t l m h i r n e = starves-from u v g l m b cs k t (standing u g b h i r) n e
+starves u v g b cs k t m h r n e = starves-from u v g (flies-inside u g b k h) m b cs k t (record { flies = h; traced = r }) n e
 
 -- ---- from a new board on
 
@@ -177,10 +199,11 @@ runs-tell b [] t = t
 runs-tell b (c ∷ cs) t = runs-tell (next b c) cs (tells-next b c t)
 
 pub held-is-heard : HeldIsHeard
-held-is-heard before cs v g l h n f p =
+held-is-heard before cs v g h n f p =
     let e = holding v (entryAt (run newBoard before .ioapic) g) h in
     let i : vectorOf (entryAt (run newBoard before .ioapic) g .word) ≡ v = ap (λ (m : ℕ). record { 0 = m }) (eqb-true (entryAt (run newBoard before .ioapic) g .word % 256) (v .0) (e .vector)) in
-    let m = never-forgotten before g l (e .fit) (e .level) (e .up) in
+    let m = never-forgotten before g (held-inside v g (run newBoard before) (runs-keep-rules newBoard before new-keeps-rules) h) (e .fit) (e .level) (e .up) in
     let r : trace v (run newBoard before .apic) ≡ true =
     ap (λ (u : Vector). trace u (run newBoard before .apic)) (sym i) ∙ m .1 ∙ ap (λ (u : Vector). not (lostOver u newBoard before false)) i ∙ ap not n in
-    from-held v g (run newBoard before) cs (runs-keep-rules newBoard before new-keeps-rules) (runs-tell newBoard before new-tells) l h (m .0) r f p
+    from-held v g (run newBoard before) cs (runs-keep-rules newBoard before new-keeps-rules) (runs-tell newBoard before new-tells)
+    (awaits-yes v (entryAt (run newBoard before .ioapic) g) (record { vector = e .vector; level = e .level; flight = m .0 })) r f p

@@ -7,7 +7,7 @@ use lib.Dec.{eqb, ltb}
 use Rattle.types.specs.declared.Gsi.{Gsi}
 use Rattle.types.specs.declared.Vector.{Vector}
 use Rattle.types.specs.Reply.{flag}
-use Rattle.vioapic_entry.specs.Redirection.{remoteIrr, isLevel, isFit, hasVector}
+use Rattle.vioapic_entry.specs.Redirection.{isLevel, isFit, hasVector, awaits}
 use Rattle.vioapic_entry.specs.declared.IoApicInterrupt.{IoApicInterrupt}
 use Rattle.vioapic_entry.specs.declared.Entry.{Entry}
 use Rattle.vioapic_entry.specs.declared.Routed.the-variants as routed
@@ -65,19 +65,17 @@ heldEntry v e = hasVector (e .word) v && isLevel (e .word) && isFit (e .word) &&
 abbrev pub isHeld : Vector → ℕ → Board → Bool
 isHeld v g b = heldEntry v (entryAt (b .ioapic) g)
 
--- it is held until v is requested: so long the line stays up, and vector, trigger mode, delivery mode and mask are kept
+-- it is held until v is requested: so long the line stays up, and vector, trigger mode, delivery mode and mask are kept. What follows, v's acceptance too, asks for nothing more
 abbrev pub holds : Vector → ℕ → Board → Call → Bool
-holds v g b c = isRequested v (next b c) || isHeld v g (next b c)
+holds v g b c = isRequested v b || (isRequested v (next b c) || isHeld v g (next b c))
 
--- without a raise: the entry is in flight, and v has its trace, requested or in service. v is next accepted at exactly that step, though it be in service now
+-- without a raise: the entry is in flight with v, and v has its trace, requested or in service. v is next accepted at exactly that step, though it be in service now
 abbrev pub FromHeld : Type 0
 FromHeld =
     (v : Vector) (g : ℕ) (b : Board) (cs : List Call)
     → BoardRules b
     → Tells b
-    → g < 24
-    → isHeld v g b ≡ true
-    → remoteIrr (entryAt (b .ioapic) g .word) ≡ true
+    → awaits v (entryAt (b .ioapic) g) ≡ true
     → trace v (b .apic) ≡ true
     → Fair v b cs
     → until v (holds v g) b cs ≡ true
@@ -87,7 +85,6 @@ FromHeld =
 abbrev pub HeldIsHeard : Type 0
 HeldIsHeard =
     (before cs : List Call) (v : Vector) (g : ℕ)
-    → g < 24
     → isHeld v g (run newBoard before) ≡ true
     → lostOver v newBoard before false ≡ false
     → Fair v (run newBoard before) cs

@@ -1,10 +1,11 @@
--- The bound, computed; and each of its premises is needed: a trace without it in which v isn't accepted by step 2r + s + 1, all others kept.
+-- The bound, computed; and each of its premises is needed: a trace without it in which v isn't accepted by step 2r + s + 1, all others kept. First of a request, then of a
+-- held line, with that line's premises.
 use Prim.Native.Nat.{ℕ}
 use mathlib.Core.Bool.{Bool, true, false, not}
 use mathlib.Core.List.{List, [], _∷_}
 use mathlib.Core.Path.{_≡_, refl}
 use Rattle.utils.specs.Set.{bit, with, without}
-use Rattle.vioapic_entry.specs.Redirection.{remoteIrr, sendEntry, raiseEntry, lowerEntry, endEntry20, writeLow, writeHigh, storeLow20, writeLow20}
+use Rattle.vioapic_entry.specs.Redirection.{awaits, sendEntry, raiseEntry, lowerEntry, endEntry20, writeLow, writeHigh, storeLow20, writeLow20}
 use Rattle.vioapic.specs.Table.{entryAt, put, setLevel, endOfEvery, endOf}
 use Rattle.vioapic.specs.Registers.{writeWord, writeSelected, writeEoi, writeAt}
 use Rattle.vlapic.specs.Regs.{withPpr, withSvr}
@@ -13,7 +14,7 @@ use Rattle.vlapic_regs.specs.Register.{priority}
 use Rattle.vlapic_requests.specs.Requests as apic
 use Rattle.board.specs.Board.{Board, newBoard, setGsiLevel, acceptInterrupt, handleEoi, writeTpr, handleWrite, receive}
 use Rattle.board.specs.Calls.{Call, AcceptInterrupt, HandleEoi, WriteTpr, outcome, run}
-use Rattle.board_theorems.specs.Traced.{trace}
+use Rattle.board_theorems.specs.Traced.{trace, lostOver, asked, puts}
 use Rattle.board_theorems.specs.CounterExamples.{select, write, line, message}
 use Rattle.board_bound.specs.Trace.{stepsBefore, requestsAbove, servedBefore, steps, accepts, acceptedAt, until, obeys, tprBelow, isQuiet}
 use Rattle.board_bound.specs.Bound.{isHeld, holds}
@@ -34,11 +35,11 @@ Runs v b cs rule below quiet before long at =
     × (steps cs ≡ long)
     × (acceptedAt (record { 0 = v }) b cs ≡ at)
 
--- of line 0: its entry is held with v, and in flight, v has its trace, and EOIs are told; and it is held over the trace until v is requested
+-- of line 0: its entry is held with v, and in flight with v, v has its trace, and EOIs are told; and it is held over the trace until v is requested
 abbrev pub Line : ℕ → Board → List Call → Bool → Bool → Bool → Bool → Bool → Type 0
 Line v b cs held flies traced told on =
     (isHeld (record { 0 = v }) 0 b ≡ held)
-    × (remoteIrr (entryAt (b .ioapic) 0 .word) ≡ flies)
+    × (awaits (record { 0 = v }) (entryAt (b .ioapic) 0) ≡ flies)
     × (trace (record { 0 = v }) (b .apic) ≡ traced)
     × (bit (b .apic .svr) 12 ≡ not told)
     × (until (record { 0 = v }) (holds (record { 0 = v }) 0) b cs ≡ on)
@@ -75,13 +76,15 @@ needed = ((refl, refl, refl, refl, refl, refl), (refl, refl, refl, refl, refl, r
 abbrev pub serving : Board
 serving = run newBoard (select 0x10 ∷ write 0x8041 ∷ line 0 true ∷ AcceptInterrupt ∷ [])
 
--- its EOI sends it again, and it is accepted; an edge request of 0x41 is no matter to that
+-- its EOI sends it again, and it is accepted; an edge request of 0x41 is no matter to that, nor is a line that falls once 0x41 is requested
 pub held-exact :
     Runs 0x41 serving (HandleEoi ∷ AcceptInterrupt ∷ []) true true true 1 2 2
     × Line 0x41 serving (HandleEoi ∷ AcceptInterrupt ∷ []) true true true true true
     × Runs 0x41 serving (message 0x41 false ∷ HandleEoi ∷ AcceptInterrupt ∷ []) true true true 1 2 2
+    × Runs 0x41 serving (HandleEoi ∷ line 0 false ∷ AcceptInterrupt ∷ []) true true true 1 2 2
+    × Line 0x41 serving (HandleEoi ∷ line 0 false ∷ AcceptInterrupt ∷ []) true true true true true
 unfolding computed
-held-exact = ((refl, refl, refl, refl, refl, refl), (refl, refl, refl, refl, refl), (refl, refl, refl, refl, refl, refl))
+held-exact = ((refl, refl, refl, refl, refl, refl), (refl, refl, refl, refl, refl), (refl, refl, refl, refl, refl, refl), (refl, refl, refl, refl, refl, refl), (refl, refl, refl, refl, refl))
 
 -- the line falls; the entry is masked; it gets another vector, another delivery mode, edge trigger
 pub held-needed :
@@ -108,3 +111,36 @@ pub held-needed-first :
     × Line 0x41 (record { ioapic = put (newBoard .ioapic) 0 (record { word = 0x8041; «pending_level» = false; «input_level» = true }); apic = serving .apic }) (HandleEoi ∷ HandleEoi ∷ []) true false true true true
 unfolding computed
 held-needed-first = ((refl, refl, refl, refl, refl, refl), (refl, refl, refl, refl, refl), (refl, refl, refl, refl, refl, refl), (refl, refl, refl, refl, refl), (refl, refl, refl, refl, refl, refl), (refl, refl, refl, refl, refl))
+
+-- entry 0 is level, of vector 0x51; its line is up and held, and 0x51 is in service
+abbrev pub other : Board
+other = run newBoard (select 0x10 ∷ write 0x8051 ∷ line 0 true ∷ AcceptInterrupt ∷ [])
+
+-- a line that isn't held with v at the start (`HeldIsHeard`): its entry gets v by the next call, in flight with another vector, whose EOI doesn't find it any more. v wasn't
+-- lost before
+pub held-at-start :
+    Runs 0x41 other (write 0x8041 ∷ HandleEoi ∷ HandleEoi ∷ []) true true true 1 2 0
+    × Line 0x41 other (write 0x8041 ∷ HandleEoi ∷ HandleEoi ∷ []) false false false true true
+    × (lostOver (record { 0 = 0x41 }) newBoard (select 0x10 ∷ write 0x8051 ∷ line 0 true ∷ AcceptInterrupt ∷ []) false ≡ false)
+unfolding computed lostOver asked puts
+held-at-start = ((refl, refl, refl, refl, refl, refl), (refl, refl, refl, refl, refl), refl)
+
+-- `serving` with a lower request, and a PPR that isn't that of what is in service
+abbrev pub stale : Board
+stale = record { ioapic = serving .ioapic; apic = withPpr (run serving (message 0x31 false ∷ []) .apic) 0 }
+
+-- what the bound asks of a request it asks of a held line, too. Such a PPR. The guest's rule: acceptances where nothing can be accepted, an EOI where something can. TPR of
+-- v's class. A new request above v
+pub held-fair :
+    Runs 0x41 stale (AcceptInterrupt ∷ HandleEoi ∷ AcceptInterrupt ∷ []) true true true 1 3 3
+    × Line 0x41 stale (AcceptInterrupt ∷ HandleEoi ∷ AcceptInterrupt ∷ []) true true true true true
+    × Runs 0x41 serving (AcceptInterrupt ∷ AcceptInterrupt ∷ []) false true true 1 2 0
+    × Line 0x41 serving (AcceptInterrupt ∷ AcceptInterrupt ∷ []) true true true true true
+    × Runs 0x41 serving (HandleEoi ∷ HandleEoi ∷ []) false true true 1 2 0
+    × Line 0x41 serving (HandleEoi ∷ HandleEoi ∷ []) true true true true true
+    × Runs 0x41 serving (WriteTpr 0x40 ∷ HandleEoi ∷ HandleEoi ∷ []) true false true 1 2 0
+    × Line 0x41 serving (WriteTpr 0x40 ∷ HandleEoi ∷ HandleEoi ∷ []) true true true true true
+    × Runs 0x41 serving (message 0x51 false ∷ AcceptInterrupt ∷ HandleEoi ∷ []) true true false 1 2 0
+    × Line 0x41 serving (message 0x51 false ∷ AcceptInterrupt ∷ HandleEoi ∷ []) true true true true true
+unfolding computed
+held-fair = ((refl, refl, refl, refl, refl, refl), (refl, refl, refl, refl, refl), (refl, refl, refl, refl, refl, refl), (refl, refl, refl, refl, refl), (refl, refl, refl, refl, refl, refl), (refl, refl, refl, refl, refl), (refl, refl, refl, refl, refl, refl), (refl, refl, refl, refl, refl), (refl, refl, refl, refl, refl, refl), (refl, refl, refl, refl, refl))

@@ -5,7 +5,7 @@ use mathlib.Core.Bool.{true, false, not}
 use mathlib.Core.List.{List, [], _∷_}
 use mathlib.Core.Path.{_≡_}
 use Rattle.types.specs.declared.Vector.{Vector}
-use Rattle.vioapic_entry.specs.Redirection.{remoteIrr}
+use Rattle.vioapic_entry.specs.Redirection.{awaits}
 use Rattle.vioapic_entry.specs.declared.Routed.the-variants.{NotRouted}
 use Rattle.vioapic.specs.Table.{entryAt}
 use Rattle.board.specs.Board.{Board, newBoard, setGsiLevel}
@@ -29,10 +29,8 @@ Starves =
     (u v : Vector) (g : ℕ) (b : Board) (cs : List Call)
     → BoardRules b
     → Tells b
-    → g < 24
     → v .0 < u .0
-    → isHeld u g b ≡ true
-    → remoteIrr (entryAt (b .ioapic) g .word) ≡ true
+    → awaits u (entryAt (b .ioapic) g) ≡ true
     → trace u (b .apic) ≡ true
     → until v (λ d c. isHeld u g (next d c)) b cs ≡ true
     → until v (λ d c. not (isEdgeOf u (asked d c))) b cs ≡ true
