@@ -1,8 +1,9 @@
 /*
  * Interrupt commands among several vCPUs, called from C, against a small model that is written here from the SDM's words and the request's (an address for each
  * processor, one after the other, and bits one by one). Runs: every destination byte, in the flat model, in the cluster model and with both among the receivers; every
- * x2APIC cluster from 0 to 5 with single members, all of them and none, and clusters that nobody is in; every mode, shorthand and vector of interest; every active
- * mask's edge; senders and counts on either side of their limits; then made-up records and writes. All records are compared whole, after every call.
+ * x2APIC cluster from 0 to 5 with every low byte, each single member, all of them, all but one and none, and clusters that nobody is in; every mode, shorthand and vector of
+ * interest; every active mask's edge; senders and counts on either side of their limits; then made-up records and writes. All records are compared whole, after every call.
+ * Before all that, masks that were worked out by hand from the SDM: there no model stands between.
  * The exit status is 0 only if everything was as expected.
  *
  * The array ends where a page ends that nobody may touch.
@@ -179,6 +180,72 @@ static void fresh(size_t count)
 static const uint64_t actives[] = {~0ull, 0, 1, 0x8000000000000000u, 0x5555555555555555u, 0xffffffff00000000u};
 enum { ACTIVES = sizeof actives / sizeof actives[0], LOGICAL = 1 << 11 };
 
+/* ---- Masks by hand
+
+   Intel SDM volume 3, the APIC chapter, logical destination mode. Flat: a receiver takes the message if a bit of the destination is set in its LDR. Cluster: bits 7:4 are
+   the cluster's number, and a bit in common below them. All ones is everybody. x2APIC: the LDR of id n is n / 16 in bits 31:16 and the one bit n % 16 below. Here the LDRs
+   are, flat: bit i of vCPU i, of eight; cluster: four vCPUs each in clusters 0 and 1. */
+enum { FLAT, CLUSTER, X2APIC };
+static const struct {
+    unsigned model;
+    uint32_t d;
+    uint64_t active, mask;
+} by_hand[] = {
+    {FLAT, 0x01, 0xff, 0x01},
+    {FLAT, 0x80, 0xff, 0x80},
+    {FLAT, 0xa5, 0xff, 0xa5},
+    {FLAT, 0x00, 0xff, 0x00},
+    {FLAT, 0xff, 0xff, 0xff},
+    {FLAT, 0x3c, 0x0f, 0x0c}, /* four of them are active */
+    {FLAT, 0xf0, 0x0f, 0x00},
+    {CLUSTER, 0x01, 0xff, 0x01}, /* vCPU 0, and not 4, which is the same member of cluster 1 */
+    {CLUSTER, 0x0f, 0xff, 0x0f},
+    {CLUSTER, 0x11, 0xff, 0x10},
+    {CLUSTER, 0x16, 0xff, 0x60}, /* members 1 and 2 of cluster 1: vCPUs 5 and 6 */
+    {CLUSTER, 0x1f, 0x55, 0x50},
+    {CLUSTER, 0x10, 0xff, 0x00}, /* no member */
+    {CLUSTER, 0x2f, 0xff, 0x00}, /* nobody's cluster */
+    {CLUSTER, 0xff, 0xff, 0xff},
+    {X2APIC, 0x00000001, ~0ull, 0x0000000000000001},
+    {X2APIC, 0x0000ffff, ~0ull, 0x000000000000ffff},
+    {X2APIC, 0x00010180, ~0ull, 0x0000000001800000}, /* members 7 and 8 of cluster 1: vCPUs 23 and 24 */
+    {X2APIC, 0x00018000, ~0ull, 0x0000000080000000},
+    {X2APIC, 0x00020008, ~0ull, 0x0000000800000000}, /* vCPU 35 */
+    {X2APIC, 0x0003ffff, ~0ull, 0xffff000000000000},
+    {X2APIC, 0x00038001, 0x8000000000000000, 0x8000000000000000},
+    {X2APIC, 0x00020000, ~0ull, 0x0000000000000000},
+    {X2APIC, 0x00040001, ~0ull, 0x0000000000000000}, /* would be vCPU 64 */
+    {X2APIC, 0xffffffff, 0x00f0, 0x00000000000000f0},
+};
+
+static void table(void)
+{
+    static const uint8_t members[] = {0x01, 0x02, 0x04, 0x08, 0x11, 0x12, 0x14, 0x18};
+    for (unsigned k = 0; k < sizeof by_hand / sizeof by_hand[0]; k++) {
+        size_t count = by_hand[k].model == X2APIC ? 64 : 8;
+        sillwander_vcpu *lent = (sillwander_vcpu *)(end - count * sizeof *lent);
+        fresh(count);
+        for (size_t i = 0; i < count; i++) {
+            before[i].regs.x2apic = by_hand[k].model == X2APIC;
+            before[i].regs.dfr = by_hand[k].model == CLUSTER ? 0x0fffffff : 0xffffffff;
+            if (by_hand[k].model != X2APIC)
+                before[i].regs.ldr = (by_hand[k].model == CLUSTER ? members[i] : 1u << i) << 24;
+        }
+        before[2].regs.icr_hi = by_hand[k].d << 24;
+        memcpy(lent, before, count * sizeof *lent);
+        sillwander_sent s = by_hand[k].model == X2APIC ? sillwander_vcpus_send(lent, count, 2, 0x300, (uint64_t)by_hand[k].d << 32 | LOGICAL | 0x41, 8, by_hand[k].active)
+                                                      : sillwander_vcpus_send(lent, count, 2, 0x300, LOGICAL | 0x41, 4, by_hand[k].active);
+        calls++;
+        int same = SILLWANDER_REFUSAL(s.code) == 0 && s.mask == by_hand[k].mask;
+        for (size_t i = 0; i < count; i++)
+            same = same && lent[i].regs.irr[2] == (by_hand[k].mask >> i & 1 ? 2u : 0u); /* vector 0x41 */
+        if (!same) {
+            wrong++;
+            printf("vcpus.c: by hand, row %u: code %#lx, mask %#lx, or other requests\n", k, (unsigned long)s.code, (unsigned long)s.mask);
+        }
+    }
+}
+
 /* Every destination byte: LDRs that have one bit each, none, several; `model_of` names each receiver's DFR model. */
 static void bytes(unsigned which)
 {
@@ -199,17 +266,27 @@ static void bytes(unsigned which)
     }
 }
 
+static void members_of(uint32_t cluster, uint32_t members)
+{
+    for (unsigned a = 0; a < ACTIVES; a++)
+        command(64, 3, LOGICAL | 0x41, cluster << 16 | members, actives[a]);
+    command(64, 3, LOGICAL | 0x41, 0x8000u << 16 | cluster << 16 | members, ~0ull);
+}
+
 static void clusters(void)
 {
     fresh(64);
     for (size_t i = 0; i < 64; i++)
         before[i].regs.x2apic = true;
-    for (uint32_t cluster = 0; cluster < 6; cluster++)
-        for (uint32_t members = 0; members < 0x10000; members = members < 64 ? members + 1 : members * 2 + 1) {
-            for (unsigned a = 0; a < ACTIVES; a++)
-                command(64, 3, LOGICAL | 0x41, cluster << 16 | members, actives[a]);
-            command(64, 3, LOGICAL | 0x41, 0x8000u << 16 | cluster << 16 | members, ~0ull);
+    for (uint32_t cluster = 0; cluster < 6; cluster++) {
+        for (uint32_t members = 0; members < 256; members++)
+            members_of(cluster, members);
+        for (unsigned k = 0; k < 16; k++) {
+            members_of(cluster, 1u << k);
+            members_of(cluster, 0xffff ^ 1u << k);
         }
+        members_of(cluster, 0xffff);
+    }
     command(64, 3, LOGICAL | 0x41, 0xffffffff, 0x0f0f);
     command(64, 3, LOGICAL | 0x41, 0xffff0001, ~0ull);
     for (uint32_t d = 0; d < 256; d++)
@@ -332,6 +409,7 @@ int main(void)
         return 1;
     }
     end = pages + PAGES * PAGE;
+    table();
     for (unsigned which = 0; which < 4; which++)
         bytes(which);
     clusters();
