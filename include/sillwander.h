@@ -246,8 +246,9 @@ uint64_t sillwander_board_receive(uint64_t apic[48], uint64_t vector, uint64_t l
  * a local APIC, as the 48 words above have them, in the same order, and beside them what waits for the processor. The caller takes a waiting NMI, INIT or
  * start-up by storing false; a request by clearing its bit of irr (isr, tmr and ppr are the caller's too, or sillwander_lapic_ calls': below).
  *
- * A bool has to be 0 or 1, as C's own stores leave it: nothing else in this file asks that of lent memory. The array may not be null, also where the count is 0. The
- * layout is C's on x86-64: 172 bytes, x2apic the byte at 0, id the four bytes at 4, .., irr those from 136 on, nmi at 168, init 169, startup 170, startup_vector 171.
+ * A bool has to be 0 or 1, as C's own stores leave it: nothing else in this file asks that of lent memory. The array may not be null, also where the count is 0. It must
+ * have `count` records, also where the count is refused. All of them are read and written back, those that don't change too: lock the whole array. The layout is C's
+ * on x86-64: 172 bytes, x2apic the byte at 0, id the four bytes at 4, .., irr those from 136 on, nmi at 168, init 169, startup 170, startup_vector 171.
  */
 typedef struct sillwander_lapic_registers {
     bool x2apic; /* else xAPIC mode */
