@@ -27,7 +27,7 @@ use Rattle.vpic.specs.declared.PicDone.the-variants.{Done, Refused}
 use Rattle.vpic.specs.Words.{PicState, isFull, plainView, fullView, view}
 use Rattle.vpic.specs.Pair.{isCascade, chips, settled, latchedAt, latched, StateClaim, stateClaim, masterClaim, slaveClaim, pendingPlace, claimAt, claimPending, claimIrq, restoredAt, restored, restoreInterrupt, Port, master-command, master-data, slave-command, slave-data, no-port, portAt, isThere, writtenTo, Written, writtenAt, isPort, masterRead, slaveRead, leftBy, portRead, portLeft, portWritten, valueReply, handleRead, handleWrite, claimVector, withClaim, withVector, claimOutcome, vectorOutcome, doneOutcome, valueOutcome}
 use Rattle.vpic.specs.Claim.{claimIn, claimNumber, numbered, withNumber, masterTaken, slaveTaken, isQuiet, portOutcome, byteShown, plainShown}
-use Rattle.vpic.proofs.Laws.{settle-off, settle-on, irq-reply, pending-reply, irq-vector, pending-vector, quiet, unasked, restore-way, restore-done, write-not, write-settled, write-out, write-done, read-master-command, read-master-data, read-slave-command, read-slave-data}
+use Rattle.vpic.proofs.Laws.{settle-off, settle-on, irq-reply, pending-reply, irq-vector, pending-vector, quiet, quiet-is, unasked, restore-way, restore-done, write-not, write-settled, write-out, write-done, read-master-command, read-master-data, read-slave-command, read-slave-data}
 
 -- ---- the full road
 
@@ -213,11 +213,16 @@ module _ (l : List ℕ) (q : Bool) (eq : q ≡ isQuiet (plainView l)) (t : q ≡
   pub quiet-reply : claimOutcome (view l) NoClaim ≡ withClaim (claimPending (view l))
   quiet-reply = ap withClaim (quiet (view l) q (eq ∙ same-quiet l) t)
 
-  pub quiet-number : numbered (view l) 0 ≡ withNumber (claimPending (view l))
+  quiet-number : numbered (view l) 0 ≡ withNumber (claimPending (view l))
   quiet-number = ap withNumber (quiet (view l) q (eq ∙ same-quiet l) t)
 
   pub quiet-vector : vectorOutcome (view l) NoVector ≡ withVector (claimPending (view l))
   quiet-vector = ap withVector (quiet (view l) q (eq ∙ same-quiet l) t)
+
+-- the same where the chips were asked one by one
+pub none-number : (l : List ℕ) (m s : Chip) (a b : ℕ) → m ≡ plainView l .master → a ≡ m .request → a ≡ 0 → s ≡ plainView l .slave → b ≡ s .request → b ≡ 0
+    → numbered (view l) 0 ≡ withNumber (claimPending (view l))
+none-number l m s a b em ea za es eb zb = quiet-number l (eqb b 0) (quiet-is (plainView l) m a em ea s b za es eb) (ap (λ (n : ℕ). eqb n 0) zb)
 
 module _ (l m : List ℕ) (b a : Bool) (c : Chip) (eb : b ≡ isFull (view l .rule)) (n : b ≡ false) (ec : c ≡ plainView l .master) (ea : a ≡ asks c) (u : not a ≡ true) (em : plainView m ≡ settled (plainView l)) where
   pub unasked-reply : claimOutcome (view m) NoClaim ≡ withClaim (claimPending (view l))

@@ -1,5 +1,6 @@
--- What the private functions say of a claim. On its way it is one number, 0 for none: `Codes.claim-kept` says that nothing is lost.
-use Prim.Native.Nat.{ℕ, _+_, _*_, _/_, _%_, _^_}
+-- A claim as one number, and what the functions below the public calls say of a claim and of a read. On its way a claim is the number that the boundary answers for it, 0 for none:
+-- `Codes.claim-kept` says that nothing is lost.
+use Prim.Native.Nat.{ℕ, _/_, _%_, _^_, _+_}
 use mathlib.Core.Bool.{Bool, cond}
 use mathlib.Core.Path.{_≡_}
 use lib.Dec.{eqb}
@@ -8,6 +9,7 @@ use Rattle.types.specs.declared.PicLine.{PicLine}
 use Rattle.types.specs.declared.PicPlace.{PicPlace}
 use Rattle.types.specs.declared.PicPlace.the-variants.{Master, Slave, Nowhere}
 use Rattle.types.specs.Reply.{Outcome}
+use Rattle.reply_code.specs.Lent.{replyCode}
 use Rattle.vpic_chip.specs.Registers.{Chip}
 use Rattle.vpic_chip.specs.Chip.{cascadeIrq, acknowledged, readShown}
 use Rattle.vpic.specs.declared.PicClaim.{PicClaim}
@@ -15,7 +17,7 @@ use Rattle.vpic.specs.declared.PicClaim.the-variants.{Claimed, Nothing}
 use Rattle.vpic.specs.declared.PicValue.{PicValue}
 use Rattle.vpic.specs.declared.PicValue.the-variants.{Value, Refused as NotRead}
 use Rattle.vpic.specs.Words.{PicState, isFull}
-use Rattle.vpic.specs.Pair.{StateClaim, stateClaim, chips, nothingClaimed, masterClaim, slaveClaim, claimFlags, portLeft, portRead, valueReply}
+use Rattle.vpic.specs.Pair.{StateClaim, stateClaim, chips, nothingClaimed, masterClaim, slaveClaim, claimReply, portLeft, portRead, valueReply}
 
 -- the vector in bits 0 to 7, the line in 16 to 23, and the two flags in 32 and 33
 abbrev pub claimIn : ℕ → PicClaim
@@ -26,10 +28,9 @@ claimIn n = cond (eqb n 0) Nothing (Claimed (record {
   «slave_in_service» = bit n 33;
 }))
 
--- the number of a claim: what the boundary answers for it
+-- the number of a claim: the code of its reply
 abbrev pub claimNumber : PicClaim → ℕ
-claimNumber (Claimed c) = 3 * 2 ^ 48 + claimFlags c % 2 ^ 16 * 2 ^ 32 + c .irq .0 % 2 ^ 16 * 2 ^ 16 + c .vector .0 % 2 ^ 16
-claimNumber Nothing = 0
+claimNumber c = replyCode (claimReply c)
 
 -- the pair after a claim, and the claim's number
 pub record Numbered : Type 0 where

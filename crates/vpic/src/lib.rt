@@ -497,12 +497,10 @@ pub fn claim_pending_interrupt(words: &mut [u64; 4]) -> PicClaim
     claim_in(claim_pending(&mut *words))
 }
 
-pub fn claim_pending_number(words: &mut [u64; 4]) -> u64
+// What can be delivered is claimed, as one number, by either road.
+fn claim_open(words: &mut [u64; 4]) -> u64
     ensures { λ r. ⌜ numbered (view (now (words .exit))) r ≡ withNumber (claimPending (view (now (words .entry)))) ⌝ }
 {
-    if is_quiet(&*words) {
-        return 0;
-    }
     if is_full(&*words) {
         return full_claim_pending(&mut *words);
     }
@@ -511,6 +509,20 @@ pub fn claim_pending_number(words: &mut [u64; 4]) -> u64
         return 0;
     }
     claim_pending(&mut *words)
+}
+
+// The same, and the claim as one number. What is done where something is requested stands in two arms: called twice, it isn't taken in, and where nothing is requested
+// no register is saved for it.
+pub fn claim_pending_number(words: &mut [u64; 4]) -> u64
+    ensures { λ r. ⌜ numbered (view (now (words .exit))) r ≡ withNumber (claimPending (view (now (words .entry)))) ⌝ }
+{
+    if master(&*words).request() != 0 {
+        return claim_open(&mut *words);
+    }
+    if slave(&*words).request() != 0 {
+        return claim_open(&mut *words);
+    }
+    0
 }
 
 // Latches an edge and answers the vector alone: such a claim can't be restored.

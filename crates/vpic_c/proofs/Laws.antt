@@ -15,15 +15,13 @@ use Rattle.reply_code.specs.Lent.{replyCode, lent}
 use Rattle.vpic_chip.specs.declared.PicVector.{PicVector}
 use Rattle.vpic_chip.specs.Chip.{vectorReply}
 use Rattle.vpic.specs.declared.PicRule.{PicRule}
-use Rattle.vpic.specs.declared.PicClaim.{PicClaim}
-use Rattle.vpic.specs.declared.PicClaim.the-variants.{Claimed, Nothing as NoClaim}
 use Rattle.vpic.specs.declared.PicDone.{PicDone}
 use Rattle.vpic.specs.declared.PicInterruptClaim.{PicInterruptClaim}
 use Rattle.vpic.specs.declared.PicValue.{PicValue}
 use Rattle.vpic.specs.declared.PortRanges.{PortRanges}
 use Rattle.vpic.specs.Words.{PicState, view}
-use Rattle.vpic.specs.Claim.{Numbered, claimNumber, numbered, withNumber, plainShown}
-use Rattle.vpic.specs.Pair.{ruleIn, isRule, newState, claimReply, doneReply, valueReply, vectorOutcome, doneOutcome, valueOutcome, StateClaim, claimIrq, withClaim, withVector, refused, restoreInterrupt, handleRead, portRanges}
+use Rattle.vpic.specs.Claim.{Numbered, numbered, withNumber, plainShown}
+use Rattle.vpic.specs.Pair.{ruleIn, isRule, newState, doneReply, valueReply, vectorOutcome, doneOutcome, valueOutcome, StateClaim, claimIrq, withClaim, withVector, refused, restoreInterrupt, handleRead, portRanges}
 use Rattle.vpic_c.proofs.Claims.{parts-same}
 use Rattle.vpic.proofs.Full.{shown-read}
 use Rattle.vpic_c.specs.Calls.{Coded, shown, coded, made, newRule, line, lineOf, rangeWords, claimWith, isClaim, claimOf, restoreCode}
@@ -64,13 +62,9 @@ module _ (q : PicState) (x : Reply) (n : ℕ) (en : n ≡ replyCode x) where
   pub restore-code : (p : PicState) (d : PicDone) (c : ℕ) (k : PicInterruptClaim) → k ≡ claimOf c → doneOutcome q d ≡ restoreInterrupt p k → x ≡ doneReply d → shown q n ≡ coded (restoreCode p c)
   restore-code p d c k ek e ex = done-code d _ (e ∙ ap (restoreInterrupt p) ek ∙ same-restore p c) ex
 
--- a claim's number is its reply's code
-same-number : (c : PicClaim) → claimNumber c ≡ replyCode (claimReply c)
-same-number (Claimed c) = refl
-same-number NoClaim = refl
-
+-- a claim's number is its reply's code, by its definition
 pub number-code : (q : PicState) (n : ℕ) (x : StateClaim) → numbered q n ≡ withNumber x → shown q n ≡ coded (withClaim x)
-number-code q n x e = ap (λ (y : Numbered). shown (y .state) (y .number)) e ∙ ap (shown (x .state)) (same-number (x .claim))
+number-code q n x e = ap (λ (y : Numbered). shown (y .state) (y .number)) e
 
 pub irq-code : (p q : PicState) (n : ℕ) (l : PicLine) (irq : ℕ) → l ≡ lineOf irq → numbered q n ≡ withNumber (claimIrq p l) → shown q n ≡ coded (withClaim (claimIrq p (line irq)))
 irq-code p q n l irq el e = number-code q n (claimIrq p l) e ∙ ap (λ (x : StateClaim). coded (withClaim x)) (ap (claimIrq p) el ∙ same-claim p irq)
