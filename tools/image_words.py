@@ -160,7 +160,7 @@ def is_fit(entry):
 def local_faults(local):
     if local[0] > 1:
         yield f"mode {local[0]}: there are 0 and 1"
-    stored = STORED | ({} if local[0] else {10: 0xFF000000})
+    stored = STORED | ({} if local[0] else {1: 0xFF, 10: 0xFF000000})
     for word, mask in stored.items():
         if local[word] & ~mask:
             yield f"{NAMES[word]} is {local[word]:#x}, and can't store {local[word] & ~mask & 0xFFFFFFFF:#x}"

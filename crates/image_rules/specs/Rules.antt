@@ -1,5 +1,5 @@
 -- The rules that an image's chips must keep (document 02, T-11): what every call keeps, as a test. The definitions are the chips' own.
--- 82093AA: IOREDTBL (Delivery Status, Remote IRR). Intel SDM volume 3, the APIC chapter: TPR, PPR, LDR, DFR, ESR, LVT, ICR; valid
+-- 82093AA: IOREDTBL (Delivery Status, Remote IRR). Intel SDM volume 3, the APIC chapter: local APIC ID, TPR, PPR, LDR, DFR, ESR, LVT, ICR; valid
 -- interrupt vectors (16 to 255). 8259A: ICW2 (bits 3 to 7 of the vector), the initialization sequence, cascade mode.
 use Prim.Native.Nat.{ℕ, zero, suc, _*_, _/_, _%_, _^_}
 use mathlib.Core.Bool.{Bool, true, false, not, cond, _&&_, _||_}
@@ -56,14 +56,27 @@ isV20 V20 = true
 
 -- ---- the local APIC
 
--- what a register of this word keeps of a value; of the first words of ISR and IRR nothing below vector 16; of the errors bits 5 and 6
+-- the id: all bits in x2APIC mode, a byte in xAPIC mode
+abbrev pub idKept : Bool → ℕ → ℕ
+idKept x2apic x = cond x2apic x (lowByte x)
+
+-- of the errors, bits 5 and 6
+abbrev pub errors : ℕ → ℕ
+errors x = x / 32 % 4 * 32
+
+-- of the first words of ISR and IRR, nothing below vector 16
+abbrev pub legal : ℕ → ℕ
+legal x = x / 65536 * 65536
+
+-- what a register of this word keeps of a value
 unfoldable pub keptOf : Bool → ℕ → ℕ → ℕ
 keptOf x2apic k x =
-    cond (eqb k 2) (lowByte x)
+    cond (eqb k 1) (idKept x2apic x)
+    (cond (eqb k 2) (lowByte x)
     (cond (eqb k 4) (topByte x)
     (cond (eqb k 5) (modelBits x)
-    (cond (eqb k 7) (x / 32 % 4 * 32)
-    (cond (eqb k 8) (x / 32 % 4 * 32)
+    (cond (eqb k 7) (errors x)
+    (cond (eqb k 8) (errors x)
     (cond (eqb k 9) (idle x)
     (cond (eqb k 10) (cond x2apic x (topByte x))
     (cond (eqb k 11) (lvtMonitor x)
@@ -73,9 +86,9 @@ keptOf x2apic k x =
     (cond (eqb k 15) (lvtPin x)
     (cond (eqb k 16) (lvtPin x)
     (cond (eqb k 17) (lvtError x)
-    (cond (eqb k 18) (x / 65536 * 65536)
-    (cond (eqb k 34) (x / 65536 * 65536)
-    x)))))))))))))))
+    (cond (eqb k 18) (legal x)
+    (cond (eqb k 34) (legal x)
+    x))))))))))))))))
 
 -- every word holds what its register keeps, and PPR is what a write of the same TPR makes it
 abbrev pub wordKeeps : List ℕ → ℕ → Bool

@@ -7,14 +7,15 @@ ghost use Rattle.utils.specs.Set.{bit};
 ghost use Rattle.vioapic_theorems.specs.Rules.{implies};
 ghost use Rattle.vioapic.specs.State.{view};
 ghost use Rattle.vlapic_words.specs.Words.{word, view as apicView};
-ghost use Rattle.vlapic_regs.specs.Lvt.{lvtMonitor};
 ghost use Rattle.vlapic_regs.specs.Register.{topByte};
 ghost use Rattle.vpic_chip.specs.Registers.{chipIn, fullIn};
 ghost use Rattle.vpic.specs.Words.{view as pairView};
-ghost use Rattle.image_rules.specs.Rules.{same, mayFly, isV20, entryKeeps, entryKeepsAt, ioapicKeeps, keptOf, wordKeeps, pprKeeps, apicKeeps, chipKeeps, cascadeKeeps, pairKeeps};
+ghost use Rattle.image_rules.specs.Rules.{same, mayFly, isV20, entryKeeps, entryKeepsAt, ioapicKeeps, idKept, errors, legal, keptOf, wordKeeps, pprKeeps, apicKeeps, chipKeeps, cascadeKeeps, pairKeeps};
 use types::Gsi;
 use vioapic::IoApicVersion;
 use vioapic_entry::Entry;
+use vlapic_regs::lvt;
+use vlapic_regs::register;
 use vpic::PicRule;
 
 // ---- Tests
@@ -123,24 +124,60 @@ fn is_x2apic(words: &[u64; 48]) -> bool
     words[0] != 0
 }
 
+// The id: a byte in xAPIC mode.
+fn id(x2apic: bool, x: u32) -> u32
+    ensures { λ r. ⌜ r ≡ idKept x2apic x ⌝ }
+{
+    if x2apic {
+        return x;
+    }
+    x % 0x100
+}
+
+// The ICR's high word: the top byte in xAPIC mode.
+fn destination(x2apic: bool, x: u32) -> u32
+    ensures { λ r. ⌜ r ≡ cond x2apic x (topByte x) ⌝ }
+{
+    if x2apic {
+        return x;
+    }
+    register::icr_hi(x)
+}
+
+fn errors(x: u32) -> u32
+    ensures { λ r. ⌜ r ≡ errors x ⌝ }
+{
+    x / 32 % 4 * 32
+}
+
+// Of the vectors below 32, those from 16 up.
+fn legal(x: u32) -> u32
+    ensures { λ r. ⌜ r ≡ legal x ⌝ }
+{
+    x / 0x10000 * 0x10000
+}
+
 // What the register of word k keeps of a value.
 fn kept(x2apic: bool, k: usize, x: u32) -> u32
     ensures { λ r. ⌜ r ≡ keptOf x2apic k x ⌝ }
 {
+    if k == 1 {
+        return id(x2apic, x);
+    }
     if k == 2 {
-        return x % 0x100;
+        return register::tpr(x);
     }
     if k == 4 {
-        return x / 0x100_0000 * 0x100_0000;
+        return register::ldr(x);
     }
     if k == 5 {
-        return x / 0x1000_0000 * 0x1000_0000 + 0xfff_ffff;
+        return register::dfr(x);
     }
     if k == 7 {
-        return x / 32 % 4 * 32;
+        return errors(x);
     }
     if k == 8 {
-        return x / 32 % 4 * 32;
+        return errors(x);
     }
     if k == 9 {
         return vlapic_icr::fields::idle(x);
@@ -149,48 +186,33 @@ fn kept(x2apic: bool, k: usize, x: u32) -> u32
         return destination(x2apic, x);
     }
     if k == 11 {
-        return monitor(x);
+        return lvt::monitor(x);
     }
     if k == 12 {
-        return x % 0x100 + x / 0x1000 % 2 * 0x1000 + x / 0x10000 % 8 * 0x10000;
+        return lvt::timer(x);
     }
     if k == 13 {
-        return monitor(x);
+        return lvt::monitor(x);
     }
     if k == 14 {
-        return monitor(x);
+        return lvt::monitor(x);
     }
     if k == 15 {
-        return x % 0x800 + x / 0x1000 % 32 * 0x1000;
+        return lvt::pin(x);
     }
     if k == 16 {
-        return x % 0x800 + x / 0x1000 % 32 * 0x1000;
+        return lvt::pin(x);
     }
     if k == 17 {
-        return x % 0x100 + x / 0x1000 % 2 * 0x1000 + x / 0x10000 % 2 * 0x10000;
+        return lvt::error(x);
     }
     if k == 18 {
-        return x / 0x10000 * 0x10000;
+        return legal(x);
     }
     if k == 34 {
-        return x / 0x10000 * 0x10000;
+        return legal(x);
     }
     x
-}
-
-fn destination(x2apic: bool, x: u32) -> u32
-    ensures { λ r. ⌜ r ≡ cond x2apic x (topByte x) ⌝ }
-{
-    if x2apic {
-        return x;
-    }
-    x / 0x100_0000 * 0x100_0000
-}
-
-fn monitor(x: u32) -> u32
-    ensures { λ r. ⌜ r ≡ lvtMonitor x ⌝ }
-{
-    x % 0x800 + x / 0x1000 % 2 * 0x1000 + x / 0x10000 % 2 * 0x10000
 }
 
 fn word_keeps(words: &[u64; 48], k: usize) -> bool

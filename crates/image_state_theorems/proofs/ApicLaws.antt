@@ -17,8 +17,8 @@ use Rattle.vlapic_regs.specs.Register.{lowByte, topByte, modelBits, priority}
 use Rattle.vlapic_icr.specs.Fields.{idle}
 use Rattle.vlapic_words.specs.Words.{word, eight, view}
 use Rattle.vlapic_requests.specs.Requests.{highest, ranked, writeTpr}
-use Rattle.image_rules.specs.Rules.{all, keptOf, wordKeeps, pprKeeps, apicKeeps}
-use Rattle.image_state_theorems.specs.Rules.{errors, ApicRules}
+use Rattle.image_rules.specs.Rules.{all, idKept, errors, legal, keptOf, wordKeeps, pprKeeps, apicKeeps}
+use Rattle.image_state_theorems.specs.Rules.{ApicRules}
 use Rattle.image_state_theorems.proofs.Laws.{all-true, true-all}
 
 -- ---- no vector below 16
@@ -57,6 +57,7 @@ module _ (l : List ℕ) where
         legal = λ v c. (first-word l 34 v c ∙ low-none (word l 34) v (held 34 (omega arith)) c, first-word l 18 v c ∙ low-none (word l 18) v (held 18 (omega arith)) c);
         eight = (refl, refl, refl);
       };
+      id = held 1 (omega arith);
       tpr = held 2 (omega arith);
       ldr = held 4 (omega arith);
       dfr = held 5 (omega arith);
@@ -74,14 +75,15 @@ module _ (l : List ℕ) where
     }
 
   module _ (r : ApicRules (view l)) where
-    -- one test of the sixteen: word k is word j, which holds what f keeps
+    -- one test of the seventeen: word k is word j, which holds what f keeps
     by : (k j : ℕ) (f : ℕ → ℕ) (c : ℕ) → f (word l j) ≡ word l j → c ≡ word l k → cond (eqb k j) (f (word l k)) c ≡ word l k
     by k j f c h e = either (λ (x : ℕ). x ≡ word l k) (eqb k j) (f (word l k)) c (λ q. let d : k ≡ j = eqb-true k j q in rw d h) (λ q. e)
 
     kept : (k : ℕ) → keptOf (view l .x2apic) k (word l k) ≡ word l k
     unfolding view keptOf
     kept k =
-        by k 2 lowByte _ (r .tpr)
+        by k 1 (idKept (view l .x2apic)) _ (r .id)
+        (by k 2 lowByte _ (r .tpr)
         (by k 4 topByte _ (r .ldr)
         (by k 5 modelBits _ (r .dfr)
         (by k 7 errors _ (r .esr)
@@ -95,9 +97,9 @@ module _ (l : List ℕ) where
         (by k 15 lvtPin _ (r .lint0)
         (by k 16 lvtPin _ (r .lint1)
         (by k 17 lvtError _ (r .error)
-        (by k 18 (λ x. x / 65536 * 65536) _ (none-low (word l 18) (λ v c. sym (first-word l 18 v c) ∙ r .local .legal v c .1))
-        (by k 34 (λ x. x / 65536 * 65536) _ (none-low (word l 34) (λ v c. sym (first-word l 34 v c) ∙ r .local .legal v c .0))
-        refl)))))))))))))))
+        (by k 18 legal _ (none-low (word l 18) (λ v c. sym (first-word l 18 v c) ∙ r .local .legal v c .1))
+        (by k 34 legal _ (none-low (word l 34) (λ v c. sym (first-word l 34 v c) ∙ r .local .legal v c .0))
+        refl))))))))))))))))
 
     pub apic-kept : apicKeeps l ≡ true
     unfolding apicKeeps view writeTpr ranked

@@ -32,7 +32,8 @@ use Rattle.board.specs.Board.{Board, newBoard, requested, resent, requestedByEo
 use Rattle.board.specs.Calls.{Call, SetGsiLevel, AcceptInterrupt, HandleEoi, WriteTpr, HandleWrite, Receive, outcome, next}
 use Rattle.board_theorems.specs.Rules.{LocalRules, BoardRules}
 use Rattle.board_theorems.proofs.Rules as board
-use Rattle.image_state_theorems.specs.Rules.{IoRules, errors, ApicRules}
+use Rattle.image_rules.specs.Rules.{idKept, errors}
+use Rattle.image_state_theorems.specs.Rules.{IoRules, ApicRules}
 use Rattle.image_state_theorems.specs.Made.{NewIoKeeps, IoCallsKeep, BoardKeeps, NewBoardKeeps, BoardCallsKeep}
 
 -- ---- the I/O APIC
@@ -54,14 +55,15 @@ Masks s =
     (lowByte (s .tpr) ≡ s .tpr) × (topByte (s .ldr) ≡ s .ldr) × (modelBits (s .dfr) ≡ s .dfr) × (errors (s .esr) ≡ s .esr) × (errors (s .«esr_pending») ≡ s .«esr_pending»)
     × (idle (s .«icr_lo») ≡ s .«icr_lo») × (cond (s .x2apic) (s .«icr_hi») (topByte (s .«icr_hi»)) ≡ s .«icr_hi») × (lvtMonitor (s .«lvt_cmci») ≡ s .«lvt_cmci»)
     × (lvtTimer (s .«lvt_timer») ≡ s .«lvt_timer») × (lvtMonitor (s .«lvt_thermal») ≡ s .«lvt_thermal») × (lvtMonitor (s .«lvt_pmi») ≡ s .«lvt_pmi»)
-    × (lvtPin (s .«lvt_lint0») ≡ s .«lvt_lint0») × (lvtPin (s .«lvt_lint1») ≡ s .«lvt_lint1») × (lvtError (s .«lvt_error») ≡ s .«lvt_error»)
+    × (lvtPin (s .«lvt_lint0») ≡ s .«lvt_lint0») × (lvtPin (s .«lvt_lint1») ≡ s .«lvt_lint1») × (lvtError (s .«lvt_error») ≡ s .«lvt_error») × (idKept (s .x2apic) (s .«vapic_id») ≡ s .«vapic_id»)
 
 masks : (s : VirtualApicRegs) → ApicRules s → Masks s
-masks s r = (r .tpr, r .ldr, r .dfr, r .esr, r .pending, r .«icr_lo», r .«icr_hi», r .cmci, r .timer, r .thermal, r .pmi, r .lint0, r .lint1, r .error)
+masks s r = (r .tpr, r .ldr, r .dfr, r .esr, r .pending, r .«icr_lo», r .«icr_hi», r .cmci, r .timer, r .thermal, r .pmi, r .lint0, r .lint1, r .error, r .id)
 
 rules : (s : VirtualApicRegs) → LocalRules s → Masks s → ApicRules s
 rules s l m = record {
   local = l;
+  id = m .14;
   tpr = m .0;
   ldr = m .1;
   dfr = m .2;
@@ -128,11 +130,11 @@ module _ (s : VirtualApicRegs) (k : Masks s) where
 
   tpr-masks : (x : ℕ) → Masks (apic.writeTpr s x)
   unfolding apic.writeTpr ranked
-  tpr-masks x = (omega arith, k .1, k .2, k .3, k .4, k .5, k .6, k .7, k .8, k .9, k .10, k .11, k .12, k .13)
+  tpr-masks x = (omega arith, k .1, k .2, k .3, k .4, k .5, k .6, k .7, k .8, k .9, k .10, k .11, k .12, k .13, k .14)
 
   receive-masks : (v : Vector) (level : Bool) → Masks (apic.receive s v level)
   unfolding apic.receive
-  receive-masks v level = both Masks (ltb (v .0) 16) _ _ (k .0, k .1, k .2, k .3, noted (s .«esr_pending») (k .4), k .5, k .6, k .7, k .8, k .9, k .10, k .11, k .12, k .13) (request-masks v level)
+  receive-masks v level = both Masks (ltb (v .0) 16) _ _ (k .0, k .1, k .2, k .3, noted (s .«esr_pending») (k .4), k .5, k .6, k .7, k .8, k .9, k .10, k .11, k .12, k .13, k .14) (request-masks v level)
 
 local-masks : (b : Board) (c : Call) → Masks (b .apic) → Masks (next b c .apic)
 unfolding outcome setGsiLevel acceptInterrupt handleEoi writeTpr handleWrite receive
@@ -166,5 +168,5 @@ new-board-keeps = record {
   version = refl;
   base = refl;
   size = refl;
-  apic = rules (newBoard .apic) (board.new-keeps-rules .local) (refl, refl, refl, refl, refl, refl, refl, refl, refl, refl, refl, refl, refl, refl);
+  apic = rules (newBoard .apic) (board.new-keeps-rules .local) (refl, refl, refl, refl, refl, refl, refl, refl, refl, refl, refl, refl, refl, refl, refl);
 }

@@ -1,6 +1,6 @@
 -- The rules that a state keeps (document 02, T-11): the chips' own, and every register within what a write keeps of a value. The tests of a restore ask these, no more and no less
--- (specs/Tests). 82093AA: IOREDTBL. Intel SDM volume 3, the APIC chapter: TPR, PPR, LDR, DFR, ESR, LVT, ICR. 8259A: ICW2, the initialization sequence, cascade mode.
-use Prim.Native.Nat.{ℕ, _*_, _/_, _%_, _<_}
+-- (specs/Tests). 82093AA: IOREDTBL. Intel SDM volume 3, the APIC chapter: local APIC ID, TPR, PPR, LDR, DFR, ESR, LVT, ICR. 8259A: ICW2, the initialization sequence, cascade mode.
+use Prim.Native.Nat.{ℕ, _%_, _<_}
 use mathlib.Core.Bool.{true, false, cond}
 use mathlib.Core.Path.{_≡_}
 use Rattle.vioapic.specs.State.{IoApicState}
@@ -16,6 +16,7 @@ use Rattle.vpic.specs.Words.{PicState}
 use Rattle.vpic.specs.Pair.{isRule, Keeps}
 use Rattle.board.specs.Board.{Board}
 use Rattle.board_theorems.specs.Rules.{LocalRules}
+use Rattle.image_rules.specs.Rules.{idKept, errors}
 
 -- the I/O APIC's: its own, in a version that has a number; in version 0x20 Delivery Status is clear
 pub record IoRules (s : IoApicState) : Type 0 where
@@ -23,13 +24,10 @@ pub record IoRules (s : IoApicState) : Type 0 where
   pub version : isVersion (s .version) ≡ true
   pub clear : isVersion20 s ≡ true → StatusClear s
 
--- of the errors, bits 5 and 6
-abbrev pub errors : ℕ → ℕ
-errors x = x / 32 % 4 * 32
-
 -- the local APIC's: the board's, and every register within what it keeps
 pub record ApicRules (s : VirtualApicRegs) : Type 0 where
   pub local : LocalRules s
+  pub id : idKept (s .x2apic) (s .«vapic_id») ≡ s .«vapic_id»
   pub tpr : lowByte (s .tpr) ≡ s .tpr
   pub ldr : topByte (s .ldr) ≡ s .ldr
   pub dfr : modelBits (s .dfr) ≡ s .dfr

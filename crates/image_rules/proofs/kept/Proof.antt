@@ -6,232 +6,212 @@ use Rattle.image_rules.proofs.kept.Tie as tie
 use Rattle.image_rules.proofs.kept.Reads as reads
 use Rattle.image_rules.proofs.kept.Lts as lts
 use Rattle.image_rules.proofs.destination.Reads as destination-reads
-use Rattle.image_rules.proofs.monitor.Reads as monitor-reads
+use Rattle.image_rules.proofs.errors.Reads as errors-reads
+use Rattle.image_rules.proofs.id.Reads as id-reads
+use Rattle.image_rules.proofs.legal.Reads as legal-reads
 use Rattle.vlapic_icr.proofs.fields.idle.Reads as idle-reads
+use Rattle.vlapic_regs.proofs.lvt.error.Reads as error-reads
+use Rattle.vlapic_regs.proofs.lvt.monitor.Reads as monitor-reads
+use Rattle.vlapic_regs.proofs.lvt.pin.Reads as pin-reads
+use Rattle.vlapic_regs.proofs.lvt.timer.Reads as timer-reads
+use Rattle.vlapic_regs.proofs.register.dfr.Reads as dfr-reads
+use Rattle.vlapic_regs.proofs.register.ldr.Reads as ldr-reads
+use Rattle.vlapic_regs.proofs.register.tpr.Reads as tpr-reads
 
--- src/lib.rt:128:9
+-- src/lib.rt:165:9
+id-requires : tie.Need-id-requires
+id-requires c κs = search needs
+
+-- src/lib.rt:165:9
 returns : tie.Need-returns
 unfolding keptOf
-returns c = search cases
+returns c = rw (c .id .ensures) (search cases)
 
--- src/lib.rt:131:16
-mul-result : tie.Need-mul-result
-mul-result c = search needs
+-- src/lib.rt:168:9
+tpr-requires : tie.Need-tpr-requires
+tpr-requires c κs = search needs
 
--- src/lib.rt:131:9
+-- src/lib.rt:168:9
 returns-2 : tie.Need-returns-2
 unfolding keptOf
-returns-2 c = search cases
+returns-2 c = rw (c .tpr .ensures) (search cases)
 
--- src/lib.rt:134:16
-mul-result-2 : tie.Need-mul-result-2
-mul-result-2 c = search needs
+-- src/lib.rt:171:9
+ldr-requires : tie.Need-ldr-requires
+ldr-requires c κs = search needs
 
--- src/lib.rt:134:16
-add-result : tie.Need-add-result
-add-result c = search needs
-
--- src/lib.rt:134:9
+-- src/lib.rt:171:9
 returns-3 : tie.Need-returns-3
 unfolding keptOf
-returns-3 c = search cases
+returns-3 c = rw (c .ldr .ensures) (search cases)
 
--- src/lib.rt:137:16
-mul-result-3 : tie.Need-mul-result-3
-mul-result-3 c = search needs
+-- src/lib.rt:174:9
+dfr-requires : tie.Need-dfr-requires
+dfr-requires c κs = search needs
 
--- src/lib.rt:137:9
+-- src/lib.rt:174:9
 returns-4 : tie.Need-returns-4
 unfolding keptOf
-returns-4 c = search cases
+returns-4 c = rw (c .dfr .ensures) (search cases)
 
--- src/lib.rt:140:16
-mul-result-4 : tie.Need-mul-result-4
-mul-result-4 c = search needs
+-- src/lib.rt:177:9
+errors-requires : tie.Need-errors-requires
+errors-requires c κs = search needs
 
--- src/lib.rt:140:9
+-- src/lib.rt:177:9
 returns-5 : tie.Need-returns-5
 unfolding keptOf
-returns-5 c = search cases
+returns-5 c = rw (c .errors .ensures) (search cases)
 
--- src/lib.rt:143:9
+-- src/lib.rt:180:9
+errors-requires-2 : tie.Need-errors-requires-2
+errors-requires-2 c κs = search needs
+
+-- src/lib.rt:180:9
+returns-6 : tie.Need-returns-6
+unfolding keptOf
+returns-6 c = rw (c .errors2 .ensures) (search cases)
+
+-- src/lib.rt:183:9
 idle-requires : tie.Need-idle-requires
 idle-requires c κs = search needs
 
--- src/lib.rt:143:9
-returns-6 : tie.Need-returns-6
+-- src/lib.rt:183:9
+returns-7 : tie.Need-returns-7
 unfolding keptOf
-returns-6 c = rw (c .idle .ensures) (search cases)
+returns-7 c = rw (c .idle .ensures) (search cases)
 
--- src/lib.rt:146:9
+-- src/lib.rt:186:9
 destination-requires : tie.Need-destination-requires
 destination-requires c κs = search needs
 
--- src/lib.rt:146:9
-returns-7 : tie.Need-returns-7
+-- src/lib.rt:186:9
+returns-8 : tie.Need-returns-8
 unfolding keptOf
-returns-7 c = rw (c .destination .ensures) (search cases)
+returns-8 c = rw (c .destination .ensures) (search cases)
 
--- src/lib.rt:149:9
+-- src/lib.rt:189:9
 monitor-requires : tie.Need-monitor-requires
 monitor-requires c κs = search needs
 
--- src/lib.rt:149:9
-returns-8 : tie.Need-returns-8
-unfolding keptOf
-returns-8 c = rw (c .monitor .ensures) (search cases)
-
--- src/lib.rt:152:28
-mul-result-5 : tie.Need-mul-result-5
-mul-result-5 c = search needs
-
--- src/lib.rt:152:16
-add-result-2 : tie.Need-add-result-2
-add-result-2 c = search needs
-
--- src/lib.rt:152:54
-mul-result-6 : tie.Need-mul-result-6
-mul-result-6 c = search needs
-
--- src/lib.rt:152:16
-add-result-3 : tie.Need-add-result-3
-add-result-3 c = search needs
-
--- src/lib.rt:152:9
+-- src/lib.rt:189:9
 returns-9 : tie.Need-returns-9
 unfolding keptOf
-returns-9 c = search cases
+returns-9 c = rw (c .monitor .ensures) (search cases)
 
--- src/lib.rt:155:9
+-- src/lib.rt:192:9
+timer-requires : tie.Need-timer-requires
+timer-requires c κs = search needs
+
+-- src/lib.rt:192:9
+returns-10 : tie.Need-returns-10
+unfolding keptOf
+returns-10 c = rw (c .timer .ensures) (search cases)
+
+-- src/lib.rt:195:9
 monitor-requires-2 : tie.Need-monitor-requires-2
 monitor-requires-2 c κs = search needs
 
--- src/lib.rt:155:9
-returns-10 : tie.Need-returns-10
+-- src/lib.rt:195:9
+returns-11 : tie.Need-returns-11
 unfolding keptOf
-returns-10 c = rw (c .monitor2 .ensures) (search cases)
+returns-11 c = rw (c .monitor2 .ensures) (search cases)
 
--- src/lib.rt:158:9
+-- src/lib.rt:198:9
 monitor-requires-3 : tie.Need-monitor-requires-3
 monitor-requires-3 c κs = search needs
 
--- src/lib.rt:158:9
-returns-11 : tie.Need-returns-11
-unfolding keptOf
-returns-11 c = rw (c .monitor3 .ensures) (search cases)
-
--- src/lib.rt:161:28
-mul-result-7 : tie.Need-mul-result-7
-mul-result-7 c = search needs
-
--- src/lib.rt:161:16
-add-result-4 : tie.Need-add-result-4
-add-result-4 c = search needs
-
--- src/lib.rt:161:9
+-- src/lib.rt:198:9
 returns-12 : tie.Need-returns-12
 unfolding keptOf
-returns-12 c = search cases
+returns-12 c = rw (c .monitor3 .ensures) (search cases)
 
--- src/lib.rt:164:28
-mul-result-8 : tie.Need-mul-result-8
-mul-result-8 c = search needs
+-- src/lib.rt:201:9
+pin-requires : tie.Need-pin-requires
+pin-requires c κs = search needs
 
--- src/lib.rt:164:16
-add-result-5 : tie.Need-add-result-5
-add-result-5 c = search needs
-
--- src/lib.rt:164:9
+-- src/lib.rt:201:9
 returns-13 : tie.Need-returns-13
 unfolding keptOf
-returns-13 c = search cases
+returns-13 c = rw (c .pin .ensures) (search cases)
 
--- src/lib.rt:167:28
-mul-result-9 : tie.Need-mul-result-9
-mul-result-9 c = search needs
+-- src/lib.rt:204:9
+pin-requires-2 : tie.Need-pin-requires-2
+pin-requires-2 c κs = search needs
 
--- src/lib.rt:167:16
-add-result-6 : tie.Need-add-result-6
-add-result-6 c = search needs
-
--- src/lib.rt:167:54
-mul-result-10 : tie.Need-mul-result-10
-mul-result-10 c = search needs
-
--- src/lib.rt:167:16
-add-result-7 : tie.Need-add-result-7
-add-result-7 c = search needs
-
--- src/lib.rt:167:9
+-- src/lib.rt:204:9
 returns-14 : tie.Need-returns-14
 unfolding keptOf
-returns-14 c = search cases
+returns-14 c = rw (c .pin2 .ensures) (search cases)
 
--- src/lib.rt:170:16
-mul-result-11 : tie.Need-mul-result-11
-mul-result-11 c = search needs
+-- src/lib.rt:207:9
+error-requires : tie.Need-error-requires
+error-requires c κs = search needs
 
--- src/lib.rt:170:9
+-- src/lib.rt:207:9
 returns-15 : tie.Need-returns-15
 unfolding keptOf
-returns-15 c = search cases
+returns-15 c = rw (c .error .ensures) (search cases)
 
--- src/lib.rt:173:16
-mul-result-12 : tie.Need-mul-result-12
-mul-result-12 c = search needs
+-- src/lib.rt:210:9
+legal-requires : tie.Need-legal-requires
+legal-requires c κs = search needs
 
--- src/lib.rt:173:9
+-- src/lib.rt:210:9
 returns-16 : tie.Need-returns-16
 unfolding keptOf
-returns-16 c = search cases
+returns-16 c = rw (c .legal .ensures) (search cases)
 
--- src/lib.rt:124:1
+-- src/lib.rt:213:9
+legal-requires-2 : tie.Need-legal-requires-2
+legal-requires-2 c κs = search needs
+
+-- src/lib.rt:213:9
 returns-17 : tie.Need-returns-17
 unfolding keptOf
-returns-17 c = search cases
+returns-17 c = rw (c .legal2 .ensures) (search cases)
+
+-- src/lib.rt:161:1
+returns-18 : tie.Need-returns-18
+unfolding keptOf
+returns-18 c = search cases
 
 pub kept-spec : {M : Type 1} → statement M
 kept-spec =
     tie.close
     (tie.spec
+    id-requires
     returns
-    mul-result
+    tpr-requires
     returns-2
-    mul-result-2
-    add-result
+    ldr-requires
     returns-3
-    mul-result-3
+    dfr-requires
     returns-4
-    mul-result-4
+    errors-requires
     returns-5
-    idle-requires
+    errors-requires-2
     returns-6
-    destination-requires
+    idle-requires
     returns-7
-    monitor-requires
+    destination-requires
     returns-8
-    mul-result-5
-    add-result-2
-    mul-result-6
-    add-result-3
+    monitor-requires
     returns-9
-    monitor-requires-2
+    timer-requires
     returns-10
-    monitor-requires-3
+    monitor-requires-2
     returns-11
-    mul-result-7
-    add-result-4
+    monitor-requires-3
     returns-12
-    mul-result-8
-    add-result-5
+    pin-requires
     returns-13
-    mul-result-9
-    add-result-6
-    mul-result-10
-    add-result-7
+    pin-requires-2
     returns-14
-    mul-result-11
+    error-requires
     returns-15
-    mul-result-12
+    legal-requires
     returns-16
-    returns-17)
+    legal-requires-2
+    returns-17
+    returns-18)
