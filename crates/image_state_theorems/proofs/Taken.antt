@@ -23,11 +23,12 @@ use Rattle.image_rules.specs.Rules.{ioapicKeeps, apicKeeps, pairKeeps}
 use Rattle.image.specs.Words.{chipWord, wordAt, listed, gathered}
 use Rattle.image.specs.Restore.{Chips, ioOf, apicOf, pairOf, chipsOf, rowKeeps, blank, rowIn, notRestored, putBack, restored}
 use Rattle.image_state_theorems.specs.Rules.{IoRules, PairRules}
-use Rattle.image_state_theorems.specs.States.{stateIn, imageIn, Bytes, Written, Refused10, TakenIsWritten, TenIfNoneWrites, TenOnlyIfNoneWrites}
+use Rattle.image_state_theorems.specs.States.{stateIn, imageIn, Bytes, Written, Refused10, TakenIsWritten, SameBytes, TenIfNoneWrites, TenOnlyIfNoneWrites}
 use Rattle.image_state_theorems.proofs.Laws.{io-rules}
 use Rattle.image_state_theorems.proofs.ApicLaws.{apic-rules}
 use Rattle.image_state_theorems.proofs.PairLaws.{pair-rules}
 use Rattle.image_state_theorems.proofs.Row.{getD-listed, cutTo, cut, carried-is, row-base, row-size}
+use Rattle.image_state_theorems.proofs.Alike.{one-image}
 use Rattle.image_state_theorems.proofs.Back.{version-is, rule-is, chip-is, took, read-back-state}
 
 -- ---- a row that keeps the rules is gathered as it stands
@@ -158,6 +159,9 @@ pub taken-is-written : TakenIsWritten
 taken-is-written s before bytes e =
     let t = both-held s before (isRead s) (rowKeeps (rowIn s)) (ap (λ (o : Outcome Chips). o .reply) (sym (restored-by s before)) ∙ e) in
     subst (λ (o : Outcome Chips). Written s (o .state)) (sym (took s before (t .0) (t .1))) (taken-written s bytes (t .0) (t .1))
+
+pub same-bytes : SameBytes
+same-bytes s t before other bs bt rs rt e = sym (taken-is-written s before bs rs .image) ∙ one-image _ _ e ∙ taken-is-written t other bt rt .image
 
 pub ten-if-none-writes : TenIfNoneWrites
 ten-if-none-writes s before bytes none =

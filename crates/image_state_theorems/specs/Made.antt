@@ -7,6 +7,7 @@ use Rattle.vioapic.specs.State.{IoApicState}
 use Rattle.vioapic.specs.Table.{isVersion20}
 use Rattle.vioapic.specs.IoApic.{isVersion, chipOf}
 use Rattle.vioapic.specs.Calls as ioapic
+use Rattle.vlapic.specs.declared.VirtualApicRegs.{VirtualApicRegs}
 use Rattle.vpic.specs.declared.PicRule.{PicRule}
 use Rattle.vpic.specs.Words.{PicState}
 use Rattle.vpic.specs.Pair.{newState}
@@ -60,3 +61,20 @@ MadeReadBack =
     → Words c
     → stateIn c ≡ made cs rule ds
     → Took (made cs rule ds) (restored (imageIn c) before)
+
+-- a board's I/O APIC is of version 0x20; one of either version in its place, after any calls of its own, beside a local APIC and a pair that keep their rules
+abbrev pub ioMade : ℕ → List ioapic.Call → VirtualApicRegs → PicState → State
+ioMade version cs a p = record { board = record { ioapic = ioapic.run (chipOf version 0xfec00000 0x1000) cs; apic = a }; pair = p }
+
+abbrev pub IoMadeKeeps : Type 0
+IoMadeKeeps = (version : ℕ) (cs : List ioapic.Call) (a : VirtualApicRegs) (p : PicState) → isVersion version ≡ true → ApicRules a → PairRules p → StateRules (ioMade version cs a p)
+
+abbrev pub IoMadeReadBack : Type 0
+IoMadeReadBack =
+    (version : ℕ) (cs : List ioapic.Call) (a : VirtualApicRegs) (p : PicState) (c before : Chips)
+    → isVersion version ≡ true
+    → ApicRules a
+    → PairRules p
+    → Words c
+    → stateIn c ≡ ioMade version cs a p
+    → Took (ioMade version cs a p) (restored (imageIn c) before)

@@ -64,7 +64,18 @@ pub record Written (s : List ℕ) (c : Chips) : Type 0 where
 abbrev pub TakenIsWritten : Type 0
 TakenIsWritten = (s : List ℕ) (before : Chips) → Bytes s → restored s before .reply ≡ Nothing → Written s (restored s before .state)
 
--- so an image is taken exactly if a state writes it that keeps the rules; else the answer is 10, and the words are as they were
+-- so two images that are taken and leave one state are the same bytes
+abbrev pub SameBytes : Type 0
+SameBytes =
+    (s t : List ℕ) (before other : Chips)
+    → Bytes s
+    → Bytes t
+    → restored s before .reply ≡ Nothing
+    → restored t other .reply ≡ Nothing
+    → stateIn (restored s before .state) ≡ stateIn (restored t other .state)
+    → s ≡ t
+
+-- and an image is taken exactly if a state writes it that keeps the rules; else the answer is 10, and the words are as they were
 pub record Refused10 (before : Chips) (o : Outcome Chips) : Type 0 where
   pub reply : o .reply ≡ Refused BadImage
   pub kept : o .state ≡ before
