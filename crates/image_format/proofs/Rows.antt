@@ -8,7 +8,7 @@ use lib.Dec.{leb, ltb}
 use lib.ListN.{getD, length, List·getD-map}
 use borrow.Author.Tests.{ltb-true, leb-true}
 use Rattle.utils.proofs.Bools.{and-true}
-use Rattle.image_format.specs.Format.{Row, row, isNumber, format, rowAt}
+use Rattle.image_format.specs.Format.{Row, row, isNumber, format, rowAt, rise, TagsRise}
 
 pub tag-at : (k : ℕ) → getD (map (λ (r : Row). r .tag) format) k 0 ≡ rowAt k .tag
 tag-at k = List·getD-map (λ (r : Row). r .tag) format k (row 0 0 0)
@@ -48,3 +48,7 @@ number-small k h = leb-true _ _ (go (isNumber (rowAt k)) h (each-at (λ (r : Row
 pub rows-are : length format ≡ 80
 unfolding format
 rows-are = refl
+
+pub tags-rise : TagsRise
+unfolding format rise
+tags-rise = record { board = refl; ioapic = refl; apic = refl; pair = refl }

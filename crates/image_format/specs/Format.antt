@@ -3,10 +3,11 @@
 -- The words are those that hold the chips (include/sillwander.h), in one row: the I/O APIC's 32, the local APIC's 48 and the pair's 4. A word's tag is its number there.
 -- Every field has a fixed length, so that every image has the same length, and every number its place.
 use Prim.Native.Nat.{ℕ, zero, suc, _+_}
-use mathlib.Core.Bool.{Bool, cond}
-use mathlib.Core.List.{List, [], _∷_, _++_}
+use mathlib.Core.Bool.{Bool, true, cond, _&&_}
+use mathlib.Core.List.{List, [], _∷_, _++_, map}
+use mathlib.Core.Path.{_≡_}
 use lib.Dec.{ltb}
-use lib.ListN.{getD}
+use lib.ListN.{getD, take, drop}
 
 -- a field's header, and which word it holds
 pub record Row : Type 0 where
@@ -55,3 +56,21 @@ format = group 0x80 (ioapicRows ++ apicRows ++ pairRows)
 -- row k; past the last one, a header that no image has
 abbrev pub rowAt : ℕ → Row
 rowAt k = getD format k (row 0 0 0)
+
+-- ---- in each group the tags rise, so that each is there once
+
+unfoldable pub rise : List ℕ → Bool
+rise [] = true
+rise (t ∷ []) = true
+rise (t ∷ u ∷ tags) = ltb t u && rise (u ∷ tags)
+
+-- the tags of n rows from row k on
+abbrev pub tagsFrom : ℕ → ℕ → List ℕ
+tagsFrom k n = map (λ r. r .tag) (take n (drop k format))
+
+-- each group's own fields, by their rows: the board's chips are rows 1, 31 and 74, and the pair's rule and chips rows 75, 76 and 78. A chip of the pair has one field
+pub record TagsRise : Type 0 where
+  pub board : rise (rowAt 1 .tag ∷ rowAt 31 .tag ∷ rowAt 74 .tag ∷ []) ≡ true
+  pub ioapic : rise (tagsFrom 2 29) ≡ true
+  pub apic : rise (tagsFrom 32 42) ≡ true
+  pub pair : rise (rowAt 75 .tag ∷ rowAt 76 .tag ∷ rowAt 78 .tag ∷ []) ≡ true
