@@ -373,15 +373,16 @@ uint64_t sillwander_waiting_claim_pending_interrupt(uint8_t *lists, size_t bytes
  */
 #define SILLWANDER_IMAGE_SIZE 628
 
-/* Writes the image to the buffer's start. One value, its length, 628; what is behind it in a longer buffer stays. Takes any words; but only of those that keep their chips' rules does
-   sillwander_image_restore take the image: a new board and pair, and what their calls make of them. Refused, and the buffer untouched: 11 for fewer than 628 bytes. */
+/* Writes the image to the buffer's start. One value, its length, 628; what is behind it in a longer buffer stays. Takes any words. sillwander_image_restore takes the image exactly if
+   these keep their chips' rules, which a new board and pair do, and what their calls make of them; what isn't in an image isn't asked: words at another base or size, or with bits set that
+   stand for nothing, write the image of those without, and so are restored at the base and size above with those bits 0. Refused, and the buffer untouched: 11 for fewer than 628 bytes. */
 uint64_t sillwander_image_save(const uint64_t ioapic[32], const uint64_t apic[48], const uint64_t pic[4], uint8_t *image, size_t bytes);
 
 /* Restores what was saved: every word is written, the spare ones and the bits that stand for nothing as 0. Answers 0. Refused, and every word as it was: 10 for bytes that no state which
    keeps the rules writes. They are: word 30 of the I/O APIC agrees with its registers; an interrupt is deferred only in flight, and in flight only level-triggered (in version 0x11: and
-   fit to be sent); bit 12 of a register is clear in version 0x20; each local register holds what it can store; nothing is requested or in service below vector 16; PPR follows TPR and the
-   highest vector in service; of the pair, a base is a multiple of 8 and a step at most 3, what belongs to rule 2 is 0 by another rule, and by rules 1 and 2 the master's request 2 is set
-   exactly when a request of the slave counts. */
+   fit to be sent); bit 12 of a register is clear in version 0x20; each local register holds what it can store (the id a byte in xAPIC mode); nothing is requested or in service below
+   vector 16; PPR follows TPR and the highest vector in service; of the pair, a base is a multiple of 8 and a step at most 3, what belongs to rule 2 is 0 by another rule, and by rules 1
+   and 2 the master's request 2 is set exactly when a request of the slave counts. */
 uint64_t sillwander_image_restore(const uint8_t *image, size_t bytes, uint64_t ioapic[32], uint64_t apic[48], uint64_t pic[4]);
 
 #ifdef __cplusplus

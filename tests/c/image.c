@@ -152,7 +152,7 @@ static int keeps_apic(const uint64_t *a)
     static const uint32_t stored[7] = {0x117ff, 0x710ff, 0x117ff, 0x117ff, 0x1f7ff, 0x1f7ff, 0x110ff}; /* LVT: CMCI, timer, thermal, counters, LINT0, LINT1, error */
     if (a[0] > 1 || a[2] > 0xff || a[4] & 0xffffff || (a[5] & 0xfffffff) != 0xfffffff || a[7] & ~0x60ull || a[8] & ~0x60ull || a[9] & 0x1000)
         return 0;
-    if ((!a[0] && a[10] & 0xffffff) || a[18] & 0xffff || a[34] & 0xffff)
+    if ((!a[0] && (a[1] > 0xff || a[10] & 0xffffff)) || a[18] & 0xffff || a[34] & 0xffff)
         return 0;
     for (unsigned k = 0; k < 7; k++)
         if (a[11 + k] & ~(uint64_t)stored[k])
@@ -324,6 +324,28 @@ static void made_by_calls(void)
             CHECK(called(&moved) == here);
         }
         CHECK(!memcmp(&moved, &one_run, sizeof moved));
+    }
+}
+
+/* Words at another base and size, with what stands for nothing set: they write the same image, which is taken, and what is restored stands at the board's base with 0 there. */
+static void at_another_base(void)
+{
+    part = "words at another base";
+    for (unsigned run = 0; run < 60; run++) {
+        struct chips here, there;
+        uint8_t image[SIZE], same[SIZE];
+        start(&here, run % 3, run % 7 == 0 ? 0x11 : 0x20);
+        for (unsigned k = dice(40); k > 0; k--)
+            called(&here);
+        there = here;
+        there.io[27] = 0xfed00000, there.io[28] = any(), there.io[31] = any(), there.pic[3] = any();
+        for (unsigned k = 42; k < 48; k++)
+            there.apic[k] = any();
+        for (unsigned k = 0; k < 2; k++)
+            there.pic[k] |= any() >> 52 << 52;
+        CHECK(save(&here, image, SIZE) == one(SIZE) && save(&there, same, SIZE) == one(SIZE) && !memcmp(image, same, SIZE));
+        CHECK(judge(same, SIZE) && !memcmp(&now, &here, sizeof here));
+        CHECK(now.io[27] == BASE && now.io[28] == 0x1000);
     }
 }
 
@@ -500,6 +522,7 @@ int main(void)
     io -= SILLWANDER_IOAPIC_WORDS, apic -= SILLWANDER_LAPIC_WORDS, pic -= SILLWANDER_PIC_WORDS;
     saving();
     made_by_calls();
+    at_another_base();
     for (unsigned k = 0; k < 6; k++) {
         struct chips c;
         uint8_t image[SIZE];

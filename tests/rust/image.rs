@@ -56,6 +56,20 @@ fn main() -> Result<(), X86VlapicError> {
         assert_eq!(there.restore(&mut its_pic, bad), Err(X86VlapicError::BadImage));
     }
     assert_eq!((there.handle_eoi(), its_pic.next_interrupt()), (None, None)); // new still
+
+    // an I/O APIC of version 0x11, which this board isn't; and PPR that doesn't follow what is in service: every bit stays
+    for (at, byte) in [(292, 0x11), (323, 0xff)] {
+        let (mut bad, mut before, mut after) = (image.to_vec(), [0; IMAGE_SIZE], [0; IMAGE_SIZE]);
+        assert_ne!(bad[at], byte);
+        bad[at] = byte;
+        let (mut kept, mut its) = in_mid_service()?;
+        kept.handle_eoi();
+        kept.save(&its, &mut before)?;
+        assert_eq!(kept.restore(&mut its, &bad), Err(X86VlapicError::BadImage));
+        kept.save(&its, &mut after)?;
+        assert_eq!(before, after);
+        assert_ne!(before[..], bad[..]);
+    }
     there.restore(&mut its_pic, image)?;
     goes_on(&mut there, &mut its_pic)?;
     goes_on(&mut board, &mut pic)?;

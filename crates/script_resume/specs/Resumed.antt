@@ -7,7 +7,7 @@ use lib.Dec.{eqb, ltb}
 use lib.ListN.{getD, length, take, drop}
 use Rattle.vpic.specs.Words.{view}
 use Rattle.board.specs.Board.{boardIn}
-use Rattle.image_format.specs.Image.{imageOf}
+use Rattle.image_format.specs.Image.{imageOf, imageSize}
 use Rattle.image_format.specs.Reading.{isRead}
 use Rattle.image.specs.Words.{gathered}
 use Rattle.image.specs.Restore.{Chips, chipsOf, rowIn, rowKeeps}
@@ -51,7 +51,7 @@ Ran image script text text′ after′ m c end size =
     Puts text 0 (printedFrom script (startOf image)) text′ end
     × (m ≡ machineAfter script (startOf image))
     × (after′ ≡ imageOf (gathered (c .io) (c .apic) (c .pair)))
-    × (size ≡ 628)
+    × (size ≡ imageSize)
 
 -- an image that isn't taken: nothing is run, and nothing put
 abbrev pub NotRun : List ℕ → List ℕ → List ℕ → List ℕ → ℕ → ℕ → Type 0
@@ -72,7 +72,7 @@ abbrev pub imageTag : ℕ
 imageTag = 0x80
 
 abbrev pub headSize : List ℕ → ℕ
-headSize s = cond (eqb (getD s 0 0) imageTag) (cond (ltb (length s) 628) (length s) 628) 0
+headSize s = cond (eqb (getD s 0 0) imageTag) (cond (ltb (length s) imageSize) (length s) imageSize) 0
 
 abbrev pub imageIn : List ℕ → List ℕ
 imageIn s = take (headSize s) s

@@ -14,7 +14,7 @@ use script_print::SPACE;
 const TAG: u8 = 0x80;
 
 // The length of every image.
-pub const IMAGE: usize = 628;
+pub const IMAGE: usize = image_format::IMAGE_SIZE;
 
 // Whether there was a run, what it left beside the chips' words, and how many bytes its text and the image after it have. An image that is refused is refused with 10.
 pub struct Resumed {
