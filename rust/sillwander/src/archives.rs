@@ -5,13 +5,21 @@
 
 use super::vcpus::Vcpu;
 
+/// How many words an I/O APIC's state has.
 pub const IOAPIC_WORDS: usize = 32;
+/// How many words a pair of 8259s' state has.
 pub const PIC_WORDS: usize = 4;
+/// How many words a local APIC's state has.
 pub const LAPIC_WORDS: usize = 48;
 
 type IoApic = [u64; IOAPIC_WORDS];
 type Pic = [u64; PIC_WORDS];
 type Lapic = [u64; LAPIC_WORDS];
+
+// Where build.rs didn't find them, nothing is linked, and the compiler's sentence about this one says why.
+#[cfg(sillwander_without_archives)]
+#[link(name = "the archives of sillwander: run tools/archives, or name their folder by SILLWANDER_ARCHIVES", kind = "static")]
+unsafe extern "C" {}
 
 // SAFETY: the signatures are the header's; that the functions keep to them is proved.
 #[link(name = "vioapic_c", kind = "static")]
@@ -113,8 +121,19 @@ unsafe extern "C" {
     pub fn sillwander_waiting_cancel(lists: *mut u8, bytes: usize, vcpu_id: usize, vector: u64) -> u64;
     pub fn sillwander_waiting_count(lists: *const u8, bytes: usize, vcpu_id: usize) -> u64;
     pub fn sillwander_waiting_peek(lists: *const u8, bytes: usize, vcpu_id: usize, place: usize) -> u64;
-    pub fn sillwander_waiting_claim_irq(lists: *mut u8, bytes: usize, pic: &mut [u64; PIC_WORDS], vcpu_id: usize, irq: u64) -> u64;
-    pub fn sillwander_waiting_claim_pending_interrupt(lists: *mut u8, bytes: usize, pic: &mut [u64; PIC_WORDS], vcpu_id: usize) -> u64;
+    pub fn sillwander_waiting_claim_irq(
+        lists: *mut u8,
+        bytes: usize,
+        pic: &mut [u64; PIC_WORDS],
+        vcpu_id: usize,
+        irq: u64,
+    ) -> u64;
+    pub fn sillwander_waiting_claim_pending_interrupt(
+        lists: *mut u8,
+        bytes: usize,
+        pic: &mut [u64; PIC_WORDS],
+        vcpu_id: usize,
+    ) -> u64;
 }
 
 // SAFETY: as above.

@@ -3,15 +3,16 @@
 use crate::{
     archives::*,
     code::{done, value},
+    text::Said,
     types::{X86AccessWidth, X86GuestPhysAddr, X86VlapicError, X86VlapicResult},
-    vioapic::{IoApicEois, IoApicInterrupt, IoApicWritten, sent},
+    vcpus::LocalApicRegisters,
+    vioapic::{EmulatedIoApic20, IoApicEois, IoApicInterrupt, IoApicWritten, VERSION, said, sent},
     vpic::EmulatedPic,
 };
+use core::fmt::{Debug, Formatter};
 
 /// How many bytes the image of a board and a pair has, always.
 pub const IMAGE_SIZE: usize = 628;
-
-const VERSION: usize = 29;
 
 /// An I/O APIC of version 0x20, one local APIC and its request register as one: what the I/O APIC sends becomes a request, the guest accepts the highest one whose class is
 /// above that of PPR, and its EOI goes back to the I/O APIC.
@@ -27,7 +28,6 @@ const VERSION: usize = 29;
 /// assert_eq!(board.handle_eoi(), Some(IoApicEois { cleared: 0b1000, sent: 0 }));
 /// # Ok::<(), sillwander::X86VlapicError>(())
 /// ```
-#[derive(Debug)]
 pub struct EmulatedBoard {
     ioapic: [u64; IOAPIC_WORDS],
     apic: [u64; LAPIC_WORDS],
@@ -95,6 +95,19 @@ impl EmulatedBoard {
         done(sillwander_lapic_handle_read(&self.apic, offset as u64)).map(value)
     }
 
+    /// The words of the I/O APIC and of the local APIC, in the layouts that include/sillwander.h has.
+    pub const fn to_words(&self) -> ([u64; IOAPIC_WORDS], [u64; LAPIC_WORDS]) {
+        (self.ioapic, self.apic)
+    }
+
+    /// The board with these words, refused as [`EmulatedIoApic20::from_words`] refuses an I/O APIC's. Any others are answered, and none makes a call fault; but what
+    /// docs/PROMISES.md says of states that calls made holds of words from [`to_words`](Self::to_words), and nothing here sees whether these are such. The road that does is
+    /// [`restore`](Self::restore).
+    pub fn from_words(ioapic: [u64; IOAPIC_WORDS], apic: [u64; LAPIC_WORDS]) -> X86VlapicResult<Self> {
+        EmulatedIoApic20::from_words(ioapic)?;
+        Ok(Self { ioapic, apic })
+    }
+
     /// Writes the image of this board and a pair to the buffer's start, and answers its length, [`IMAGE_SIZE`]; what is behind it stays. The format is docs/IMAGE.md's. Waiting lists
     /// and the records of several vCPUs aren't in it. [`TooShort`](crate::X86VlapicError::TooShort), and the buffer untouched, for fewer bytes.
     ///
@@ -127,6 +140,14 @@ impl EmulatedBoard {
         }
         (*self, *pic.words()) = (read, words);
         Ok(())
+    }
+}
+
+impl Debug for EmulatedBoard {
+    fn fmt(&self, f: &mut Formatter<'_>) -> core::fmt::Result {
+        let ioapic = Said(|f: &mut Formatter<'_>| said("IoApic", &self.ioapic, f));
+        let apic = Said(|f: &mut Formatter<'_>| LocalApicRegisters::from_words(&self.apic).said("LocalApic", f));
+        f.debug_struct("EmulatedBoard").field("ioapic", &ioapic).field("apic", &apic).finish()
     }
 }
 

@@ -21,25 +21,35 @@
 #![no_std]
 #![deny(missing_docs, unsafe_op_in_unsafe_fn)]
 
+// Documentation and lints don't link, and so do without.
+#[cfg(not(any(target_arch = "x86_64", doc, clippy)))]
+compile_error!("sillwander's archives are x86-64, and nothing else can be linked: build with --target x86_64-unknown-linux-gnu");
+
+#[cfg(test)]
+extern crate std;
+
 mod archives;
 mod board;
 mod code;
 mod locked;
 mod planner;
+mod text;
 mod types;
 mod vcpus;
 mod vioapic;
 mod vlapic;
 mod vpic;
 mod waiting;
+pub mod x86_vlapic;
 
 pub use self::{
+    archives::{IOAPIC_WORDS, LAPIC_WORDS, PIC_WORDS},
     board::{EmulatedBoard, IMAGE_SIZE},
     locked::Locked,
     planner::{TakenVectors, VectorRange, VectorShortage, check_vectors, plan_vectors, vector_shortage},
     types::{
-        X86AccessWidth, X86GuestPhysAddr, X86GuestPhysAddrRange, X86InterruptVector, X86MsrAddr, X86MsrAddrRange, X86Port,
-        X86PortRange, X86VcpuId, X86VlapicError, X86VlapicResult,
+        X86AccessWidth, X86GuestPhysAddr, X86GuestPhysAddrRange, X86HostPhysAddr, X86HostVirtAddr, X86InterruptVector,
+        X86MsrAddr, X86MsrAddrRange, X86Port, X86PortRange, X86VcpuId, X86VlapicError, X86VlapicResult,
     },
     vcpus::{LocalApicRegisters, SendingRegister, Vcpu, send_ipi},
     vioapic::{EmulatedIoApic, EmulatedIoApic11, EmulatedIoApic20, IoApicEoi, IoApicEois, IoApicInterrupt, IoApicWritten},

@@ -3,11 +3,13 @@
 use crate::{
     archives::*,
     code::{count, done, of_two, value},
+    text::vectors,
     types::{X86InterruptVector, X86VlapicResult},
 };
+use core::fmt::{Debug, Formatter};
 
 /// The vectors that a line may have, from a lowest to a highest, both in it.
-#[derive(Clone, Copy, Debug, Eq, PartialEq)]
+#[derive(Clone, Copy, Eq, PartialEq)]
 #[repr(transparent)]
 pub struct VectorRange(u16);
 
@@ -31,8 +33,14 @@ impl VectorRange {
     }
 }
 
+impl Debug for VectorRange {
+    fn fmt(&self, f: &mut Formatter<'_>) -> core::fmt::Result {
+        write!(f, "VectorRange({:#x}..={:#x})", self.lowest(), self.highest())
+    }
+}
+
 /// A set of vectors: those that are taken.
-#[derive(Clone, Copy, Debug, Default, Eq, PartialEq)]
+#[derive(Clone, Copy, Default, Eq, PartialEq)]
 pub struct TakenVectors([u64; 4]);
 
 impl TakenVectors {
@@ -52,6 +60,12 @@ impl TakenVectors {
     #[inline]
     pub const fn contains(&self, vector: X86InterruptVector) -> bool {
         self.0[vector as usize / 64] >> (vector % 64) & 1 != 0
+    }
+}
+
+impl Debug for TakenVectors {
+    fn fmt(&self, f: &mut Formatter<'_>) -> core::fmt::Result {
+        f.debug_tuple("TakenVectors").field(&vectors(|vector| self.contains(vector))).finish()
     }
 }
 

@@ -1,7 +1,10 @@
 //! Addresses, ports, widths and errors.
 //!
-//! After types.rs of x86_vlapic 0.5.4 (Copyright 2026 The Axvisor Team, Apache License 2.0; `NOTICE`). Changed: what the three chips don't use is left
-//! out, as are the addresses' pointers and hex forms; `X86VlapicError` has the refusals of document 01 in the place of the kinds that can't occur.
+//! After types.rs of x86_vlapic 0.5.4 (Copyright 2026 The Axvisor Team, Apache License 2.0; `NOTICE`). Changed: the timers' types are left out, and
+//! `X86VlapicError` has the refusals of document 01 in the place of the kinds that can't occur. The addresses, ports and ranges serve
+//! [`x86_vlapic`](crate::x86_vlapic) too, which has the original's errors.
+
+use core::fmt::{Debug, Formatter, LowerHex, UpperHex};
 
 /// What a call gives that can be refused.
 pub type X86VlapicResult<T = ()> = Result<T, X86VlapicError>;
@@ -81,33 +84,76 @@ impl core::fmt::Display for X86VlapicError {
 
 impl core::error::Error for X86VlapicError {}
 
-/// A guest physical address.
-#[derive(Clone, Copy, Debug, Eq, PartialEq, Ord, PartialOrd, Hash)]
-pub struct X86GuestPhysAddr(usize);
+/// The original's texts of a number: its name around it, and hex forms that have `0x` always.
+macro_rules! texts_of_number {
+    ($number:ident, $name:literal) => {
+        impl Debug for $number {
+            fn fmt(&self, f: &mut Formatter<'_>) -> core::fmt::Result {
+                write!(f, "{}({:#x})", $name, self.0)
+            }
+        }
 
-impl X86GuestPhysAddr {
-    /// The address with this number.
-    pub const fn from_usize(addr: usize) -> Self {
-        Self(addr)
-    }
+        impl LowerHex for $number {
+            fn fmt(&self, f: &mut Formatter<'_>) -> core::fmt::Result {
+                write!(f, "{:#x}", self.0)
+            }
+        }
 
-    /// The address's number.
-    pub const fn as_usize(self) -> usize {
-        self.0
-    }
+        impl UpperHex for $number {
+            fn fmt(&self, f: &mut Formatter<'_>) -> core::fmt::Result {
+                write!(f, "{:#X}", self.0)
+            }
+        }
+    };
 }
 
-impl From<usize> for X86GuestPhysAddr {
-    fn from(value: usize) -> Self {
-        Self(value)
-    }
+macro_rules! address {
+    ($address:ident, $name:literal, $what:literal) => {
+        #[doc = $what]
+        #[derive(Clone, Copy, Eq, PartialEq, Ord, PartialOrd, Hash)]
+        pub struct $address(usize);
+
+        impl $address {
+            /// The address with this number.
+            pub const fn from_usize(addr: usize) -> Self {
+                Self(addr)
+            }
+
+            /// The address's number.
+            pub const fn as_usize(self) -> usize {
+                self.0
+            }
+
+            /// The address as a pointer.
+            pub const fn as_ptr<T>(self) -> *const T {
+                self.0 as *const T
+            }
+
+            /// The address as a pointer for writing.
+            pub const fn as_mut_ptr<T>(self) -> *mut T {
+                self.0 as *mut T
+            }
+        }
+
+        impl From<usize> for $address {
+            fn from(value: usize) -> Self {
+                Self(value)
+            }
+        }
+
+        impl From<$address> for usize {
+            fn from(value: $address) -> Self {
+                value.0
+            }
+        }
+
+        texts_of_number!($address, $name);
+    };
 }
 
-impl From<X86GuestPhysAddr> for usize {
-    fn from(value: X86GuestPhysAddr) -> Self {
-        value.0
-    }
-}
+address!(X86GuestPhysAddr, "GPA", "A guest physical address.");
+address!(X86HostPhysAddr, "HPA", "A host physical address. No call here has one: a host's own code does.");
+address!(X86HostVirtAddr, "HVA", "A host virtual address. No call here has one: a host's own code does.");
 
 /// Guest physical addresses from `start` to before `end`.
 #[derive(Clone, Copy, Debug, Eq, PartialEq)]
@@ -119,6 +165,12 @@ pub struct X86GuestPhysAddrRange {
 }
 
 impl X86GuestPhysAddrRange {
+    /// From `start` to before `end`. As in the original, an end before the start panics.
+    pub fn new(start: X86GuestPhysAddr, end: X86GuestPhysAddr) -> Self {
+        assert!(start <= end, "invalid x86 guest physical address range");
+        Self { start, end }
+    }
+
     /// Whether the address is in the range.
     pub fn contains(self, addr: X86GuestPhysAddr) -> bool {
         self.start <= addr && addr < self.end
@@ -126,7 +178,7 @@ impl X86GuestPhysAddrRange {
 }
 
 /// A model-specific register's number.
-#[derive(Clone, Copy, Debug, Eq, PartialEq, Ord, PartialOrd, Hash)]
+#[derive(Clone, Copy, Eq, PartialEq, Ord, PartialOrd, Hash)]
 pub struct X86MsrAddr(usize);
 
 impl X86MsrAddr {
@@ -147,24 +199,10 @@ impl From<usize> for X86MsrAddr {
     }
 }
 
-/// Model-specific registers from `start` to `end`, both in it.
-#[derive(Clone, Copy, Debug, Eq, PartialEq)]
-pub struct X86MsrAddrRange {
-    /// The first register.
-    pub start: X86MsrAddr,
-    /// The last register.
-    pub end: X86MsrAddr,
-}
-
-impl X86MsrAddrRange {
-    /// Whether the register is in the range.
-    pub const fn contains(self, addr: X86MsrAddr) -> bool {
-        self.start.0 <= addr.0 && addr.0 <= self.end.0
-    }
-}
+texts_of_number!(X86MsrAddr, "MSR");
 
 /// An I/O port's number.
-#[derive(Clone, Copy, Debug, Eq, PartialEq, Ord, PartialOrd, Hash)]
+#[derive(Clone, Copy, Eq, PartialEq, Ord, PartialOrd, Hash)]
 pub struct X86Port(u16);
 
 impl X86Port {
@@ -185,60 +223,137 @@ impl From<u16> for X86Port {
     }
 }
 
-/// I/O ports from `start` to `end`, both in it.
-#[derive(Clone, Copy, Debug, Eq, PartialEq)]
-pub struct X86PortRange {
-    /// The first port.
-    pub start: X86Port,
-    /// The last port.
-    pub end: X86Port,
+texts_of_number!(X86Port, "Port");
+
+macro_rules! inclusive_range {
+    ($range:ident of $number:ident, $what:literal, $first:literal, $last:literal) => {
+        #[doc = $what]
+        #[derive(Clone, Copy, Debug, Eq, PartialEq)]
+        pub struct $range {
+            #[doc = $first]
+            pub start: $number,
+            #[doc = $last]
+            pub end: $number,
+        }
+
+        impl $range {
+            /// From `start` to `end`, both in it.
+            pub const fn new(start: $number, end: $number) -> Self {
+                Self { start, end }
+            }
+
+            /// Whether it is in the range.
+            pub const fn contains(self, one: $number) -> bool {
+                self.start.0 <= one.0 && one.0 <= self.end.0
+            }
+        }
+    };
 }
 
-impl X86PortRange {
-    /// Whether the port is in the range.
-    pub const fn contains(self, port: X86Port) -> bool {
-        self.start.0 <= port.0 && port.0 <= self.end.0
-    }
+inclusive_range!(X86MsrAddrRange of X86MsrAddr, "Model-specific registers from `start` to `end`, both in it.", "The first register.", "The last register.");
+inclusive_range!(X86PortRange of X86Port, "I/O ports from `start` to `end`, both in it.", "The first port.", "The last port.");
+
+/// The width type, whose conversion from a number fails with `$error`: here and in [`x86_vlapic`](crate::x86_vlapic).
+macro_rules! access_width {
+    ($error:ident) => {
+        /// The width of a guest's access.
+        #[derive(Clone, Copy, Debug, Eq, PartialEq, Ord, PartialOrd, Hash)]
+        pub enum X86AccessWidth {
+            /// 8 bits.
+            Byte,
+            /// 16 bits.
+            Word,
+            /// 32 bits.
+            Dword,
+            /// 64 bits.
+            Qword,
+        }
+
+        impl X86AccessWidth {
+            /// The width in bytes.
+            #[inline]
+            pub const fn size(self) -> usize {
+                1 << self as usize
+            }
+
+            /// The bits of a number that an access of this width has.
+            pub fn bits_range(self) -> core::ops::Range<usize> {
+                0..8 * self.size()
+            }
+        }
+
+        impl TryFrom<usize> for X86AccessWidth {
+            type Error = $error;
+
+            fn try_from(value: usize) -> Result<Self, Self::Error> {
+                match value {
+                    1 => Ok(Self::Byte),
+                    2 => Ok(Self::Word),
+                    4 => Ok(Self::Dword),
+                    8 => Ok(Self::Qword),
+                    _ => Err($error::InvalidInput),
+                }
+            }
+        }
+
+        impl From<X86AccessWidth> for usize {
+            fn from(value: X86AccessWidth) -> Self {
+                value.size()
+            }
+        }
+    };
 }
+pub(crate) use access_width;
 
-/// The width of a guest's access. The discriminant is its size in bytes.
-#[derive(Clone, Copy, Debug, Eq, PartialEq, Ord, PartialOrd, Hash)]
-#[repr(u8)]
-pub enum X86AccessWidth {
-    /// 8 bits.
-    Byte = 1,
-    /// 16 bits.
-    Word = 2,
-    /// 32 bits.
-    Dword = 4,
-    /// 64 bits.
-    Qword = 8,
-}
+access_width!(X86VlapicError);
 
-impl X86AccessWidth {
-    /// The width in bytes.
-    #[inline]
-    pub const fn size(self) -> usize {
-        self as usize
-    }
-}
+#[cfg(test)]
+mod tests {
+    use super::*;
+    use std::format;
 
-impl TryFrom<usize> for X86AccessWidth {
-    type Error = X86VlapicError;
-
-    fn try_from(value: usize) -> Result<Self, Self::Error> {
-        match value {
-            1 => Ok(Self::Byte),
-            2 => Ok(Self::Word),
-            4 => Ok(Self::Dword),
-            8 => Ok(Self::Qword),
-            _ => Err(X86VlapicError::InvalidInput),
+    #[test]
+    fn errors_have_their_numbers() {
+        for number in (1..=5).chain(8..=11) {
+            assert_eq!(X86VlapicError::of_number(number).number(), number);
         }
     }
-}
 
-impl From<X86AccessWidth> for usize {
-    fn from(value: X86AccessWidth) -> Self {
-        value.size()
+    #[test]
+    fn numbers_have_the_originals_texts() {
+        let [gpa, msr, port] = [
+            format!("{0:?} {0:x} {0:X}", X86GuestPhysAddr::from_usize(0xfec0_0000)),
+            format!("{0:?} {0:x} {0:X}", X86MsrAddr::new(0x83f)),
+            format!("{0:?} {0:x} {0:X}", X86Port::new(0xa1)),
+        ];
+        assert_eq!(gpa, "GPA(0xfec00000) 0xfec00000 0xFEC00000");
+        assert_eq!(msr, "MSR(0x83f) 0x83f 0x83F");
+        assert_eq!(port, "Port(0xa1) 0xa1 0xA1");
+    }
+
+    #[test]
+    fn ranges_hold_their_ends_as_they_say() {
+        let [low, high] = [0x20, 0x21].map(X86Port::new);
+        assert!(X86PortRange::new(low, high).contains(high));
+        let [low, high] = [0x1000, 0x2000].map(X86GuestPhysAddr::from_usize);
+        let range = X86GuestPhysAddrRange::new(low, high);
+        assert!(range.contains(low) && !range.contains(high));
+    }
+
+    #[test]
+    #[should_panic(expected = "invalid x86 guest physical address range")]
+    fn a_range_has_no_end_before_its_start() {
+        let [low, high] = [0x1000, 0x2000].map(X86GuestPhysAddr::from_usize);
+        X86GuestPhysAddrRange::new(high, low);
+    }
+
+    #[test]
+    fn widths_are_1_2_4_and_8() {
+        for bytes in 0..=9 {
+            match X86AccessWidth::try_from(bytes) {
+                Ok(width) => assert_eq!((width.size(), width.bits_range()), (bytes, 0..8 * bytes)),
+                Err(error) => assert_eq!((error, [1, 2, 4, 8].contains(&bytes)), (X86VlapicError::InvalidInput, false)),
+            }
+        }
     }
 }

@@ -3,12 +3,14 @@
 use crate::{
     archives::*,
     code::done,
+    text::{Hex, vectors},
     types::{X86AccessWidth, X86InterruptVector, X86VcpuId, X86VlapicResult},
     vlapic::{Ipi, ipi_of},
 };
+use core::fmt::{Debug, Formatter};
 
 /// The registers of a vCPU's local APIC, in the order of the words of an [`EmulatedLocalApic`](crate::EmulatedLocalApic).
-#[derive(Clone, Copy, Debug, Eq, PartialEq)]
+#[derive(Clone, Copy, Eq, PartialEq)]
 #[repr(C)]
 #[allow(missing_docs)] // the registers' own names
 pub struct LocalApicRegisters {
@@ -37,6 +39,102 @@ pub struct LocalApicRegisters {
     pub isr: [u32; 8],
     pub tmr: [u32; 8],
     pub irr: [u32; 8],
+}
+
+impl LocalApicRegisters {
+    /// The registers in the words of an [`EmulatedLocalApic`](crate::EmulatedLocalApic), of which bits 31..0 count.
+    pub fn from_words(words: &[u64; LAPIC_WORDS]) -> Self {
+        let one = |place: usize| words[place] as u32;
+        let eight = |first: usize| core::array::from_fn(|k| one(first + k));
+        Self {
+            x2apic: words[0] != 0,
+            id: one(1),
+            tpr: one(2),
+            ppr: one(3),
+            ldr: one(4),
+            dfr: one(5),
+            svr: one(6),
+            esr: one(7),
+            esr_pending: one(8),
+            icr_lo: one(9),
+            icr_hi: one(10),
+            lvt_cmci: one(11),
+            lvt_timer: one(12),
+            lvt_thermal: one(13),
+            lvt_pmi: one(14),
+            lvt_lint0: one(15),
+            lvt_lint1: one(16),
+            lvt_error: one(17),
+            isr: eight(18),
+            tmr: eight(26),
+            irr: eight(34),
+        }
+    }
+
+    /// The words of an [`EmulatedLocalApic`](crate::EmulatedLocalApic) with these registers, the spare ones 0: its
+    /// [`from_words`](crate::EmulatedLocalApic::from_words) takes them, so that its calls serve a vCPU's record.
+    pub fn to_words(&self) -> [u64; LAPIC_WORDS] {
+        let single = [
+            self.x2apic.into(),
+            self.id,
+            self.tpr,
+            self.ppr,
+            self.ldr,
+            self.dfr,
+            self.svr,
+            self.esr,
+            self.esr_pending,
+            self.icr_lo,
+            self.icr_hi,
+            self.lvt_cmci,
+            self.lvt_timer,
+            self.lvt_thermal,
+            self.lvt_pmi,
+            self.lvt_lint0,
+            self.lvt_lint1,
+            self.lvt_error,
+        ];
+        let mut words = [0; LAPIC_WORDS];
+        let registers = single.into_iter().chain(self.isr).chain(self.tmr).chain(self.irr);
+        words.iter_mut().zip(registers).for_each(|(word, register)| *word = register.into());
+        words
+    }
+
+    /// The registers for people: hexadecimal, and vectors one by one.
+    pub(crate) fn said(&self, name: &str, f: &mut Formatter<'_>) -> core::fmt::Result {
+        let mut said = f.debug_struct(name);
+        said.field("x2apic", &self.x2apic).field("id", &self.id);
+        for (name, register) in [
+            ("tpr", self.tpr),
+            ("ppr", self.ppr),
+            ("ldr", self.ldr),
+            ("dfr", self.dfr),
+            ("svr", self.svr),
+            ("esr", self.esr),
+            ("esr_pending", self.esr_pending),
+            ("icr_lo", self.icr_lo),
+            ("icr_hi", self.icr_hi),
+            ("lvt_cmci", self.lvt_cmci),
+            ("lvt_timer", self.lvt_timer),
+            ("lvt_thermal", self.lvt_thermal),
+            ("lvt_pmi", self.lvt_pmi),
+            ("lvt_lint0", self.lvt_lint0),
+            ("lvt_lint1", self.lvt_lint1),
+            ("lvt_error", self.lvt_error),
+        ] {
+            said.field(name, &Hex(register));
+        }
+        for (name, set) in [("isr", self.isr), ("tmr", self.tmr), ("irr", self.irr)] {
+            said.field(name, &vectors(|vector| set[vector as usize / 32] >> (vector % 32) & 1 != 0));
+        }
+        said.finish()
+    }
+}
+
+impl Debug for LocalApicRegisters {
+    fn fmt(&self, f: &mut Formatter<'_>) -> core::fmt::Result {
+        self.said("LocalApicRegisters", f)
+    }
 }
 
 /// One vCPU's record.

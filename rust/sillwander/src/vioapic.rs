@@ -7,14 +7,20 @@
 use crate::{
     archives::*,
     code::{count, done, of_three, of_two, set_of_two, value},
-    types::{X86AccessWidth, X86GuestPhysAddr, X86GuestPhysAddrRange, X86VlapicResult},
+    text::{Entries, Hex},
+    types::{X86AccessWidth, X86GuestPhysAddr, X86GuestPhysAddrRange, X86VlapicError, X86VlapicResult},
 };
+use core::fmt::{Debug, Formatter};
 
 const IOAPIC_SIZE: usize = 0x1000;
 const VERSION_11: u64 = 0x11;
+const VERSION_20: u64 = 0x20;
 const IOEOI: u64 = 0x40;
-/// The word that holds the base address.
+/// The words that hold the selector, the base address, the size and the version.
+const SELECTOR: usize = 26;
 const BASE: usize = 27;
+const SIZE: usize = 28;
+pub(crate) const VERSION: usize = 29;
 
 /// An interrupt that the I/O APIC sends.
 #[derive(Clone, Copy, Debug, Eq, PartialEq)]
@@ -102,7 +108,6 @@ fn lines(mut set: u32) -> impl Iterator<Item = usize> {
 pub type EmulatedIoApic = EmulatedIoApic20;
 
 /// A 24-line I/O APIC of version 0x11 (82093AA), the original's, with its signatures.
-#[derive(Debug)]
 pub struct EmulatedIoApic11 {
     words: [u64; IOAPIC_WORDS],
 }
@@ -124,7 +129,6 @@ pub struct EmulatedIoApic11 {
 /// assert_eq!(io.end_of_interrupt(0x41), Some(IoApicEois { cleared: 0b101000, sent: 0b101000 }));
 /// # Ok::<(), sillwander::X86VlapicError>(())
 /// ```
-#[derive(Debug)]
 pub struct EmulatedIoApic20 {
     words: [u64; IOAPIC_WORDS],
 }
@@ -137,7 +141,7 @@ pub(crate) fn sent(code: u64) -> Option<IoApicInterrupt> {
 
 /// What is the same in both versions.
 macro_rules! calls_of_both_versions {
-    ($($chip:ident),*) => {$(
+    ($($chip:ident, $is_20:literal;)*) => {$(
         impl $chip {
             /// The vector programmed for a line. None where its entry is masked, isn't of fixed delivery or has a vector below 16, and from line 24 up.
             #[inline]
@@ -165,7 +169,26 @@ macro_rules! calls_of_both_versions {
                 let code = sillwander_ioapic_address_range(&self.words, &mut range);
                 debug_assert!(code == 0, "new saw that base + size fits");
                 let [start, end] = range.map(|address| X86GuestPhysAddr::from_usize(address as usize));
-                X86GuestPhysAddrRange { start, end }
+                X86GuestPhysAddrRange::new(start, end)
+            }
+
+            /// The words, in the layout that include/sillwander.h has.
+            pub const fn to_words(&self) -> [u64; IOAPIC_WORDS] {
+                self.words
+            }
+
+            /// The I/O APIC with these words. Any are answered, and none makes a call fault; but what docs/PROMISES.md says of states that calls made holds of words from
+            /// [`to_words`](Self::to_words), and nothing here sees whether these are such. The road that does is
+            /// [`EmulatedBoard::restore`](crate::EmulatedBoard::restore).
+            ///
+            /// [`BadImage`](X86VlapicError::BadImage) for words of the other version; then [`InvalidAddress`](X86VlapicError::InvalidAddress) for a base and size whose sum is
+            /// 2^64 or more.
+            pub fn from_words(words: [u64; IOAPIC_WORDS]) -> X86VlapicResult<Self> {
+                if (words[VERSION] == VERSION_20) != $is_20 {
+                    return Err(X86VlapicError::BadImage);
+                }
+                done(sillwander_ioapic_address_range(&words, &mut [0; 2]))?;
+                Ok(Self { words })
             }
 
             /// A memory read. [`Unsupported`](crate::X86VlapicError::Unsupported) for a width of 1 or 2 bytes; then
@@ -181,9 +204,26 @@ macro_rules! calls_of_both_versions {
                 Self::new_default()
             }
         }
+
+        impl Debug for $chip {
+            fn fmt(&self, f: &mut Formatter<'_>) -> core::fmt::Result {
+                said(stringify!($chip), &self.words, f)
+            }
+        }
     )*};
 }
-calls_of_both_versions!(EmulatedIoApic11, EmulatedIoApic20);
+calls_of_both_versions!(EmulatedIoApic11, false; EmulatedIoApic20, true;);
+
+/// The words for people: the entries that aren't as new, one by one.
+pub(crate) fn said(name: &str, words: &[u64; IOAPIC_WORDS], f: &mut Formatter<'_>) -> core::fmt::Result {
+    f.debug_struct(name)
+        .field("version", &Hex(if words[VERSION] == VERSION_20 { VERSION_20 } else { VERSION_11 }))
+        .field("base", &X86GuestPhysAddr::from_usize(words[BASE] as usize))
+        .field("size", &Hex(words[SIZE]))
+        .field("selector", &Hex(words[SELECTOR] as u32))
+        .field("entries", &Entries(words))
+        .finish()
+}
 
 impl EmulatedIoApic11 {
     /// An I/O APIC at a base address, of 0x1000 bytes where no size is given. [`InvalidAddress`](crate::X86VlapicError::InvalidAddress) where base + size is 2^64 or

@@ -10,13 +10,15 @@ use crate::{
         X86AccessWidth, X86GuestPhysAddr, X86GuestPhysAddrRange, X86MsrAddr, X86MsrAddrRange, X86VcpuId, X86VlapicError,
         X86VlapicResult,
     },
+    vcpus::LocalApicRegisters,
 };
+use core::fmt::{Debug, Formatter};
 
 const MMIO_BASE: usize = 0xfee0_0000;
 const MMIO_SIZE: usize = 0x1000;
-const MSR_BASE: usize = 0x800;
+pub(crate) const MSR_BASE: usize = 0x800;
 const MSR_COUNT: usize = 0x100;
-const ICR: usize = 0x300;
+pub(crate) const ICR: usize = 0x300;
 const ICR_HIGH: usize = 0x310;
 
 /// What an IPI is. The discriminant is the interrupt command's delivery mode.
@@ -45,7 +47,6 @@ pub struct Ipi {
 }
 
 /// One vCPU's local APIC: its in-service, priority, command and local vector registers.
-#[derive(Debug)]
 pub struct EmulatedLocalApic {
     words: [u64; LAPIC_WORDS],
 }
@@ -56,6 +57,17 @@ impl EmulatedLocalApic {
         let mut words = [0; LAPIC_WORDS];
         done(sillwander_lapic_setup(&mut words, x2apic.into(), vcpu_id as u64, vcpu_num as u64))?;
         Ok(Self { words })
+    }
+
+    /// The words, in the layout that include/sillwander.h has.
+    pub const fn to_words(&self) -> [u64; LAPIC_WORDS] {
+        self.words
+    }
+
+    /// The local APIC with these words. Any are answered, and none makes a call fault; but what docs/PROMISES.md says of states that calls made holds of words from
+    /// [`to_words`](Self::to_words), and nothing here sees whether these are such. The road that does is [`EmulatedBoard::restore`](crate::EmulatedBoard::restore).
+    pub const fn from_words(words: [u64; LAPIC_WORDS]) -> Self {
+        Self { words }
     }
 
     /// The processor accepted an interrupt.
@@ -107,15 +119,13 @@ impl EmulatedLocalApic {
 
     /// The addresses of the register page in xAPIC mode.
     pub fn mmio_address_range(&self) -> X86GuestPhysAddrRange {
-        X86GuestPhysAddrRange {
-            start: X86GuestPhysAddr::from_usize(MMIO_BASE),
-            end: X86GuestPhysAddr::from_usize(MMIO_BASE + MMIO_SIZE),
-        }
+        let [start, end] = [MMIO_BASE, MMIO_BASE + MMIO_SIZE].map(X86GuestPhysAddr::from_usize);
+        X86GuestPhysAddrRange::new(start, end)
     }
 
     /// The registers in x2APIC mode. As in the original, the last one is the one after them.
     pub fn msr_address_range(&self) -> X86MsrAddrRange {
-        X86MsrAddrRange { start: X86MsrAddr::new(MSR_BASE), end: X86MsrAddr::new(MSR_BASE + MSR_COUNT) }
+        X86MsrAddrRange::new(X86MsrAddr::new(MSR_BASE), X86MsrAddr::new(MSR_BASE + MSR_COUNT))
     }
 
     /// [`handle_read`](Self::handle_read) by the address in xAPIC mode. The width doesn't matter.
@@ -158,6 +168,12 @@ impl EmulatedLocalApic {
     }
 }
 
+impl Debug for EmulatedLocalApic {
+    fn fmt(&self, f: &mut Formatter<'_>) -> core::fmt::Result {
+        LocalApicRegisters::from_words(&self.words).said("EmulatedLocalApic", f)
+    }
+}
+
 impl Default for EmulatedLocalApic {
     /// The local APIC of vCPU 0 in xAPIC mode.
     fn default() -> Self {
@@ -190,6 +206,6 @@ fn offset_in_page(addr: X86GuestPhysAddr) -> X86VlapicResult<usize> {
 }
 
 /// Register n is at offset n * 16.
-fn offset_of_msr(addr: X86MsrAddr) -> X86VlapicResult<usize> {
+pub(crate) fn offset_of_msr(addr: X86MsrAddr) -> X86VlapicResult<usize> {
     addr.addr().checked_sub(MSR_BASE).and_then(|number| number.checked_mul(0x10)).ok_or(X86VlapicError::InvalidInput)
 }

@@ -7,6 +7,7 @@
 use crate::{
     archives::*,
     code::{done, of_three, value},
+    text::Pic,
     types::{X86AccessWidth, X86Port, X86PortRange, X86VlapicResult},
 };
 use core::{
@@ -76,7 +77,6 @@ pub enum PicRule {
 }
 
 /// A PC's two 8259s: the master's lines are 0 to 7, the slave's 8 to 15.
-#[derive(Debug)]
 pub struct EmulatedPic {
     words: [u64; PIC_WORDS],
 }
@@ -115,6 +115,26 @@ impl EmulatedPic {
         Self { words }
     }
 
+    /// The words, in the layout that include/sillwander.h has.
+    pub const fn to_words(&self) -> [u64; PIC_WORDS] {
+        self.words
+    }
+
+    /// The pair with these words. Any are answered, and none makes a call fault; but what docs/PROMISES.md says of states that calls made holds of words from
+    /// [`to_words`](Self::to_words), and nothing here sees whether these are such. The road that does is [`EmulatedBoard::restore`](crate::EmulatedBoard::restore).
+    pub const fn from_words(words: [u64; PIC_WORDS]) -> Self {
+        Self { words }
+    }
+
+    /// Its rule. Any number but 1 and 2 stands for the first.
+    fn rule(&self) -> PicRule {
+        match self.words[2] {
+            1 => PicRule::Cascade,
+            2 => PicRule::Full,
+            _ => PicRule::Latch,
+        }
+    }
+
     /// The words, for the waiting lists' claims and for images.
     #[inline]
     pub(crate) fn words(&mut self) -> &mut [u64; PIC_WORDS] {
@@ -132,7 +152,7 @@ impl EmulatedPic {
         let mut ranges = [0; 4];
         sillwander_pic_port_ranges(&mut ranges);
         let [master_start, master_end, slave_start, slave_end] = ranges.map(|port| X86Port::new(port as u16));
-        [X86PortRange { start: master_start, end: master_end }, X86PortRange { start: slave_start, end: slave_end }]
+        [X86PortRange::new(master_start, master_end), X86PortRange::new(slave_start, slave_end)]
     }
 
     /// An edge on a line, and the vector that can then be delivered. Such a one can't be restored.
@@ -179,6 +199,14 @@ impl EmulatedPic {
     #[inline]
     pub fn handle_write(&mut self, port: X86Port, width: X86AccessWidth, value: usize) -> X86VlapicResult {
         done(sillwander_pic_handle_write(&mut self.words, port.number().into(), width.size() as u64, value as u64)).map(|_| ())
+    }
+}
+
+impl Debug for EmulatedPic {
+    fn fmt(&self, f: &mut Formatter<'_>) -> core::fmt::Result {
+        let rule = self.rule();
+        let chip = |place: usize| Pic { word: self.words[place], is_full: rule == PicRule::Full, first: 8 * place };
+        f.debug_struct("EmulatedPic").field("rule", &rule).field("master", &chip(0)).field("slave", &chip(1)).finish()
     }
 }
 

@@ -38,6 +38,18 @@ impl<const VCPUS: usize> WaitingLists<VCPUS> {
         Self { lists: [[0; LIST_BYTES]; VCPUS] }
     }
 
+    /// The lists' bytes, in the layout that include/sillwander.h has, to move them with a board's image.
+    pub const fn to_bytes(&self) -> [[u8; LIST_BYTES]; VCPUS] {
+        self.lists
+    }
+
+    /// The lists with these bytes. Any are lists: a place counts modulo 64, and a count above 64 as 64.
+    pub const fn from_bytes(lists: [[u8; LIST_BYTES]; VCPUS]) -> Self {
+        let mut new = Self::new();
+        new.lists = lists;
+        new
+    }
+
     #[inline]
     fn bytes(&mut self) -> (*mut u8, usize) {
         (self.lists.as_mut_ptr().cast(), VCPUS * LIST_BYTES)
@@ -93,7 +105,12 @@ impl<const VCPUS: usize> WaitingLists<VCPUS> {
     ///
     /// `ListFull` where something was claimed and 64 wait: the claim is restored then, and the raised line stays latched. What is answered can't be restored: it waits.
     #[inline]
-    pub fn claim_irq(&mut self, pic: &mut EmulatedPic, vcpu_id: X86VcpuId, irq: u8) -> X86VlapicResult<Option<X86InterruptVector>> {
+    pub fn claim_irq(
+        &mut self,
+        pic: &mut EmulatedPic,
+        vcpu_id: X86VcpuId,
+        irq: u8,
+    ) -> X86VlapicResult<Option<X86InterruptVector>> {
         let (lists, bytes) = self.bytes();
         // SAFETY: as above.
         done(unsafe { sillwander_waiting_claim_irq(lists, bytes, pic.words(), vcpu_id, irq.into()) }).map(claimed)
@@ -101,7 +118,11 @@ impl<const VCPUS: usize> WaitingLists<VCPUS> {
 
     /// The same of what can be delivered after a change of the pair.
     #[inline]
-    pub fn claim_pending_interrupt(&mut self, pic: &mut EmulatedPic, vcpu_id: X86VcpuId) -> X86VlapicResult<Option<X86InterruptVector>> {
+    pub fn claim_pending_interrupt(
+        &mut self,
+        pic: &mut EmulatedPic,
+        vcpu_id: X86VcpuId,
+    ) -> X86VlapicResult<Option<X86InterruptVector>> {
         let (lists, bytes) = self.bytes();
         // SAFETY: as above.
         done(unsafe { sillwander_waiting_claim_pending_interrupt(lists, bytes, pic.words(), vcpu_id) }).map(claimed)
