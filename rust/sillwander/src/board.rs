@@ -156,3 +156,46 @@ impl Default for EmulatedBoard {
         Self::new()
     }
 }
+
+#[cfg(test)]
+mod tests {
+    use super::*;
+    use crate::{EmulatedLocalApic, PicRule};
+    use std::format;
+
+    #[test]
+    fn both_chips_are_said() {
+        let mut board = EmulatedBoard::new();
+        board.receive(0x41, false);
+        let said = format!("{board:?}");
+        assert!(
+            said.starts_with("EmulatedBoard { ioapic: IoApic { version: 0x20, base: GPA(0xfec00000), size: 0x1000, "),
+            "{said}"
+        );
+        assert!(said.ends_with("isr: [], tmr: [], irr: [0x41] } }"), "{said}");
+    }
+
+    #[test]
+    fn words_make_the_same_board() {
+        let mut board = EmulatedBoard::new();
+        board.receive(0x41, false);
+        let (ioapic, apic) = board.to_words();
+        let mut again = EmulatedBoard::from_words(ioapic, apic).expect("they are a board's own");
+        assert_eq!((again.accept_interrupt(), board.accept_interrupt()), (Some(0x41), Some(0x41)));
+        assert_eq!(again.to_words(), board.to_words());
+    }
+
+    /// Words that no call made are taken by `from_words`, and not by `restore`.
+    #[test]
+    fn the_checked_road_is_restore() {
+        let (mut ioapic, _) = EmulatedBoard::new().to_words();
+        ioapic[30] = 1; // in flight, and the register of entry 0 doesn't say so
+        let made_up = EmulatedBoard::from_words(ioapic, EmulatedLocalApic::default().to_words()).expect("any are answered");
+        let mut pic = EmulatedPic::new_rule(PicRule::Cascade);
+        let mut image = [0; IMAGE_SIZE];
+        assert_eq!(made_up.save(&pic, &mut image), Ok(IMAGE_SIZE));
+        assert_eq!(EmulatedBoard::new().restore(&mut pic, &image), Err(X86VlapicError::BadImage));
+        ioapic[VERSION] = 0x11;
+        assert_eq!(EmulatedBoard::from_words(ioapic, [0; LAPIC_WORDS]).err(), Some(X86VlapicError::BadImage));
+    }
+}

@@ -43,3 +43,21 @@ pub const fn set_of_two(code: u64, k: u32) -> u32 {
 pub const fn of_three(code: u64, k: u32) -> u8 {
     (code >> (16 * k)) as u8
 }
+
+#[cfg(test)]
+mod tests {
+    use super::*;
+
+    #[test]
+    fn codes_are_read_as_the_header_has_them() {
+        assert_eq!(done(0), Ok(0));
+        assert_eq!(done(4 << 56), Err(X86VlapicError::InvalidAddress));
+        let one = 1 << 48 | 0xffff_fffe;
+        assert_eq!((count(one), value(one)), (1, 0xffff_fffe));
+        let two = 2 << 48 | 0xab_cdef << 24 | 0x12_3456;
+        assert_eq!((count(two), of_two(two, 0), of_two(two, 1)), (2, 0x56, 0xef));
+        assert_eq!((set_of_two(two, 0), set_of_two(two, 1)), (0x12_3456, 0xab_cdef));
+        let three = 3 << 48 | 0x03 << 32 | 0x0c << 16 | 0x74;
+        assert_eq!((count(three), [0, 1, 2].map(|k| of_three(three, k))), (3, [0x74, 0x0c, 0x03]));
+    }
+}

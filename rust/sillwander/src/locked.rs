@@ -74,3 +74,27 @@ impl<T> Debug for Locked<T> {
         f.debug_struct("Locked").field("is_locked", &self.is_locked).finish_non_exhaustive()
     }
 }
+
+#[cfg(test)]
+mod tests {
+    use super::*;
+    use std::{panic::catch_unwind, sync::Arc, thread};
+
+    #[test]
+    fn no_addition_is_lost() {
+        let sum = Arc::new(Locked::new(0));
+        let adders = [1, 2, 3].map(|step| {
+            let sum = Arc::clone(&sum);
+            thread::spawn(move || (0..1000).for_each(|_| sum.with(|sum| *sum += step)))
+        });
+        adders.into_iter().for_each(|adder| adder.join().expect("it only adds"));
+        assert_eq!(sum.with(|sum| *sum), 6000);
+    }
+
+    #[test]
+    fn a_panic_gives_the_lock_back() {
+        let value = std::panic::AssertUnwindSafe(Locked::new(1));
+        assert!(catch_unwind(|| value.with(|_| panic!("in the closure"))).is_err());
+        assert_eq!(value.with(|value| *value), 1);
+    }
+}

@@ -106,3 +106,32 @@ pub fn vector_shortage(ranges: &[VectorRange], taken: &TakenVectors) -> X86Vlapi
     let code = done(unsafe { sillwander_plan_shortage(ranges.as_ptr().cast(), ranges.len(), &taken.0, &mut lines) })?;
     Ok((count(code) == 2).then(|| VectorShortage { lowest: of_two(code, 0), highest: of_two(code, 1), lines: lines[0] as u32 }))
 }
+
+#[cfg(test)]
+mod tests {
+    use super::*;
+    use std::format;
+
+    #[test]
+    fn ranges_and_sets_are_said_in_words() {
+        let mut taken = TakenVectors::new();
+        [0x30, 0xff, 0x3f].into_iter().for_each(|vector| taken.insert(vector));
+        assert_eq!(
+            format!("{:?} {taken:?}", VectorRange::new(0x30, 0x4f)),
+            "VectorRange(0x30..=0x4f) TakenVectors([0x30, 0x3f, 0xff])"
+        );
+    }
+
+    #[test]
+    fn a_plan_avoids_what_is_taken() {
+        let mut taken = TakenVectors::new();
+        taken.insert(0x30);
+        let ranges = [VectorRange::new(0x30, 0x31); 2];
+        let mut plan = [0; 2];
+        assert_eq!(plan_vectors(&ranges[..1], &taken, &mut plan), Ok(()));
+        assert_eq!(plan, [0x31, 0]);
+        assert_eq!(plan_vectors(&ranges, &taken, &mut plan), Err(crate::X86VlapicError::NoPlan));
+        let shortage = VectorShortage { lowest: 0x30, highest: 0x31, lines: 0b11 };
+        assert_eq!(vector_shortage(&ranges, &taken), Ok(Some(shortage)));
+    }
+}

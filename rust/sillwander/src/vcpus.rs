@@ -232,3 +232,31 @@ pub fn send_ipi(
     };
     Ok(ipi_of(done(sent.code)?, sent.mask))
 }
+
+#[cfg(test)]
+mod tests {
+    use super::*;
+    use crate::EmulatedLocalApic;
+
+    /// The header's table: word 6 is SVR, 10 the ICR's high word, 17 the error LVT, and the last of IRR 41.
+    #[test]
+    fn registers_and_words_are_one() {
+        let words = core::array::from_fn(|place| match place {
+            0 => 1,
+            1..42 => place as u64 * 0x0101_0101,
+            _ => 0,
+        });
+        let registers = LocalApicRegisters::from_words(&words);
+        assert_eq!([registers.svr, registers.icr_hi, registers.lvt_error], [6, 10, 17].map(|place| place * 0x0101_0101));
+        assert_eq!([registers.isr[0], registers.tmr[0], registers.irr[7]], [18, 26, 41].map(|place| place * 0x0101_0101));
+        assert_eq!(registers.to_words(), words);
+    }
+
+    #[test]
+    fn a_new_vcpu_has_a_new_local_apic() {
+        for x2apic in [false, true] {
+            let local = EmulatedLocalApic::new(x2apic, 0, 1).expect("an id below 64");
+            assert_eq!(Vcpu::new(x2apic).regs.to_words(), local.to_words());
+        }
+    }
+}

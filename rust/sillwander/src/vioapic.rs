@@ -293,3 +293,63 @@ impl EmulatedIoApic20 {
         Ok(IoApicWritten::of(code, &self.words, addr))
     }
 }
+
+#[cfg(test)]
+mod tests {
+    use super::*;
+    use std::format;
+
+    const WINDOW: X86GuestPhysAddr = X86GuestPhysAddr::from_usize(IOAPIC_BASE + 0x10);
+
+    /// Entry 2: level-triggered, vector 0x30, to the processors of the set 3; its line is up.
+    fn with_a_line_up() -> EmulatedIoApic20 {
+        let mut io = EmulatedIoApic20::new_default();
+        for (register, word) in [(0x15, 0x0300_0000), (0x14, 0x8830)] {
+            let select = io.handle_write(X86GuestPhysAddr::from_usize(IOAPIC_BASE), X86AccessWidth::Dword, register);
+            let write = io.handle_write(WINDOW, X86AccessWidth::Dword, word);
+            assert_eq!((select, write), (Ok(IoApicWritten::Done), Ok(IoApicWritten::Done)));
+        }
+        assert!(io.set_gsi_level(2, true).is_some());
+        io
+    }
+
+    #[test]
+    fn entries_are_said_in_words() {
+        assert_eq!(
+            format!("{:?}", EmulatedIoApic20::new_default()),
+            "EmulatedIoApic20 { version: 0x20, base: GPA(0xfec00000), size: 0x1000, selector: 0x0, entries: {} }"
+        );
+        let mut io = with_a_line_up();
+        let said =
+            |io: &EmulatedIoApic20| format!("{io:?}").split_once("entries: ").expect("entries are said").1.replace(" }", "");
+        assert_eq!(said(&io), "{2: vector 0x30, fixed, level, logical 0x3, in flight, line up}");
+        io.set_gsi_level(2, false);
+        assert_eq!(io.handle_write(WINDOW, X86AccessWidth::Dword, 0x1_a430), Ok(IoApicWritten::Done));
+        assert_eq!(said(&io), "{2: vector 0x30, NMI, level, physical 0x3, active low, masked, in flight}");
+    }
+
+    #[test]
+    fn words_make_the_same_chip() {
+        let mut io = with_a_line_up();
+        let mut again = EmulatedIoApic20::from_words(io.to_words()).expect("they are a chip's own");
+        assert_eq!(again.to_words(), io.to_words());
+        assert_eq!(again.end_of_interrupt(0x30), io.end_of_interrupt(0x30));
+    }
+
+    #[test]
+    fn words_of_another_version_or_range_are_refused() {
+        let mut words = with_a_line_up().to_words();
+        assert_eq!(EmulatedIoApic::from_words(words).err(), Some(X86VlapicError::BadImage));
+        words[SIZE] = u64::MAX;
+        assert_eq!(EmulatedIoApic20::from_words(words).err(), Some(X86VlapicError::InvalidAddress));
+        words[VERSION] = 0x11;
+        assert_eq!(EmulatedIoApic20::from_words(words).err(), Some(X86VlapicError::BadImage));
+    }
+
+    #[test]
+    fn lines_come_from_the_lowest_up() {
+        let ended = IoApicEois { cleared: 1 << 23 | 0b101, sent: 0 };
+        assert!(ended.cleared_lines().eq([0, 2, 23]));
+        assert_eq!(ended.sent_lines().next(), None);
+    }
+}

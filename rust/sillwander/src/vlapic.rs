@@ -209,3 +209,45 @@ fn offset_in_page(addr: X86GuestPhysAddr) -> X86VlapicResult<usize> {
 pub(crate) fn offset_of_msr(addr: X86MsrAddr) -> X86VlapicResult<usize> {
     addr.addr().checked_sub(MSR_BASE).and_then(|number| number.checked_mul(0x10)).ok_or(X86VlapicError::InvalidInput)
 }
+
+#[cfg(test)]
+mod tests {
+    use super::*;
+    use std::format;
+
+    #[test]
+    fn registers_are_said_in_words() {
+        let mut local = EmulatedLocalApic::new(true, 5, 8).expect("an id below 64");
+        local.accept_interrupt(0x41, true);
+        local.accept_interrupt(0xff, false);
+        assert_eq!(
+            format!("{local:?}"),
+            "EmulatedLocalApic { x2apic: true, id: 5, tpr: 0x0, ppr: 0xf0, ldr: 0x0, dfr: 0xffffffff, svr: 0xff, esr: 0x0, \
+             esr_pending: 0x0, icr_lo: 0x0, icr_hi: 0x0, lvt_cmci: 0x10000, lvt_timer: 0x10000, lvt_thermal: 0x10000, \
+             lvt_pmi: 0x10000, lvt_lint0: 0x10000, lvt_lint1: 0x10000, lvt_error: 0x10000, \
+             isr: [0x41, 0xff], tmr: [0x41], irr: [] }"
+        );
+    }
+
+    #[test]
+    fn words_make_the_same_chip() {
+        let mut local = EmulatedLocalApic::default();
+        local.accept_interrupt(0x41, true);
+        let mut again = EmulatedLocalApic::from_words(local.to_words());
+        assert_eq!((again.handle_eoi(), local.handle_eoi()), (Some(0x41), Some(0x41)));
+        assert_eq!(again.to_words(), local.to_words());
+    }
+
+    #[test]
+    fn no_register_stands_outside_the_page_and_the_numbers() {
+        let local = EmulatedLocalApic::default();
+        for addr in [MMIO_BASE - 0x10, MMIO_BASE + MMIO_SIZE + 0x80, MMIO_BASE + 0x81] {
+            let read = local.handle_mmio_read(X86GuestPhysAddr::from_usize(addr), X86AccessWidth::Dword);
+            assert_eq!(read, Err(X86VlapicError::InvalidInput));
+        }
+        for number in [0, MSR_BASE - 1, MSR_BASE + MSR_COUNT, usize::MAX] {
+            let read = local.handle_msr_read(X86MsrAddr::new(number), X86AccessWidth::Dword);
+            assert_eq!(read, Err(X86VlapicError::InvalidInput));
+        }
+    }
+}

@@ -215,3 +215,56 @@ impl Default for EmulatedPic {
         Self::new()
     }
 }
+
+#[cfg(test)]
+mod tests {
+    use super::*;
+    use std::format;
+
+    fn write(pic: &mut EmulatedPic, port: u16, value: usize) {
+        assert_eq!(pic.handle_write(X86Port::new(port), X86AccessWidth::Byte, value), Ok(()));
+    }
+
+    #[test]
+    fn lines_are_said_by_number() {
+        let mut pic = EmulatedPic::new_rule(PicRule::Full);
+        write(&mut pic, 0x21, 0xf0);
+        write(&mut pic, 0xa1, 0x0f);
+        assert_eq!((pic.pulse_irq(0), pic.pulse_irq(3), pic.pulse_irq(12)), (Some(0x08), None, None));
+        write(&mut pic, 0x20, 0x0b); // the command port reads what is in service
+        write(&mut pic, 0xa0, 0xc5); // the slave's line 5 is its lowest
+        write(&mut pic, 0xa0, 0x11); // and ICW1 makes it new again
+        assert_eq!(
+            format!("{pic:?}"),
+            "EmulatedPic { rule: Full, \
+             master: Pic { base: 0x8, masked: [4, 5, 6, 7], requested: [3], in_service: [0], modes: [reads in service], highest: 0 }, \
+             slave: Pic { base: 0x70, masked: [], requested: [], in_service: [], modes: [waits for ICW2, ICW4 expected], highest: 8 } }"
+        );
+    }
+
+    #[test]
+    fn words_make_the_same_pair() {
+        let mut pic = EmulatedPic::new_rule(PicRule::Cascade);
+        [0x21, 0xa1].into_iter().for_each(|port| write(&mut pic, port, 0));
+        assert_eq!((pic.pulse_irq(12), pic.pulse_irq(13)), (Some(0x74), None));
+        let mut again = EmulatedPic::from_words(pic.to_words());
+        for pair in [&mut pic, &mut again] {
+            [0xa0, 0x20].into_iter().for_each(|port| write(pair, port, 0x20));
+            assert_eq!(pair.next_interrupt(), Some(0x75));
+        }
+        assert_eq!(again.to_words(), pic.to_words());
+    }
+
+    #[test]
+    fn claims_have_the_originals_text() {
+        let mut pic = EmulatedPic::new_rule(PicRule::Latch);
+        write(&mut pic, 0x21, 0);
+        let claim = pic.claim_irq(4).expect("line 4 isn't masked");
+        assert_eq!(
+            format!("{claim:?}"),
+            "PicInterruptClaim { vector: 12, irq: 4, master_in_service: true, slave_in_service: false }"
+        );
+        pic.restore_interrupt(claim);
+        assert_eq!(pic.next_interrupt(), Some(12));
+    }
+}

@@ -162,3 +162,25 @@ fn vector_of(code: u64) -> Option<X86InterruptVector> {
 fn claimed(code: u64) -> Option<X86InterruptVector> {
     (count(code) == 3).then_some(code as u8)
 }
+
+#[cfg(test)]
+mod tests {
+    use super::*;
+    use std::format;
+
+    #[test]
+    fn bytes_make_the_same_lists() {
+        let mut lists = WaitingLists::<2>::new();
+        for vector in [0x41, 0x42, 0x41] {
+            assert_eq!(lists.take(1, vector), Ok(()));
+        }
+        let again = WaitingLists::from_bytes(lists.to_bytes());
+        assert_eq!((&again, format!("{again:?}").as_str()), (&lists, "{0: [], 1: [65, 66, 65]}"));
+    }
+
+    #[test]
+    fn any_bytes_are_lists() {
+        let mut lists = WaitingLists::from_bytes([[0xff; LIST_BYTES]]);
+        assert_eq!((lists.count(0), lists.deliver(0), lists.count(0)), (Ok(64), Ok(Some(0xff)), Ok(63)));
+    }
+}

@@ -398,3 +398,94 @@ fn read_beside_the_chip(offset: usize) -> Option<usize> {
         _ => None,
     }
 }
+
+/// tests/rust/drop_in holds the module against the original; here is what the original has no answer for, or another.
+#[cfg(test)]
+mod tests {
+    use super::*;
+    use std::format;
+    use std::sync::atomic::{AtomicUsize, Ordering::Relaxed};
+
+    struct Host;
+
+    static VCPU_NUM: AtomicUsize = AtomicUsize::new(64);
+
+    impl X86VlapicHostOps for Host {
+        fn current_vm_id() -> X86VmId {
+            0
+        }
+        fn vcpu_num() -> usize {
+            VCPU_NUM.load(Relaxed)
+        }
+        fn active_vcpus() -> usize {
+            1
+        }
+        fn inject_interrupt(_vcpu_id: X86VcpuId, _vector: X86InterruptVector) -> X86VlapicResult {
+            Ok(())
+        }
+    }
+
+    const REFUSED: X86VlapicResult = Err(X86VlapicError::InvalidInput);
+    const DWORD: X86AccessWidth = X86AccessWidth::Dword;
+
+    fn register(offset: usize) -> X86GuestPhysAddr {
+        X86GuestPhysAddr::from_usize(0xfee0_0000 + offset)
+    }
+
+    #[test]
+    fn ports_are_the_archives() {
+        assert_eq!(EmulatedPic::port_ranges(), crate::EmulatedPic::port_ranges());
+    }
+
+    #[test]
+    fn the_chips_are_the_originals() {
+        let (io, pic) = (EmulatedIoApic::default(), EmulatedPic::default());
+        assert!(format!("{io:?}").starts_with("EmulatedIoApic { version: 0x11, base: GPA(0xfec00000), "), "{io:?}");
+        assert!(format!("{pic:?}").starts_with("EmulatedPic { rule: Latch, "), "{pic:?}");
+        let local = EmulatedLocalApic::<Host>::new(0, 3);
+        assert!(format!("{local:?}").starts_with("EmulatedLocalApic { x2apic: false, id: 3, "), "{local:?}");
+    }
+
+    /// An address below the chip, registers that there aren't, a destination of nobody, more vCPUs than 64.
+    #[test]
+    fn panics_of_the_original_are_refusals() {
+        let io = EmulatedIoApic::new_default();
+        let below = X86GuestPhysAddr::from_usize(0xfebf_ffff);
+        assert_eq!((io.handle_read(below, DWORD).map(|_| ()), io.handle_write(below, DWORD, 0)), (REFUSED, REFUSED));
+        let local = EmulatedLocalApic::<Host>::new(0, 0);
+        for offset in [0, 0x40, 0x290, 0x3a0, 0x400, 0xff0] {
+            assert_eq!(local.handle_mmio_read(register(offset), DWORD).map(|_| ()), REFUSED);
+            assert_eq!(local.handle_mmio_write(register(offset), DWORD, 0), REFUSED);
+        }
+        assert_eq!(local.handle_msr_read(X86MsrAddr::new(0x7ff), DWORD).map(|_| ()), REFUSED);
+        assert_eq!(local.handle_mmio_write(register(0x310), DWORD, 64 << 24), Ok(()));
+        assert_eq!(local.handle_mmio_write(register(0x300), DWORD, 0x50), REFUSED);
+        VCPU_NUM.store(65, Relaxed);
+        assert_eq!(local.handle_mmio_write(register(0x310), DWORD, 0), Ok(()));
+        assert_eq!(local.handle_mmio_write(register(0x300), DWORD, 0x50), REFUSED);
+        VCPU_NUM.store(64, Relaxed);
+        assert_eq!(local.handle_mmio_write(register(0x300), DWORD, 0x50), Ok(()));
+    }
+
+    /// rust/sillwander/README.md's list.
+    #[test]
+    fn what_answers_otherwise() {
+        let local = EmulatedLocalApic::<Host>::new(0, 3);
+        let read = |offset| local.handle_mmio_read(register(offset), DWORD);
+        assert_eq!((read(0xe0), read(0xf0)), (Ok(0xffff_ffff), Ok(0xff)));
+        for timer in [0x380, 0x390, 0x3e0] {
+            assert_eq!((read(timer).map(|_| ()), local.handle_mmio_write(register(timer), DWORD, 1)), (REFUSED, REFUSED));
+        }
+        let write = |offset, value| local.handle_mmio_write(register(offset), DWORD, value);
+        assert_eq!((write(0xf0, 0x1ff), write(0x350, 0x30), write(0xf0, 0xff), read(0x350)), (Ok(()), Ok(()), Ok(()), Ok(0x30)));
+        assert_eq!(write(0x300, 0x350), Err(X86VlapicError::InvalidData));
+        assert_eq!(local.set_apic_base(0xfee0_0c00), Ok(()));
+        assert_eq!((read(0x20), write(0xd0, 1), write(0xe0, 1)), (Ok(3), REFUSED, REFUSED));
+    }
+
+    #[test]
+    #[should_panic(expected = "a vCPU's id is at most 63")]
+    fn there_is_no_vcpu_64() {
+        EmulatedLocalApic::<Host>::new(0, 64);
+    }
+}
