@@ -1,7 +1,7 @@
 # shellcheck shell=sh disable=SC2034
-# For `.`: how x86-64 programs are made of Rust here, and what starts them. Sets `x86_rustc` (the compiler), `x86_target`
-# (its options for x86-64; without them it makes what this machine runs), `x86_start` (a command, or nothing) and
-# `x86_missing` (what isn't at hand, or nothing).
+# For `.`: how x86-64 programs are made of Rust here, and what starts them. Sets `x86_rustc` (the compiler; `x86_rustdoc`
+# is its rustdoc), `x86_target` (its options for x86-64; without them it makes what this machine runs), `x86_start` (a
+# command, or nothing) and `x86_missing` (what isn't at hand, or nothing).
 #
 # On x86-64 that is rustc. Elsewhere it is rustc where it has its standard library for x86-64, or else Debian's
 # rustc-web with the library that tools/setup-x86 put into `x86_home`; the cross linker; and the emulator of Debian's
@@ -42,3 +42,4 @@ if [ "$(uname -m)" != x86_64 ]; then
 elif ! command -v rustc >/dev/null 2>&1; then
     x86_lacks rustc
 fi
+x86_rustdoc=${x86_rustc%rustc}rustdoc

@@ -1,0 +1,81 @@
+//! Where `sillwander::x86_vlapic` answers otherwise than x86_vlapic: a line for each call, with its answer or "panics".
+//! tests/rust/run runs it with both, and holds the answers against the table in rust/sillwander/README.md, whose rows are
+//! these lines.
+
+use x86_vlapic::{
+    EmulatedIoApic, EmulatedLocalApic, X86AccessWidth, X86GuestPhysAddr, X86InterruptVector, X86MsrAddr, X86VcpuId,
+    X86VlapicHostOps, X86VlapicResult, X86VmId,
+};
+
+use std::{
+    fmt::Debug,
+    panic::{AssertUnwindSafe, catch_unwind, set_hook},
+};
+
+struct Host;
+
+impl X86VlapicHostOps for Host {
+    fn current_vm_id() -> X86VmId {
+        0
+    }
+    fn vcpu_num() -> usize {
+        2
+    }
+    fn active_vcpus() -> usize {
+        3
+    }
+    fn inject_interrupt(_vcpu_id: X86VcpuId, _vector: X86InterruptVector) -> X86VlapicResult {
+        Ok(())
+    }
+    fn inject_pit_irq(_vm_id: X86VmId, _vcpu_id: X86VcpuId) -> X86VlapicResult {
+        Ok(())
+    }
+    fn current_time_nanos() -> u64 {
+        0
+    }
+}
+
+fn said<T: Debug>(what: &str, call: impl FnOnce() -> T) {
+    let answer = catch_unwind(AssertUnwindSafe(call)).map_or("panics".into(), |answer| format!("`{answer:x?}`"));
+    println!("{what} | {answer}");
+}
+
+const DWORD: X86AccessWidth = X86AccessWidth::Dword;
+
+fn read(local: &EmulatedLocalApic<Host>, offset: usize) -> X86VlapicResult<usize> {
+    local.handle_mmio_read(X86GuestPhysAddr::from_usize(0xfee0_0000 + offset), DWORD)
+}
+
+fn write(local: &EmulatedLocalApic<Host>, offset: usize, value: usize) -> X86VlapicResult {
+    local.handle_mmio_write(X86GuestPhysAddr::from_usize(0xfee0_0000 + offset), DWORD, value)
+}
+
+fn main() {
+    set_hook(Box::new(|_| ()));
+    let io = EmulatedIoApic::new_default();
+    said("an I/O APIC's address below its base, with overflow checks", || {
+        io.handle_read(X86GuestPhysAddr::from_usize(0xfebf_ffff), DWORD)
+    });
+    let local = EmulatedLocalApic::<Host>::new(0, 3);
+    said("a new DFR", || read(&local, 0xe0));
+    said("a new SVR", || read(&local, 0xf0));
+    said("read of a register that there isn't, 0x40", || read(&local, 0x40));
+    said("read of MSR 0x7ff", || local.handle_msr_read(X86MsrAddr::new(0x7ff), DWORD));
+    said("read of the timer's divider, 0x3e0", || read(&local, 0x3e0));
+    said("write of the timer's divider", || write(&local, 0x3e0, 1));
+    said("LINT0 after SVR bit 8 went up and down", || {
+        for (offset, value) in [(0xe0, 0xffff_ffff), (0xf0, 0x1ff), (0x350, 0x30), (0xf0, 0xff)] {
+            write(&local, offset, value).unwrap();
+        }
+        read(&local, 0x350)
+    });
+    said("ICR with delivery mode 3", || write(&local, 0x300, 0x350));
+    said("ICR to processor 64, with overflow checks", || {
+        write(&local, 0x310, 64 << 24).unwrap();
+        write(&local, 0x300, 0x50)
+    });
+    local.set_apic_base(0xfee0_0c00).unwrap();
+    said("x2APIC mode: ID of vCPU 3", || read(&local, 0x20));
+    said("x2APIC mode: write of LDR", || write(&local, 0xd0, 0x0100_0000));
+    said("a local APIC with id 64", || drop(EmulatedLocalApic::<Host>::new(0, 64)));
+}
