@@ -2,7 +2,7 @@
 //! once for each `--cfg`: the original takes them all, and the module none of them, each refused with the error that
 //! stands behind it.
 
-#![allow(dead_code, unused_imports)]
+#![allow(unused)]
 
 use x86_vlapic::{EmulatedLocalApic, X86VlapicHostOps};
 
