@@ -4,6 +4,7 @@
 //! the functions do is proved (docs/PROMISES.md); what this crate adds is types: numbers become addresses, widths and claims,
 //! and coded answers become `Option` and `Result`.
 //!
+//! - **In the place of x86_vlapic**: the module [`x86_vlapic`] has that crate's own API, `&self` and locks inside.
 //! - **States** are arrays of words inside the types. There is no allocation and no global.
 //! - **Locking** is the caller's: a call that changes a chip takes `&mut self`, where the original takes `&self` and locks inside. [`Locked`] is such a lock.
 //! - **The xmm registers** are used by the archives: save a guest's before a call.

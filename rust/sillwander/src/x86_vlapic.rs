@@ -1,10 +1,14 @@
-//! x86_vlapic 0.5.4's own API over the archives: its names, its `&self` signatures and its errors, with a lock inside each chip. A caller of that crate changes the path, from
-//! `x86_vlapic::` to `sillwander::x86_vlapic::`; rust/sillwander/README.md lists what isn't here, and what answers otherwise.
+//! x86_vlapic 0.5.4's own API over the archives: its names, its `&self` signatures and its errors, with a lock inside
+//! each chip. A caller of that crate changes the path, from `x86_vlapic::` to `sillwander::x86_vlapic::`;
+//! rust/sillwander/README.md lists what isn't here, and what answers otherwise.
 //!
-//! - **The chips are the original's**: an I/O APIC of version 0x11, a pair whose cascade is a latch ([`PicRule::Latch`]). The other versions and rules are the plain API's, one module up.
-//! - **The lock** is [`Locked`]: held for a call alone, not reentrant, and with interrupts as they are. The host is called without it, so that it may call the chip again.
-//! - **Where the original panics** at what a guest or a host asks (an address below the I/O APIC, a register that there isn't, a destination or vCPU count above 63 and 64), the call is
-//!   refused with [`InvalidInput`](X86VlapicError::InvalidInput).
+//! - **The chips are the original's**: an I/O APIC of version 0x11, a pair whose cascade is a latch
+//!   ([`PicRule::Latch`]). The other versions and rules are the plain API's, one module up.
+//! - **The lock** is [`Locked`]: held for a call alone, not reentrant, and with interrupts as they are. The host is
+//!   called without it, so that it may call the chip again.
+//! - **Where the original panics** at what a guest or a host asks (an address below the I/O APIC, a register that there
+//!   isn't, a destination above 63, a vCPU count above 64), the call is refused with
+//!   [`InvalidInput`](X86VlapicError::InvalidInput).
 //!
 //! ```
 //! use sillwander::x86_vlapic::{EmulatedPic, X86AccessWidth, X86Port};
@@ -15,7 +19,8 @@
 //! assert_eq!(PIC.pulse_irq(4), Some(0x0c));
 //! ```
 //!
-//! Names, signatures and the errors' texts are after lib.rs, types.rs, vioapic.rs, vlapic.rs and vpic.rs of x86_vlapic 0.5.4 (Copyright The Axvisor Team, Apache License 2.0; `NOTICE`).
+//! Names, signatures and errors are those of lib.rs, types.rs, vioapic.rs, vlapic.rs and vpic.rs of x86_vlapic 0.5.4
+//! (Copyright The Axvisor Team, Apache License 2.0; `NOTICE`).
 
 use crate::{
     Ipi, IpiKind, Locked, PicRule,
@@ -84,18 +89,21 @@ impl From<X86AccessWidth> for crate::X86AccessWidth {
 pub mod host {
     use super::{X86InterruptVector, X86VcpuId, X86VlapicError, X86VlapicResult, X86VmId};
 
-    /// What a local APIC asks of its host. The original's own trait isn't among the files that it came with: these are the questions that those files ask.
+    /// What a local APIC asks of its host. The original's own trait isn't among the files that it came with: these are
+    /// the questions that those files ask.
     ///
-    /// The last two have an answer already, and are never asked: they are here so that a host which has them is taken.
+    /// Three are asked. The others have an answer already, and are here so that a host which has them is taken.
     pub trait X86VlapicHostOps: 'static {
-        /// The VM whose vCPU runs.
-        fn current_vm_id() -> X86VmId;
-        /// How many vCPUs that VM has: 64 at most.
+        /// How many vCPUs the VM has whose vCPU runs: 64 at most.
         fn vcpu_num() -> usize;
         /// Which of them are active: bit n is vCPU n.
         fn active_vcpus() -> usize;
         /// Injects an interrupt that a guest's command sends. As in the original, nobody hears of an error.
         fn inject_interrupt(vcpu_id: X86VcpuId, vector: X86InterruptVector) -> X86VlapicResult;
+        /// Never asked: the other questions are about the VM whose vCPU runs.
+        fn current_vm_id() -> X86VmId {
+            0
+        }
         /// Never asked: there is no PIT.
         fn inject_pit_irq(_vm_id: X86VmId, _vcpu_id: X86VcpuId) -> X86VlapicResult {
             Err(X86VlapicError::Unsupported)
@@ -123,7 +131,8 @@ impl EmulatedIoApic {
     pub fn new(base: X86GuestPhysAddr, size: Option<usize>) -> Self {
         let size = size.unwrap_or(IOAPIC_SIZE);
         let mut words = [0; IOAPIC_WORDS];
-        // The archive refuses a range that doesn't fit, where the original panics when it is asked for it: there the range is this type's own, and the chip's ends where numbers do.
+        // The archive refuses a range that doesn't fit; the original panics when it is asked for it. So the range is
+        // this type's own, and the chip's, which goes by its base alone, ends where numbers do.
         let fits = size.min(usize::MAX - base.as_usize());
         let code = sillwander_ioapic_new_version(&mut words, base.as_usize() as u64, fits as u64, IOAPIC_VERSION);
         debug_assert!(code == 0, "there is such a version, and the range fits");
@@ -136,7 +145,8 @@ impl EmulatedIoApic {
         Self::new(X86GuestPhysAddr::from_usize(IOAPIC_BASE), Some(IOAPIC_SIZE))
     }
 
-    /// The vector programmed for a line. None where its entry is masked, isn't of fixed delivery or has a vector below 16, and from line 24 up.
+    /// The vector programmed for a line. None where its entry is masked, isn't of fixed delivery or has a vector below 16,
+    /// and from line 24 up.
     pub fn vector_for_gsi(&self, gsi: usize) -> Option<u8> {
         self.chip.with(|chip| chip.vector_for_gsi(gsi))
     }
@@ -187,7 +197,7 @@ impl Debug for EmulatedIoApic {
 
 /// A PC's two 8259s by `&self`: the master's lines are 0 to 7, the slave's 8 to 15.
 pub struct EmulatedPic {
-    /// Nothing until the first call, so that a pair can be made in a constant, where the archive can't be called.
+    /// Nothing until the first call: a pair can be made in a constant, where the archive can't be called.
     pair: Locked<Option<crate::EmulatedPic>>,
 }
 
@@ -201,7 +211,7 @@ impl EmulatedPic {
         self.pair.with(|pair| call(pair.get_or_insert_with(|| crate::EmulatedPic::new_rule(PicRule::Latch))))
     }
 
-    /// The command and data port of the master, and of the slave.
+    /// The command and data port of the master, and of the slave; a test holds them against the archive's.
     pub const fn port_ranges() -> [X86PortRange; 2] {
         [X86PortRange::new(X86Port::new(0x20), X86Port::new(0x21)), X86PortRange::new(X86Port::new(0xa0), X86Port::new(0xa1))]
     }
@@ -262,8 +272,9 @@ const APIC_BASE_BSP: u64 = 1 << 8;
 const PAGE_SIZE: usize = 0x1000;
 const ICR_MSR: X86MsrAddr = X86MsrAddr::new(MSR_BASE + ICR / 0x10);
 
-/// One vCPU's local APIC, by `&self`. What a guest's interrupt command sends goes to the host `H`: a fixed interrupt to each vCPU, from the lowest up. NMI, INIT and
-/// startup are dropped, as the original drops them; [`crate::EmulatedLocalApic`] answers them.
+/// One vCPU's local APIC, by `&self`. What a guest's interrupt command sends goes to the host `H`: a fixed interrupt to
+/// each vCPU, from the lowest up. NMI, INIT and startup are dropped, as the original drops them;
+/// [`crate::EmulatedLocalApic`] answers them.
 pub struct EmulatedLocalApic<H: X86VlapicHostOps> {
     local: Locked<Local>,
     host: PhantomData<fn() -> H>,
@@ -294,8 +305,9 @@ impl<H: X86VlapicHostOps> EmulatedLocalApic<H> {
         self.local.with(|local| local.base)
     }
 
-    /// A write of IA32_APIC_BASE: bits 11 and 10 choose x2APIC mode, and no register changes, as in the original. The archive has no call for it: what docs/PROMISES.md says of
-    /// states that calls made begins anew with the mode. [`InvalidInput`](X86VlapicError::InvalidInput) for bit 10 without bit 11.
+    /// A write of IA32_APIC_BASE: bits 11 and 10 choose x2APIC mode, and no register changes, as in the original. The
+    /// archive has no call for it: what docs/PROMISES.md says of states that calls made doesn't reach over a change of
+    /// mode. [`InvalidInput`](X86VlapicError::InvalidInput) for bit 10 without bit 11.
     pub fn set_apic_base(&self, value: u64) -> X86VlapicResult {
         if value & APIC_BASE_X2APIC_ENABLE != 0 && value & APIC_BASE_ENABLE == 0 {
             return Err(X86VlapicError::InvalidInput);
@@ -349,7 +361,7 @@ impl<H: X86VlapicHostOps> EmulatedLocalApic<H> {
         self.write(offset_of_msr(addr)?, width, val)
     }
 
-    /// The interrupt command register is read whole in x2APIC mode, by 8 bytes and by nothing else; in xAPIC mode by anything else.
+    /// The interrupt command register is read whole in x2APIC mode, by 8 bytes alone; in xAPIC mode by any other width.
     fn read(&self, offset: usize, width: X86AccessWidth) -> X86VlapicResult<usize> {
         if let Some(value) = read_beside_the_chip(offset) {
             return Ok(value);
@@ -388,7 +400,8 @@ fn offset_in_page(addr: X86GuestPhysAddr) -> usize {
     (addr.as_usize() % PAGE_SIZE) & !0xf
 }
 
-/// What the original reads from registers that the archive hasn't: its version, and zeros from priorities, EOI, remote read, requests and SELF IPI. Nothing is proved of these.
+/// What the original reads from registers that the archive hasn't: its version, and zeros from arbitration priority, EOI,
+/// remote read, requests and SELF IPI. Nothing is proved of these.
 fn read_beside_the_chip(offset: usize) -> Option<usize> {
     const VERSION: usize = 0x14 | 6 << 16;
     match offset {
@@ -411,9 +424,6 @@ mod tests {
     static VCPU_NUM: AtomicUsize = AtomicUsize::new(64);
 
     impl X86VlapicHostOps for Host {
-        fn current_vm_id() -> X86VmId {
-            0
-        }
         fn vcpu_num() -> usize {
             VCPU_NUM.load(Relaxed)
         }

@@ -1,4 +1,5 @@
-//! The original's lock, which isn't among its files, for tests/rust/drop_in: in the place of the oracle's, which is one thread's alone.
+//! Stand-in for the original's lock, which isn't among its files: the oracle's is one thread's alone, and machine.rs has
+//! several.
 
 extern crate std;
 

@@ -33,19 +33,16 @@ fn main() {
     is_shared::<EmulatedIoApic>();
     #[cfg(host)] // E0277: a type that is no host
     is_shared::<EmulatedLocalApic<NoHost>>();
-    let _ = core::marker::PhantomData::<(NoHost, fn(&EmulatedLocalApic<sillwander_host::Host>))>;
+    let _ = core::marker::PhantomData::<(NoHost, fn(&EmulatedLocalApic<a_host::Host>))>;
 }
 
-mod sillwander_host {
-    use sillwander::x86_vlapic::{X86InterruptVector, X86VcpuId, X86VlapicHostOps, X86VlapicResult, X86VmId};
+mod a_host {
+    use sillwander::x86_vlapic::{X86InterruptVector, X86VcpuId, X86VlapicHostOps, X86VlapicResult};
 
-    /// A host needs four answers.
+    /// A host needs three answers.
     pub struct Host;
 
     impl X86VlapicHostOps for Host {
-        fn current_vm_id() -> X86VmId {
-            0
-        }
         fn vcpu_num() -> usize {
             1
         }
