@@ -1,6 +1,6 @@
 //! Tells cargo where the archives are: `SILLWANDER_ARCHIVES`, or the repository's `target/staticlib`, where
-//! `tools/archives` puts them. Where they aren't, it says so and goes on: `cargo check`, `doc` and `clippy` don't link.
-//! What links then ends with the sentence in src/archives.rs.
+//! `tools/archives` puts them, or `lib` in a release. Where they aren't, it says so and goes on: `cargo check`, `doc` and
+//! `clippy` don't link. What links then ends with the sentence in src/archives.rs.
 
 use std::{env, path::PathBuf};
 
@@ -9,7 +9,11 @@ fn main() {
     println!("cargo::rerun-if-env-changed=SILLWANDER_ARCHIVES");
     let folder = match env::var_os("SILLWANDER_ARCHIVES") {
         Some(folder) => PathBuf::from(folder),
-        None => PathBuf::from(env::var_os("CARGO_MANIFEST_DIR").expect("cargo sets it")).join("../../target/staticlib"),
+        None => {
+            let top = PathBuf::from(env::var_os("CARGO_MANIFEST_DIR").expect("cargo sets it")).join("../..");
+            let [built, released] = ["target/staticlib", "lib"].map(|folder| top.join(folder));
+            if released.is_dir() { released } else { built }
+        }
     };
     let files = ["vioapic_c", "vpic_c", "vlapic_c", "board_c", "vcpus", "waiting_c", "image_c", "planner_c"]
         .map(|archive| folder.join(format!("lib{archive}.a")));

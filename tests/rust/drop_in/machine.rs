@@ -312,10 +312,13 @@ fn random_io_apic(dice: &mut Dice) {
         let vector = dice.pick(&[0x30, 0x30, 0x41, 0xff, 0xf]);
         let addr = 0xfec0_0000 + dice.pick(&[0, 0x10, 0x10, 0x40, 4, 0x1000]);
         let width = dice.width(X86AccessWidth::Dword);
-        let word = match dice.below(4) {
-            0 => 0x10 + 2 * gsi as u64 + dice.below(2),
-            1 => dice.below(0x48),
-            _ => u64::from(vector) | dice.pick(&[0x8000, 0x8000, 0, 0x1_8000, 0xc000, 0x8100, 0x2_9000]),
+        let word = match (addr, dice.below(8)) {
+            (_, 0) => dice.below(0x48),
+            (0xfec0_0000, 1) => 0x11 + 2 * gsi as u64,
+            (0xfec0_0000, _) => 0x10 + 2 * gsi as u64,
+            (_, 1) => u64::from(vector) | dice.pick(&[0, 0x1_8000, 0xc000, 0x8100, 0x2_9000]),
+            // few words, so that the same one is written again
+            _ => dice.pick(&[0x8030, 0x8030, 0x8041]),
         };
         match dice.below(7) {
             0 | 1 => said("io write", &[addr as u64, width as u64, word], io.handle_write(addr.into(), width, word as usize)),
