@@ -1,5 +1,6 @@
-//! What the chips' words say, for people: the parts of `Debug`.
+//! What the chips' words say, for people: the parts of `Debug`. The layouts are include/sillwander.h's.
 
+use crate::archives::IOAPIC_WORDS;
 use core::fmt::{Debug, Formatter, Result};
 
 /// A number that is read as bits.
@@ -30,7 +31,7 @@ pub fn vectors(is_in: impl Fn(u8) -> bool) -> impl Debug {
 }
 
 /// The redirection entries of an I/O APIC's words, but for those that are as new.
-pub struct Entries<'a>(pub &'a [u64; 32]);
+pub struct Entries<'a>(pub &'a [u64; IOAPIC_WORDS]);
 
 impl Debug for Entries<'_> {
     fn fmt(&self, f: &mut Formatter<'_>) -> Result {
