@@ -310,7 +310,8 @@ fn random_io_apic(dice: &mut Dice) {
     for _ in 0..4000 {
         let gsi = if dice.below(8) > 0 { dice.pick(&[2, 3, 20]) } else { dice.below(30) as usize };
         let vector = dice.pick(&[0x30, 0x30, 0x41, 0xff, 0xf]);
-        let addr = 0xfec0_0000 + dice.pick(&[0, 0x10, 0x10, 0x40, 4, 0x1000]);
+        let elsewhere = 4 * dice.below(0x18) as usize;
+        let addr = 0xfec0_0000 + dice.pick(&[0, 0, 0x10, 0x10, 0x10, elsewhere, elsewhere, 0x410]);
         let width = dice.width(X86AccessWidth::Dword);
         let word = match (addr, dice.below(8)) {
             (_, 0) => dice.below(0x48),
