@@ -311,7 +311,7 @@ fn random_io_apic(dice: &mut Dice) {
         let gsi = if dice.below(8) > 0 { dice.pick(&[2, 3, 20]) } else { dice.below(30) as usize };
         let vector = dice.pick(&[0x30, 0x30, 0x41, 0xff, 0xf]);
         let elsewhere = 4 * dice.below(0x18) as usize;
-        let addr = 0xfec0_0000 + dice.pick(&[0, 0, 0x10, 0x10, 0x10, elsewhere, elsewhere, 0x410]);
+        let addr = 0xfec0_0000 + dice.pick(&[0, 0, 0x10, 0x10, 0x10, 0x40, elsewhere, elsewhere, 0x410]);
         let width = dice.width(X86AccessWidth::Dword);
         let word = match (addr, dice.below(8)) {
             (_, 0) => dice.below(0x48),
@@ -408,6 +408,7 @@ fn random_local(dice: &mut Dice) -> X86VlapicResult {
                     local.handle_mmio_write((0xfee0_0000 + offset).into(), X86AccessWidth::Dword, value as usize)
                 };
                 said("local write", &[offset as u64, value], (answer, injected()));
+                said("local PPR", &[], local.handle_mmio_read(0xfee0_00a0.into(), X86AccessWidth::Dword));
             }
             _ => {
                 let register = dice.pick(&[
