@@ -78,7 +78,11 @@ impl Pair for Pics {
     type Call = Call;
 
     fn new() -> Self {
-        Self { original: x86_vlapic::EmulatedPic::new(), ours: sillwander::EmulatedPic::new_rule(sillwander::PicRule::Latch), held: Vec::new() }
+        Self {
+            original: x86_vlapic::EmulatedPic::new(),
+            ours: sillwander::EmulatedPic::new_rule(sillwander::PicRule::Latch),
+            held: Vec::new(),
+        }
     }
 
     fn next(dice: &mut Dice, calls: &mut Vec<Call>) {

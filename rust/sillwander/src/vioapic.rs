@@ -299,13 +299,14 @@ mod tests {
     use super::*;
     use std::format;
 
-    const WINDOW: X86GuestPhysAddr = X86GuestPhysAddr::from_usize(IOAPIC_BASE + 0x10);
+    const SELECT: X86GuestPhysAddr = X86GuestPhysAddr::from_usize(0xfec0_0000);
+    const WINDOW: X86GuestPhysAddr = X86GuestPhysAddr::from_usize(0xfec0_0010);
 
     /// Entry 2: level-triggered, vector 0x30, to the processors of the set 3; its line is up.
     fn with_a_line_up() -> EmulatedIoApic20 {
         let mut io = EmulatedIoApic20::new_default();
         for (register, word) in [(0x15, 0x0300_0000), (0x14, 0x8830)] {
-            let select = io.handle_write(X86GuestPhysAddr::from_usize(IOAPIC_BASE), X86AccessWidth::Dword, register);
+            let select = io.handle_write(SELECT, X86AccessWidth::Dword, register);
             let write = io.handle_write(WINDOW, X86AccessWidth::Dword, word);
             assert_eq!((select, write), (Ok(IoApicWritten::Done), Ok(IoApicWritten::Done)));
         }
@@ -339,7 +340,7 @@ mod tests {
     #[test]
     fn words_of_another_version_or_range_are_refused() {
         let mut words = with_a_line_up().to_words();
-        assert_eq!(EmulatedIoApic::from_words(words).err(), Some(X86VlapicError::BadImage));
+        assert_eq!(EmulatedIoApic11::from_words(words).err(), Some(X86VlapicError::BadImage));
         words[SIZE] = u64::MAX;
         assert_eq!(EmulatedIoApic20::from_words(words).err(), Some(X86VlapicError::InvalidAddress));
         words[VERSION] = 0x11;

@@ -123,7 +123,7 @@ const IOAPIC_VERSION: u64 = 0x11;
 pub struct EmulatedIoApic {
     base: X86GuestPhysAddr,
     size: usize,
-    chip: Locked<crate::EmulatedIoApic>,
+    chip: Locked<crate::EmulatedIoApic11>,
 }
 
 impl EmulatedIoApic {
@@ -136,7 +136,7 @@ impl EmulatedIoApic {
         let fits = size.min(usize::MAX - base.as_usize());
         let code = sillwander_ioapic_new_version(&mut words, base.as_usize() as u64, fits as u64, IOAPIC_VERSION);
         debug_assert!(code == 0, "there is such a version, and the range fits");
-        let chip = crate::EmulatedIoApic::from_words(words).expect("a new I/O APIC of this version");
+        let chip = crate::EmulatedIoApic11::from_words(words).expect("a new I/O APIC of this version");
         Self { base, size, chip: Locked::new(chip) }
     }
 
