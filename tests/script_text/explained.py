@@ -425,8 +425,8 @@ def check_program(checks, tool, program, name, path, printed):
     checks.same(f"run {name} from bytes", where.sub(rb"\1", ran.stdout), from_bytes.stdout)
 
 
-def check_pages(checks, program, verbs, count):
-    """Each command in the README and in docs/SCRIPTS.md that has one of the verbs prints what stands below it."""
+def check_pages(checks, program, verbs, count, folder=TOP):
+    """Each command in the README and in docs/SCRIPTS.md that has one of the verbs prints what stands below it. In another folder than the repository's, what it writes stays there."""
     pages = "\n".join((TOP / name).read_text(encoding="utf-8") for name in ("README.md", "docs/SCRIPTS.md"))
     blocks = re.findall(r"^    \$ (.*)\n((?:    .*\n)*)", pages, re.M)
     named = re.compile(rf"tools/script-text ({verbs})")
@@ -434,5 +434,5 @@ def check_pages(checks, program, verbs, count):
     checks.same(f"the pages' commands that {verbs}", len(blocks), count)
     for line, below in blocks:
         whole = named.sub(lambda found: f'{found[0]} --program "$PROGRAM"', line)
-        ran = subprocess.run(["sh", "-c", whole], cwd=TOP, env={**os.environ, "PROGRAM": program}, stdout=subprocess.PIPE, text=True)
+        ran = subprocess.run(["sh", "-c", whole], cwd=folder, env={**os.environ, "PROGRAM": program}, stdout=subprocess.PIPE, text=True)
         checks.same_lines(f"a page's {line}", "".join(f"    {out}\n" for out in ran.stdout.splitlines()), below)
