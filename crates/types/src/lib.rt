@@ -1,6 +1,6 @@
 // Copyright 2026 The Axvisor Team
 //
-// Licensed under the Apache License, Version 2.0 (the text stands in NOTICE).
+// Licensed under the Apache License, Version 2.0 (the text stands in LICENSE).
 //
 // Changed: ported to Rattle from types.rs of the Rust crate x86_vlapic 0.5.4. Of that file's types, those of numbers that a call takes or
 // answers are here; `X86InterruptVector` and `X86VcpuId` became structs of their own beside `Gsi` and `PicLine`, which the Rust has as plain

@@ -1,4 +1,4 @@
-// Ported to Rattle from vioapic.rs of the Rust crate x86_vlapic 0.5.4 (Apache License, Version 2.0; the text stands in NOTICE).
+// Ported to Rattle from vioapic.rs of the Rust crate x86_vlapic 0.5.4 (Apache License, Version 2.0; the text stands in LICENSE).
 //
 // Changed: the state is 32 words that the caller lends (specs/State.antt), without a lock, or by value (`EmulatedIoApic`, which
 // lends its own); it has a version, 0x11 or 0x20, and a word of the lines in flight, so that an EOI looks at these alone; a

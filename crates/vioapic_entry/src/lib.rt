@@ -1,4 +1,4 @@
-// Ported to Rattle from vioapic.rs of the Rust crate x86_vlapic 0.5.4 (Apache License, Version 2.0; the text stands in NOTICE).
+// Ported to Rattle from vioapic.rs of the Rust crate x86_vlapic 0.5.4 (Apache License, Version 2.0; the text stands in LICENSE).
 //
 // Changed: one entry of the redirection table with its two flags is a struct, `Entry`, in the place of the Rust's three arrays. Here
 // are the fields of its register; masks became divisions and remainders by powers of two. Its rules are definitions of one entry

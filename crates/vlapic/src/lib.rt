@@ -1,6 +1,6 @@
 // Copyright 2025 The Axvisor Team
 //
-// Licensed under the Apache License, Version 2.0 (the text stands in NOTICE).
+// Licensed under the Apache License, Version 2.0 (the text stands in LICENSE).
 //
 // Changed: ported to Rattle from vlapic.rs of the Rust crate x86_vlapic 0.5.4. The register page became the words of `VirtualApicRegs`, with three
 // arrays of eight; the state goes in and comes back by value; the host is asked nothing: the vCPU count and the active vCPUs come in as numbers, and an

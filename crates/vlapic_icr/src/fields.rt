@@ -1,6 +1,6 @@
 // Copyright 2025 The Axvisor Team
 //
-// Licensed under the Apache License, Version 2.0 (the text stands in NOTICE).
+// Licensed under the Apache License, Version 2.0 (the text stands in LICENSE).
 //
 // Changed: ported to Rattle from regs/icr.rs of the Rust crate x86_vlapic 0.5.4: the fields of the interrupt command's low word, which the Rust
 // declares for tock_registers, as functions of the word, the tests that `write_icr` makes of them, and by which width the words are written.

@@ -1,6 +1,6 @@
 // Copyright 2025 The Axvisor Team
 //
-// Licensed under the Apache License, Version 2.0 (the text stands in NOTICE).
+// Licensed under the Apache License, Version 2.0 (the text stands in LICENSE).
 //
 // Changed: ported to Rattle from vlapic.rs of the Rust crate x86_vlapic 0.5.4: `write_icr`, `calculate_dest`, `is_dest_field_matched` and `handle_self_ipi`, as
 // functions of the words that they read (`InterruptCommand`). The host is asked nothing: the vCPU count and the active vCPUs come in as numbers, and an IPI is an answer;

@@ -1,6 +1,6 @@
 // Copyright 2025 The Axvisor Team
 //
-// Licensed under the Apache License, Version 2.0 (the text stands in NOTICE).
+// Licensed under the Apache License, Version 2.0 (the text stands in LICENSE).
 //
 // Changed: ported to Rattle from `write_lvt` of vlapic.rs of the Rust crate x86_vlapic 0.5.4: the mask of each entry, by the fields that it has, as a
 // function of the value.

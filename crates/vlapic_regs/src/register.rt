@@ -1,6 +1,6 @@
 // Copyright 2025 The Axvisor Team
 //
-// Licensed under the Apache License, Version 2.0 (the text stands in NOTICE).
+// Licensed under the Apache License, Version 2.0 (the text stands in LICENSE).
 //
 // Changed: ported to Rattle from vlapic.rs of the Rust crate x86_vlapic 0.5.4: what `handle_read`, `handle_write`, `set_err`, `update_ppr` and `process_eoi`
 // do to a single register, each as a function of the words that it goes by.

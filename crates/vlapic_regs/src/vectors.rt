@@ -1,6 +1,6 @@
 // Copyright 2025 The Axvisor Team
 //
-// Licensed under the Apache License, Version 2.0 (the text stands in NOTICE).
+// Licensed under the Apache License, Version 2.0 (the text stands in LICENSE).
 //
 // Changed: ported to Rattle from vlapic.rs of the Rust crate x86_vlapic 0.5.4: the loop of `find_isrv`, and what the Rust does in place to a
 // bit of ISR or TMR, on eight words by value.

@@ -1,4 +1,4 @@
-// Ported to Rattle from vpic.rs of the Rust crate x86_vlapic 0.5.4 (Apache License, Version 2.0; the text stands in NOTICE).
+// Ported to Rattle from vpic.rs of the Rust crate x86_vlapic 0.5.4 (Apache License, Version 2.0; the text stands in LICENSE).
 //
 // Changed: one 8259 chip, `PicChip`, has a crate of its own, and its fields are registers of one word, so that a chip is the same by value and in the words that a caller
 // lends; methods take the chip by value and hand it back; ICWs and OCWs became functions of their own; a line is a `PicLine`, and one that a chip doesn't have changes
