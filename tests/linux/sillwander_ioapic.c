@@ -16,6 +16,7 @@
 
 #define BASE IO_APIC_DEFAULT_ADDRESS
 #define SIZE 0x1000
+#define LOCAL_APICS 0xfee00000
 #define EOI_REGISTER 0x40
 
 /* The layout of the words, as the header has it. */
@@ -41,10 +42,10 @@ struct SillwanderIoapic {
 static SillwanderIoapic *the_ioapic; /* EOIs come from the local APICs, which know of no device */
 
 /* What the chip sends goes where the entry's high word says, as a message on the APICs' bus: QEMU has an address space for that. */
-static void send(SillwanderIoapic *s, unsigned gsi, uint32_t vector, uint32_t level)
+static void deliver(SillwanderIoapic *s, unsigned gsi, uint32_t vector, uint32_t level)
 {
     uint64_t entry = s->words[gsi];
-    hwaddr to = APIC_DEFAULT_ADDRESS | (entry >> 56) << 12 | (entry >> 11 & 1) << 2;
+    hwaddr to = LOCAL_APICS | (entry >> 56) << 12 | (entry >> 11 & 1) << 2;
     s->count.sends++;
     stl_le_phys(X86_MACHINE(qdev_get_machine())->ioapic_as, to, vector | level << LEVEL);
 }
@@ -63,12 +64,12 @@ static void ended(SillwanderIoapic *s, uint64_t code)
         s->count.again += ctpop32(again);
         for (unsigned gsi = 0; gsi < IOAPIC_NUM_PINS; gsi++)
             if (again >> gsi & 1)
-                send(s, gsi, s->words[gsi] & 0xff, 1);
+                deliver(s, gsi, s->words[gsi] & 0xff, 1);
         break;
     case 3: /* version 0x11: the line, and the vector and level that it sends again */
         s->count.ended++;
         s->count.again++;
-        send(s, SILLWANDER_OF_THREE(code, 0), SILLWANDER_OF_THREE(code, 1), SILLWANDER_OF_THREE(code, 2));
+        deliver(s, SILLWANDER_OF_THREE(code, 0), SILLWANDER_OF_THREE(code, 1), SILLWANDER_OF_THREE(code, 2));
         break;
     }
 }
@@ -81,7 +82,7 @@ static void set_line(void *opaque, int line, int level)
     uint64_t code = sillwander_logged(sillwander_ioapic_set_gsi_level(s->words, gsi, level != 0), "line %u %s", gsi, level ? "up" : "down");
     *(level ? &s->count.up : &s->count.down) += 1;
     if (SILLWANDER_COUNT(code) == 2)
-        send(s, gsi, SILLWANDER_OF_TWO(code, 0), SILLWANDER_OF_TWO(code, 1));
+        deliver(s, gsi, SILLWANDER_OF_TWO(code, 0), SILLWANDER_OF_TWO(code, 1));
 }
 
 /* The local APICs call this for each EOI of a level-triggered vector. */
@@ -114,7 +115,7 @@ static void window_write(void *opaque, hwaddr offset, uint64_t value, unsigned w
         ended(s, code);
     } else if (SILLWANDER_COUNT(code) == 2) { /* the write of a low word made an entry fit whose line is up: it is the selected one */
         s->count.sending_writes++;
-        send(s, ((uint32_t)s->words[SELECTOR] - 0x10) / 2, SILLWANDER_OF_TWO(code, 0), SILLWANDER_OF_TWO(code, 1));
+        deliver(s, ((uint32_t)s->words[SELECTOR] - 0x10) / 2, SILLWANDER_OF_TWO(code, 0), SILLWANDER_OF_TWO(code, 1));
     }
 }
 

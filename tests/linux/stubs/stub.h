@@ -42,7 +42,6 @@ typedef struct {
     struct { unsigned min_access_size, max_access_size; } valid, impl;
 } MemoryRegionOps;
 
-#define APIC_DEFAULT_ADDRESS 0xfee00000
 #define IO_APIC_DEFAULT_ADDRESS 0xfec00000
 #define IOAPIC_NUM_PINS 24
 #define ISA_NUM_IRQS 16
