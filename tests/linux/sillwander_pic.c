@@ -34,7 +34,7 @@ struct SillwanderPic {
     uint8_t rule;
     uint16_t up, elcr;
     struct {
-        unsigned long up, down, latched, claims, none, again, late, reads, writes, refused;
+        unsigned long up, down, latched, claims, none, again, once_more, late, reads, writes, refused;
     } count;
 };
 
@@ -58,7 +58,15 @@ static bool waits(const SillwanderPic *s)
     return SILLWANDER_COUNT(sillwander_pic_claim_pending_interrupt(copy)) == 3;
 }
 
-/* After everything that changes the pair or its lines: level lines that are up ask again, and INT follows. */
+/* Whether the slave asks the master: its first unmasked request is before its first line in service. */
+static bool slave_asks(const SillwanderPic *s)
+{
+    uint32_t requests = s->words[1] >> REQUESTS & ~(s->words[1] >> MASK) & 0xff;
+    return requests != 0 && ctz32(requests) < ctz32((s->words[1] >> IN_SERVICE & 0xff) | 0x100);
+}
+
+/* After everything that changes the pair or its lines: level lines that are up ask again, and INT follows. By rule 0 one acknowledgement takes the master's
+   request 2 away from all slave lines that wait (docs/DIFFERENCES.md, D-13): the first of them gets its edge once more. By the other rules that can't be. */
 static void follow(SillwanderPic *s)
 {
     for (unsigned line = 0; line < ISA_NUM_IRQS; line++)
@@ -66,6 +74,10 @@ static void follow(SillwanderPic *s)
             s->count.again++;
             latch(s, line);
         }
+    if (s->rule == 0 && slave_asks(s) && !HAS(s, 2, REQUESTS)) {
+        s->count.once_more++;
+        latch(s, 8 + ctz32(s->words[1] >> REQUESTS & ~(s->words[1] >> MASK)));
+    }
     qemu_set_irq(s->intr, waits(s));
 }
 
@@ -166,10 +178,12 @@ static void say_counts(void)
     SillwanderPic *s = SILLWANDER_PIC(isa_pic);
     unsigned stuck = 0;
     for (unsigned line = 0; line < ISA_NUM_IRQS; line++)
-        stuck += line != 2 && HAS(s, line, REQUESTS) && !HAS(s, line, MASK) && !(s->words[0] >> IN_SERVICE & 0xff) && !(s->words[1] >> IN_SERVICE & 0xff) && !waits(s);
-    fprintf(stderr, "sillwander pair: rule=%u up=%lu down=%lu latched=%lu again=%lu late=%lu claims=%lu none=%lu reads=%lu writes=%lu refused=%lu stuck=%u\n", s->rule,
-            s->count.up, s->count.down, s->count.latched, s->count.again, s->count.late, s->count.claims, s->count.none, s->count.reads, s->count.writes,
-            s->count.refused, stuck);
+        stuck += line != 2 && HAS(s, line, REQUESTS) && !HAS(s, line, MASK) && !((s->words[0] | s->words[1]) >> IN_SERVICE & 0xff) && !waits(s);
+    fprintf(stderr,
+            "sillwander pair: rule=%u up=%lu down=%lu latched=%lu again=%lu once_more=%lu late=%lu claims=%lu none=%lu reads=%lu writes=%lu refused=%lu "
+            "stuck=%u\n",
+            s->rule, s->count.up, s->count.down, s->count.latched, s->count.again, s->count.once_more, s->count.late, s->count.claims, s->count.none,
+            s->count.reads, s->count.writes, s->count.refused, stuck);
     if (sillwander_log != NULL)
         fclose(sillwander_log);
 }

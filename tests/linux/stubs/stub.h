@@ -85,6 +85,7 @@ ISADevice *isa_new(const char *name);
 bool isa_realize_and_unref(ISADevice *dev, ISABus *bus, Error **errp);
 void stl_le_phys(AddressSpace *space, hwaddr addr, uint32_t value);
 int ctpop32(uint32_t value);
+int ctz32(uint32_t value);
 
 void ioapic_eoi_broadcast(int vector);
 qemu_irq *i8259_init(ISABus *bus, qemu_irq parent_irq);
