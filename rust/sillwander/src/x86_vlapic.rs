@@ -488,7 +488,9 @@ mod tests {
         }
         let write = |offset, value| local.handle_mmio_write(register(offset), DWORD, value);
         assert_eq!((write(0xf0, 0x1ff), write(0x350, 0x30), write(0xf0, 0xff), read(0x350)), (Ok(()), Ok(()), Ok(()), Ok(0x30)));
-        assert_eq!(write(0x300, 0x350), Err(X86VlapicError::InvalidData));
+        for reserved in [0x350, 0x750] {
+            assert_eq!(write(0x300, reserved), Err(X86VlapicError::InvalidData));
+        }
         assert_eq!(local.set_apic_base(0xfee0_0c00), Ok(()));
         assert_eq!((read(0x20), write(0xd0, 1), write(0xe0, 1)), (Ok(3), REFUSED, REFUSED));
     }

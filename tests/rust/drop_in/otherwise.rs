@@ -12,14 +12,14 @@ use std::{
     panic::{AssertUnwindSafe, catch_unwind, set_hook},
 };
 
-struct Host;
+struct Host<const VCPUS: usize = 2>;
 
-impl X86VlapicHostOps for Host {
+impl<const VCPUS: usize> X86VlapicHostOps for Host<VCPUS> {
     fn current_vm_id() -> X86VmId {
         0
     }
     fn vcpu_num() -> usize {
-        2
+        VCPUS
     }
     fn active_vcpus() -> usize {
         3
@@ -42,11 +42,11 @@ fn said<T: Debug>(what: &str, call: impl FnOnce() -> T) {
 
 const DWORD: X86AccessWidth = X86AccessWidth::Dword;
 
-fn read(local: &EmulatedLocalApic<Host>, offset: usize) -> X86VlapicResult<usize> {
+fn read<H: X86VlapicHostOps>(local: &EmulatedLocalApic<H>, offset: usize) -> X86VlapicResult<usize> {
     local.handle_mmio_read(X86GuestPhysAddr::from_usize(0xfee0_0000 + offset), DWORD)
 }
 
-fn write(local: &EmulatedLocalApic<Host>, offset: usize, value: usize) -> X86VlapicResult {
+fn write<H: X86VlapicHostOps>(local: &EmulatedLocalApic<H>, offset: usize, value: usize) -> X86VlapicResult {
     local.handle_mmio_write(X86GuestPhysAddr::from_usize(0xfee0_0000 + offset), DWORD, value)
 }
 
@@ -60,7 +60,13 @@ fn main() {
     said("a new DFR", || read(&local, 0xe0));
     said("a new SVR", || read(&local, 0xf0));
     said("read of a register that there isn't, 0x40", || read(&local, 0x40));
+    said("write of a register that there isn't, 0x40", || write(&local, 0x40, 0));
     said("read of MSR 0x7ff", || local.handle_msr_read(X86MsrAddr::new(0x7ff), DWORD));
+    said("write of MSR 0x7ff", || local.handle_msr_write(X86MsrAddr::new(0x7ff), DWORD, 0));
+    said("read of the timer's initial count, 0x380", || read(&local, 0x380));
+    // A count but 0 asks the host for a timer, and here the original's is a stand-in.
+    said("write of 0 to the timer's initial count", || write(&local, 0x380, 0));
+    said("read of the timer's current count, 0x390", || read(&local, 0x390));
     said("read of the timer's divider, 0x3e0", || read(&local, 0x3e0));
     said("write of the timer's divider", || write(&local, 0x3e0, 1));
     said("LINT0 after SVR bit 8 went up and down", || {
@@ -70,12 +76,15 @@ fn main() {
         read(&local, 0x350)
     });
     said("ICR with delivery mode 3", || write(&local, 0x300, 0x350));
+    said("ICR with delivery mode 7", || write(&local, 0x300, 0x750));
     said("ICR to processor 64, with overflow checks", || {
         write(&local, 0x310, 64 << 24).unwrap();
         write(&local, 0x300, 0x50)
     });
+    said("ICR where there are 65 vCPUs, with overflow checks", || write(&EmulatedLocalApic::<Host<65>>::new(0, 3), 0x300, 0x50));
     local.set_apic_base(0xfee0_0c00).unwrap();
     said("x2APIC mode: ID of vCPU 3", || read(&local, 0x20));
     said("x2APIC mode: write of LDR", || write(&local, 0xd0, 0x0100_0000));
+    said("x2APIC mode: write of DFR", || write(&local, 0xe0, 0xffff_ffff));
     said("a local APIC with id 64", || drop(EmulatedLocalApic::<Host>::new(0, 64)));
 }
