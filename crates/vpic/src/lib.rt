@@ -511,8 +511,7 @@ fn claim_open(words: &mut [u64; 4]) -> u64
     claim_pending(&mut *words)
 }
 
-// The same, and the claim as one number. What is done where something is requested stands in two arms: called twice, it isn't taken in, and where nothing is requested
-// no register is saved for it.
+// The same, and the claim as one number. Where nothing is requested, nothing is claimed.
 pub fn claim_pending_number(words: &mut [u64; 4]) -> u64
     ensures { λ r. ⌜ numbered (view (now (words .exit))) r ≡ withNumber (claimPending (view (now (words .entry)))) ⌝ }
 {
