@@ -27,7 +27,7 @@ use Rattle.vpic.specs.declared.PicDone.the-variants.{Done, Refused}
 use Rattle.vpic.specs.Words.{PicState, isFull, plainView, fullView, view}
 use Rattle.vpic.specs.Pair.{isCascade, chips, settled, latchedAt, latched, StateClaim, stateClaim, masterClaim, slaveClaim, pendingPlace, claimAt, claimPending, claimIrq, restoredAt, restored, restoreInterrupt, Port, master-command, master-data, slave-command, slave-data, no-port, portAt, isThere, writtenTo, Written, writtenAt, isPort, masterRead, slaveRead, leftBy, portRead, portLeft, portWritten, valueReply, handleRead, handleWrite, claimVector, withClaim, withVector, claimOutcome, vectorOutcome, doneOutcome, valueOutcome}
 use Rattle.vpic.specs.Claim.{claimIn, claimNumber, numbered, withNumber, masterTaken, slaveTaken, isQuiet, portOutcome, byteShown, plainShown}
-use Rattle.vpic.proofs.Laws.{settle-off, settle-on, irq-reply, pending-reply, irq-vector, pending-vector, quiet, quiet-is, unasked, restore-way, restore-done, write-not, write-settled, write-out, write-done, read-master-command, read-master-data, read-slave-command, read-slave-data}
+use Rattle.vpic.proofs.Laws.{settle-off, settle-on, irq-reply, irq-vector, pending-vector, quiet, unasked, restore-way, restore-done, write-not, write-settled, write-out, write-done, read-master-command, read-master-data, read-slave-command, read-slave-data}
 
 -- ---- the full road
 
@@ -170,18 +170,6 @@ module _ (l m : List ℕ) (b : Bool) (c d : PicClaim) (eb : b ≡ isFull (view l
   pub pulse-full : (i : PicLine) (v : PicVector) → b ≡ true → v ≡ claimVector d → stateClaim (fullView m) c ≡ claimIrq (fullView l) i → vectorOutcome (view m) v ≡ withVector (claimIrq (view l) i)
   pulse-full i v n w h = irq-vector (view l) (view m) c d e i v w (claim-full l m c (λ p. claimIrq p i) (raise-rule i) (sym eb ∙ n) h)
 
-  pub pending-plain : b ≡ false → stateClaim (plainView m) c ≡ claimPending (plainView l) → claimOutcome (view m) d ≡ withClaim (claimPending (view l))
-  pending-plain n h = pending-reply (view l) (view m) c d e (claim-plain l m c claimPending claim-rule (sym eb ∙ n) h)
-
-  pub pending-full : b ≡ true → stateClaim (fullView m) c ≡ claimPending (fullView l) → claimOutcome (view m) d ≡ withClaim (claimPending (view l))
-  pending-full n h = pending-reply (view l) (view m) c d e (claim-full l m c claimPending claim-rule (sym eb ∙ n) h)
-
-  pub next-plain : (v : PicVector) → b ≡ false → v ≡ claimVector d → stateClaim (plainView m) c ≡ claimPending (plainView l) → vectorOutcome (view m) v ≡ withVector (claimPending (view l))
-  next-plain v n w h = pending-vector (view l) (view m) c d e v w (claim-plain l m c claimPending claim-rule (sym eb ∙ n) h)
-
-  pub next-full : (v : PicVector) → b ≡ true → v ≡ claimVector d → stateClaim (fullView m) c ≡ claimPending (fullView l) → vectorOutcome (view m) v ≡ withVector (claimPending (view l))
-  next-full v n w h = pending-vector (view l) (view m) c d e v w (claim-full l m c claimPending claim-rule (sym eb ∙ n) h)
-
 -- and its number
 module _ (l m : List ℕ) (b : Bool) (n : ℕ) (eb : b ≡ isFull (view l .rule)) (e : n ≡ claimNumber (claimIn n)) where
   by-number : (x : StateClaim) → stateClaim (view m) (claimIn n) ≡ x → numbered (view m) n ≡ withNumber x
@@ -193,11 +181,28 @@ module _ (l m : List ℕ) (b : Bool) (n : ℕ) (eb : b ≡ isFull (view l .rule)
   pub irq-full-number : (i : PicLine) → b ≡ true → stateClaim (fullView m) (claimIn n) ≡ claimIrq (fullView l) i → numbered (view m) n ≡ withNumber (claimIrq (view l) i)
   irq-full-number i f h = by-number _ (claim-full l m (claimIn n) (λ p. claimIrq p i) (raise-rule i) (sym eb ∙ f) h)
 
-  pub pending-plain-number : b ≡ false → stateClaim (plainView m) (claimIn n) ≡ claimPending (plainView l) → numbered (view m) n ≡ withNumber (claimPending (view l))
-  pending-plain-number f h = by-number _ (claim-plain l m (claimIn n) claimPending claim-rule (sym eb ∙ f) h)
+-- what can be delivered, claimed by either road
+module _ (l m : List ℕ) (b : Bool) (n : ℕ) (eb : b ≡ isFull (view l .rule)) where
+  pub open-plain : b ≡ false → stateClaim (plainView m) (claimIn n) ≡ claimPending (plainView l) → stateClaim (view m) (claimIn n) ≡ claimPending (view l)
+  open-plain f h = claim-plain l m (claimIn n) claimPending claim-rule (sym eb ∙ f) h
 
-  pub pending-full-number : b ≡ true → stateClaim (fullView m) (claimIn n) ≡ claimPending (fullView l) → numbered (view m) n ≡ withNumber (claimPending (view l))
-  pending-full-number f h = by-number _ (claim-full l m (claimIn n) claimPending claim-rule (sym eb ∙ f) h)
+  pub open-full : b ≡ true → stateClaim (fullView m) (claimIn n) ≡ claimPending (fullView l) → stateClaim (view m) (claimIn n) ≡ claimPending (view l)
+  open-full f h = claim-full l m (claimIn n) claimPending claim-rule (sym eb ∙ f) h
+
+module _ (l m : List ℕ) (b a : Bool) (c : Chip) (eb : b ≡ isFull (view l .rule)) (n : b ≡ false) (ec : c ≡ plainView l .master) (ea : a ≡ asks c) (u : not a ≡ true) (em : plainView m ≡ settled (plainView l)) where
+  pub open-unasked : stateClaim (view m) (claimIn 0) ≡ claimPending (view l)
+  open-unasked = open-plain l m b 0 eb n (unasked (plainView l) (plainView m) c a ec ea u em)
+
+  pub unasked-vector : vectorOutcome (view m) NoVector ≡ withVector (claimPending (view l))
+  unasked-vector = ap withVector open-unasked
+
+-- its number, and its vector
+pub pending-number : (p q : PicState) (n : ℕ) → n ≡ claimNumber (claimIn n) → stateClaim q (claimIn n) ≡ claimPending p → numbered q n ≡ withNumber (claimPending p)
+pending-number p q n e h = ap (numbered q) e ∙ ap withNumber h
+
+pub next-plain : (l m : List ℕ) (b : Bool) (n : ℕ) (d : PicClaim) (v : PicVector) → b ≡ isFull (view l .rule) → b ≡ false → d ≡ claimIn n → v ≡ claimVector d
+    → stateClaim (plainView m) (claimIn n) ≡ claimPending (plainView l) → vectorOutcome (view m) v ≡ withVector (claimPending (view l))
+next-plain l m b n d v eb f e w h = pending-vector (view l) (view m) (claimIn n) d e v w (open-plain l m b n eb f h)
 
 -- nothing to claim, found at once by either road
 same-quiet : (l : List ℕ) → isQuiet (plainView l) ≡ isQuiet (view l)
@@ -213,26 +218,11 @@ module _ (l : List ℕ) (q : Bool) (eq : q ≡ isQuiet (plainView l)) (t : q ≡
   pub quiet-reply : claimOutcome (view l) NoClaim ≡ withClaim (claimPending (view l))
   quiet-reply = ap withClaim (quiet (view l) q (eq ∙ same-quiet l) t)
 
-  quiet-number : numbered (view l) 0 ≡ withNumber (claimPending (view l))
+  pub quiet-number : numbered (view l) 0 ≡ withNumber (claimPending (view l))
   quiet-number = ap withNumber (quiet (view l) q (eq ∙ same-quiet l) t)
 
   pub quiet-vector : vectorOutcome (view l) NoVector ≡ withVector (claimPending (view l))
   quiet-vector = ap withVector (quiet (view l) q (eq ∙ same-quiet l) t)
-
--- the same where the chips were asked one by one
-pub none-number : (l : List ℕ) (m s : Chip) (a b : ℕ) → m ≡ plainView l .master → a ≡ m .request → a ≡ 0 → s ≡ plainView l .slave → b ≡ s .request → b ≡ 0
-    → numbered (view l) 0 ≡ withNumber (claimPending (view l))
-none-number l m s a b em ea za es eb zb = quiet-number l (eqb b 0) (quiet-is (plainView l) m a em ea s b za es eb) (ap (λ (n : ℕ). eqb n 0) zb)
-
-module _ (l m : List ℕ) (b a : Bool) (c : Chip) (eb : b ≡ isFull (view l .rule)) (n : b ≡ false) (ec : c ≡ plainView l .master) (ea : a ≡ asks c) (u : not a ≡ true) (em : plainView m ≡ settled (plainView l)) where
-  pub unasked-reply : claimOutcome (view m) NoClaim ≡ withClaim (claimPending (view l))
-  unasked-reply = pending-plain l m b NoClaim NoClaim eb refl n (unasked (plainView l) (plainView m) c a ec ea u em)
-
-  pub unasked-number : numbered (view m) 0 ≡ withNumber (claimPending (view l))
-  unasked-number = pending-plain-number l m b 0 eb refl n (unasked (plainView l) (plainView m) c a ec ea u em)
-
-  pub unasked-vector : vectorOutcome (view m) NoVector ≡ withVector (claimPending (view l))
-  unasked-vector = next-plain l m b NoClaim NoClaim eb refl NoVector n refl (unasked (plainView l) (plainView m) c a ec ea u em)
 
 -- a claim restored, by either road
 module _ (l m : List ℕ) (b : Bool) (c : PicInterruptClaim) (h : c .irq .0 < 16) (eb : b ≡ isFull (view l .rule)) where

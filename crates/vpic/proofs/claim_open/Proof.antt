@@ -1,4 +1,5 @@
-use Rattle.vpic.proofs.Full.{unasked-number, pending-plain-number, pending-full-number}
+use mathlib.Core.Path.{refl}
+use Rattle.vpic.proofs.Full.{open-unasked, open-plain, open-full}
 use borrow.Author.Needs.{needs}
 use Rattle.vpic.proofs.claim_open.Statement.{statement}
 use Rattle.vpic.proofs.claim_open.Tie as tie
@@ -10,7 +11,7 @@ full-claim-pending-requires : tie.Need-full-claim-pending-requires
 full-claim-pending-requires c κs = search needs
 
 returns : tie.Need-returns
-returns c = search pending-full-number
+returns c = (search open-full, search needs)
 
 master-requires : tie.Need-master-requires
 master-requires c κs = search needs
@@ -22,13 +23,13 @@ settle-requires : tie.Need-settle-requires
 settle-requires c κs = search needs
 
 returns-2 : tie.Need-returns-2
-returns-2 c = search unasked-number
+returns-2 c = (search open-unasked, refl)
 
 claim-pending-requires : tie.Need-claim-pending-requires
 claim-pending-requires c κs = search needs
 
 returns-3 : tie.Need-returns-3
-returns-3 c = search pending-plain-number
+returns-3 c = (search open-plain, search needs)
 
 pub claim-open-spec : {M : Type 1} → statement M
 claim-open-spec =

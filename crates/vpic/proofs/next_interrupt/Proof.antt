@@ -1,4 +1,5 @@
-use Rattle.vpic.proofs.Full.{next-full, next-plain, quiet-vector, unasked-vector}
+use Rattle.vpic.proofs.Laws.{pending-vector}
+use Rattle.vpic.proofs.Full.{quiet-vector, unasked-vector, next-plain}
 use borrow.Author.Needs.{needs}
 use Rattle.vpic.proofs.next_interrupt.Statement.{statement}
 use Rattle.vpic.proofs.next_interrupt.Tie as tie
@@ -12,8 +13,8 @@ returns c = search quiet-vector
 is-full-requires : tie.Need-is-full-requires
 is-full-requires c κs = search needs
 
-full-claim-pending-requires : tie.Need-full-claim-pending-requires
-full-claim-pending-requires c κs = search needs
+claim-open-requires : tie.Need-claim-open-requires
+claim-open-requires c κs = search needs
 
 claim-in-requires : tie.Need-claim-in-requires
 claim-in-requires c κs = search needs
@@ -22,7 +23,7 @@ vector-requires : tie.Need-vector-requires
 vector-requires c κs = search needs
 
 returns-2 : tie.Need-returns-2
-returns-2 c = search next-full
+returns-2 c = search pending-vector
 
 master-requires : tie.Need-master-requires
 master-requires c κs = search needs
@@ -55,7 +56,7 @@ next-interrupt-spec =
     is-quiet-requires
     returns
     is-full-requires
-    full-claim-pending-requires
+    claim-open-requires
     claim-in-requires
     vector-requires
     returns-2
