@@ -14,3 +14,4 @@ pub mod FullDepartures
 pub mod FullRule
 pub mod Exactly
 pub mod Modes
+pub mod Polls

@@ -1,18 +1,19 @@
 -- Theorems about the full profile's modes (8259A: poll command; special mask mode; special fully nested mode; OCW3, ICW4): what a poll answers, on one chip and beside the pair's
--- claims; what each mode lets by, and what it leaves blocked; that a claim restored at once stays exact though line 2 was in service before. Computed examples.
-use Prim.Native.Nat.{ℕ, _+_, _-_, _<_, _≤_}
+-- claims, what begins one and what ends it; what each mode lets by, and what it leaves blocked; that a claim restored at once stays exact though line 2 was in service before. Computed examples.
+use Prim.Native.Nat.{ℕ, _+_, _-_, _%_, _<_, _≤_}
 use mathlib.Core.Path.{_≡_}
-use mathlib.Core.Bool.{Bool, true, false, _&&_}
+use mathlib.Core.Bool.{Bool, true, false, not, _&&_, _||_}
 use mathlib.Core.List.{List, [], _∷_}
 use lib.Dec.{eqb}
 use Rattle.utils.specs.Set.{bit, without}
 use Rattle.vpic_chip.specs.Registers.{Chip, withMask, withInService, withPoll, withNested, withSpecialMask, placed}
-use Rattle.vpic_chip.specs.Chip.{cascadeIrq, lowestBy, isAbove, isSpecial, isNested, blocksLine, nonSpecificEoi, commanded, counts, pendingLine, Highest, acknowledged, pollShown, polled}
+use Rattle.vpic_chip.specs.Chip.{cascadeIrq, lowestBy, isAbove, isSpecial, isNested, blocksLine, nonSpecificEoi, commanded, counts, pendingLine, Highest, acknowledged, isPolled, pollShown, polled}
 use Rattle.vpic.specs.declared.PicInterruptClaim.{PicInterruptClaim}
 use Rattle.vpic.specs.declared.PicClaim.the-variants.{Claimed, Nothing as NoClaim}
 use Rattle.vpic.specs.Words.{PicState}
 use Rattle.vpic.specs.Pair.{chips, settled, claimPending, restoreInterrupt, handleRead, portWritten}
 use Rattle.vpic.specs.Departures.{pair}
+use Rattle.vpic_theorems.specs.Statements.{Call, claim-irq, claim-pending-interrupt, pulse-irq, next-interrupt, restore-interrupt, handle-read, handle-write, outcome}
 use Rattle.vpic_theorems.specs.Rotation.{fullChip, fullAt, shownAt}
 
 -- ---- poll
@@ -60,6 +61,59 @@ masked = pair 2 (placed true (fullAt 4 255 0 false)) (fullAt 1 0 0 false)
 
 abbrev pub SlavePollsAlone : Type 0
 SlavePollsAlone = (pollShown (masked .slave) ≡ 0x80) × (claimPending masked .claim ≡ NoClaim)
+
+-- ---- what begins a poll, and what ends it
+
+-- the poll command: OCW3 (bits 4-3 = 01) with bit 2
+abbrev pub isPollCommand : ℕ → Bool
+isPollCommand v = not (bit v 4) && bit v 3 && bit v 2
+
+-- of the chip whose command port is `at` and whose data port is the next one: that command, written there, begins a poll
+abbrev pub beginsPoll : ℕ → Call → Bool
+beginsPoll at (claim-irq l) = false
+beginsPoll at claim-pending-interrupt = false
+beginsPoll at (pulse-irq l) = false
+beginsPoll at next-interrupt = false
+beginsPoll at (restore-interrupt c) = false
+beginsPoll at (handle-read port width) = false
+beginsPoll at (handle-write port width value) = eqb width 1 && eqb port at && isPollCommand (value % 256)
+
+-- a read of either port ends it, and so does ICW1 (bit 4) at the command port. A read or a write of another width than a byte is refused, and does neither
+abbrev pub endsPoll : ℕ → Call → Bool
+endsPoll at (claim-irq l) = false
+endsPoll at claim-pending-interrupt = false
+endsPoll at (pulse-irq l) = false
+endsPoll at next-interrupt = false
+endsPoll at (restore-interrupt c) = false
+endsPoll at (handle-read port width) = eqb width 1 && (eqb port at || eqb port (at + 1))
+endsPoll at (handle-write port width value) = eqb width 1 && eqb port at && bit (value % 256) 4
+
+-- after a call a poll waits exactly if the call begins one and the chip is of the full profile, or if one waited and the call doesn't end it
+abbrev pub pollAfter : Chip → ℕ → Call → Bool
+pollAfter c at call = (c .full && beginsPoll at call) || (isPolled c && not (endsPoll at call))
+
+-- so it is after every call, with any arguments, on both chips of any pair, by every rule: what is read or written at one chip's ports leaves the other's poll alone
+abbrev pub PollsAfter : Type 0
+PollsAfter =
+    (p : PicState) (c : Call)
+    → (isPolled (outcome p c .state .master) ≡ pollAfter (p .master) 0x20 c)
+    × (isPolled (outcome p c .state .slave) ≡ pollAfter (p .slave) 0xa0 c)
+
+-- the calls at no port, those that claim, raise and restore, leave both chips' polls as they were
+abbrev pub isAtPort : Call → Bool
+isAtPort (claim-irq l) = false
+isAtPort claim-pending-interrupt = false
+isAtPort (pulse-irq l) = false
+isAtPort next-interrupt = false
+isAtPort (restore-interrupt c) = false
+isAtPort (handle-read port width) = true
+isAtPort (handle-write port width value) = true
+
+abbrev pub SamePolls : PicState → PicState → Type 0
+SamePolls p q = (isPolled (q .master) ≡ isPolled (p .master)) × (isPolled (q .slave) ≡ isPolled (p .slave))
+
+abbrev pub ClaimsLeavePolls : Type 0
+ClaimsLeavePolls = (p : PicState) (c : Call) → isAtPort c ≡ false → SamePolls p (outcome p c .state)
 
 -- ---- what counts, in one sentence for all modes
 
