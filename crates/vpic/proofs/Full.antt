@@ -171,15 +171,15 @@ module _ (l m : List ℕ) (b : Bool) (c d : PicClaim) (eb : b ≡ isFull (view l
   pulse-full i v n w h = irq-vector (view l) (view m) c d e i v w (claim-full l m c (λ p. claimIrq p i) (raise-rule i) (sym eb ∙ n) h)
 
 -- and its number
-module _ (l m : List ℕ) (b : Bool) (n : ℕ) (eb : b ≡ isFull (view l .rule)) (e : n ≡ claimNumber (claimIn n)) where
-  by-number : (x : StateClaim) → stateClaim (view m) (claimIn n) ≡ x → numbered (view m) n ≡ withNumber x
-  by-number x h = ap (numbered (view m)) e ∙ ap withNumber h
+pub claim-numbered : (q : PicState) (n : ℕ) (x : StateClaim) → n ≡ claimNumber (claimIn n) → stateClaim q (claimIn n) ≡ x → numbered q n ≡ withNumber x
+claim-numbered q n x e h = ap (numbered q) e ∙ ap withNumber h
 
+module _ (l m : List ℕ) (b : Bool) (n : ℕ) (eb : b ≡ isFull (view l .rule)) (e : n ≡ claimNumber (claimIn n)) where
   pub irq-plain-number : (i : PicLine) → b ≡ false → stateClaim (plainView m) (claimIn n) ≡ claimIrq (plainView l) i → numbered (view m) n ≡ withNumber (claimIrq (view l) i)
-  irq-plain-number i f h = by-number _ (claim-plain l m (claimIn n) (λ p. claimIrq p i) (raise-rule i) (sym eb ∙ f) h)
+  irq-plain-number i f h = claim-numbered (view m) n _ e (claim-plain l m (claimIn n) (λ p. claimIrq p i) (raise-rule i) (sym eb ∙ f) h)
 
   pub irq-full-number : (i : PicLine) → b ≡ true → stateClaim (fullView m) (claimIn n) ≡ claimIrq (fullView l) i → numbered (view m) n ≡ withNumber (claimIrq (view l) i)
-  irq-full-number i f h = by-number _ (claim-full l m (claimIn n) (λ p. claimIrq p i) (raise-rule i) (sym eb ∙ f) h)
+  irq-full-number i f h = claim-numbered (view m) n _ e (claim-full l m (claimIn n) (λ p. claimIrq p i) (raise-rule i) (sym eb ∙ f) h)
 
 -- what can be delivered, claimed by either road
 module _ (l m : List ℕ) (b : Bool) (n : ℕ) (eb : b ≡ isFull (view l .rule)) where
@@ -195,10 +195,6 @@ module _ (l m : List ℕ) (b a : Bool) (c : Chip) (eb : b ≡ isFull (view l .ru
 
   pub unasked-vector : vectorOutcome (view m) NoVector ≡ withVector (claimPending (view l))
   unasked-vector = ap withVector open-unasked
-
--- its number, and its vector
-pub pending-number : (p q : PicState) (n : ℕ) → n ≡ claimNumber (claimIn n) → stateClaim q (claimIn n) ≡ claimPending p → numbered q n ≡ withNumber (claimPending p)
-pending-number p q n e h = ap (numbered q) e ∙ ap withNumber h
 
 pub next-plain : (l m : List ℕ) (b : Bool) (n : ℕ) (d : PicClaim) (v : PicVector) → b ≡ isFull (view l .rule) → b ≡ false → d ≡ claimIn n → v ≡ claimVector d
     → stateClaim (plainView m) (claimIn n) ≡ claimPending (plainView l) → vectorOutcome (view m) v ≡ withVector (claimPending (view l))

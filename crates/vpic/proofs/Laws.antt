@@ -26,7 +26,7 @@ use Rattle.vpic_chip.specs.declared.PendingIrq.the-variants.{Irq, Nothing}
 use Rattle.vpic_chip.specs.declared.PicVector.{PicVector}
 use Rattle.vpic_chip.specs.declared.PicVector.the-variants.{Given}
 use Rattle.vpic_chip.specs.Registers.{Chip, chipIn, asFull, placed}
-use Rattle.vpic_chip.specs.Chip.{pulsed, asks, cascadeIrq, driven, pendingLine, pendingIrq, acknowledged, acknowledge, unacknowledged, commanded, fed, commandRead, opened, vectorReply, counts, isPolled, pollShown, polled, readShown, pollRead}
+use Rattle.vpic_chip.specs.Chip.{pulsed, asks, cascadeIrq, driven, pendingIrq, acknowledged, acknowledge, unacknowledged, commanded, fed, commandRead, opened, vectorReply, counts, isPolled, pollShown, polled, readShown, pollRead}
 use Rattle.vpic_chip.proofs.Laws.{asks-none, counted-idle, vector-reply-same}
 use Rattle.vpic.specs.declared.PicRule.{PicRule}
 use Rattle.vpic.specs.declared.PicRule.the-variants.{Latch, Cascade, Full}

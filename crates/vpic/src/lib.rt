@@ -531,10 +531,10 @@ pub fn next_interrupt(words: &mut [u64; 4]) -> PicVector
     if is_quiet(&*words) {
         return PicVector::Nothing;
     }
-    // The other rules' road stands here too: called, it costs a stack frame.
     if is_full(&*words) {
         return claim_in(claim_open(&mut *words)).vector();
     }
+    // The other rules' road as in `claim_open`: called, it costs a stack frame.
     if !master(&*words).asks() {
         settle(&mut *words);
         return PicVector::Nothing;

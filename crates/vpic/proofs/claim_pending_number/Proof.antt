@@ -1,4 +1,4 @@
-use Rattle.vpic.proofs.Full.{quiet-number, pending-number}
+use Rattle.vpic.proofs.Full.{quiet-number, claim-numbered}
 use borrow.Author.Needs.{needs}
 use Rattle.vpic.proofs.claim_pending_number.Statement.{statement}
 use Rattle.vpic.proofs.claim_pending_number.Tie as tie
@@ -13,7 +13,7 @@ claim-open-requires : tie.Need-claim-open-requires
 claim-open-requires c κs = search needs
 
 returns-2 : tie.Need-returns-2
-returns-2 c = search pending-number
+returns-2 c = search claim-numbered
 
 pub claim-pending-number-spec : {M : Type 1} → statement M
 claim-pending-number-spec =
