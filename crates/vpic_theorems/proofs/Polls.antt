@@ -18,7 +18,8 @@ use Rattle.vpic_chip.specs.Chip.{cascadeIrq, firstOf, blocks, isPolled, polled,
 use Rattle.vpic.specs.Words.{PicState}
 use Rattle.vpic.specs.Pair.{StateClaim, isCascade, settled, latchedAt, latched, masterClaim, slaveClaim, pendingPlace, claimAt, claimPending, claimIrq, restoredAt, restored, portAt, isPort, masterRead, slaveRead, leftBy, portRead, portLeft, writtenAt, portWritten, valueReply, refused}
 use Rattle.vpic_theorems.specs.Statements.{Call, claim-irq, claim-pending-interrupt, pulse-irq, next-interrupt, restore-interrupt, handle-read, handle-write, outcome}
-use Rattle.vpic_theorems.specs.Modes.{isPollCommand, PollsAfter, isAtPort, SamePolls, ClaimsLeavePolls}
+use Rattle.vpic_theorems.specs.Modes.{isPollCommand, PollsAfter, CallsKeepFull, isAtPort, SamePolls, ClaimsLeavePolls}
+use Rattle.vpic_theorems.proofs.Kept.{calls-kept}
 
 -- ---- one chip
 
@@ -215,3 +216,8 @@ polls-after p (handle-write port width value) = go (eqb width 1)
         (b && eqb port 0x20 && isPollCommand v) (b && eqb port 0x20 && bit v 4) (b && eqb port 0xa0 && isPollCommand v) (b && eqb port 0xa0 && bit v 4)
     go true = write-after p v port
     go false = unchanged p
+
+-- ---- the profile
+
+pub calls-keep-full : CallsKeepFull
+calls-keep-full p c = let k = calls-kept p c in (k .master .1, k .slave .1)

@@ -3,10 +3,10 @@
 use Prim.Native.Nat.{ℕ, _+_, _-_, _%_, _<_, _≤_}
 use mathlib.Core.Path.{_≡_}
 use mathlib.Core.Bool.{Bool, true, false, not, _&&_, _||_}
-use mathlib.Core.List.{List, [], _∷_}
+use mathlib.Core.List.{[], _∷_}
 use lib.Dec.{eqb}
 use Rattle.utils.specs.Set.{bit, without}
-use Rattle.vpic_chip.specs.Registers.{Chip, withMask, withInService, withPoll, withNested, withSpecialMask, placed}
+use Rattle.vpic_chip.specs.Registers.{Chip, withInService, withPoll, withNested, withSpecialMask, placed}
 use Rattle.vpic_chip.specs.Chip.{cascadeIrq, lowestBy, isAbove, isSpecial, isNested, blocksLine, nonSpecificEoi, commanded, counts, pendingLine, Highest, acknowledged, isPolled, pollShown, polled}
 use Rattle.vpic.specs.declared.PicInterruptClaim.{PicInterruptClaim}
 use Rattle.vpic.specs.declared.PicClaim.the-variants.{Claimed, Nothing as NoClaim}
@@ -99,7 +99,11 @@ PollsAfter =
     → (isPolled (outcome p c .state .master) ≡ pollAfter (p .master) 0x20 c)
     × (isPolled (outcome p c .state .slave) ≡ pollAfter (p .slave) 0xa0 c)
 
--- the calls at no port, those that claim, raise and restore, leave both chips' polls as they were
+-- a poll waits on a full chip alone, and no call makes a chip full, or plain: none begins or ends a poll that way
+abbrev pub CallsKeepFull : Type 0
+CallsKeepFull = (p : PicState) (c : Call) → (outcome p c .state .master .full ≡ p .master .full) × (outcome p c .state .slave .full ≡ p .slave .full)
+
+-- so, by PollsAfter alone, the calls at no port, those that claim, raise and restore, leave both chips' polls as they were
 abbrev pub isAtPort : Call → Bool
 isAtPort (claim-irq l) = false
 isAtPort claim-pending-interrupt = false
