@@ -35,7 +35,7 @@ struct SillwanderIoapic {
     uint64_t words[SILLWANDER_IOAPIC_WORDS];
     uint8_t version;
     struct {
-        unsigned long up, down, sends, eois, ended, again, sending_writes, reads, writes, eoi_writes, refused;
+        unsigned long up, down, sends, together, eois, ended, again, sending_writes, reads, writes, eoi_writes, refused;
     } count;
 };
 
@@ -47,6 +47,8 @@ static void deliver(SillwanderIoapic *s, unsigned gsi, uint32_t vector, uint32_t
     uint64_t entry = s->words[gsi];
     hwaddr to = LOCAL_APICS | (entry >> 56) << 12 | (entry >> 11 & 1) << 2;
     s->count.sends++;
+    for (unsigned other = 0; other < IOAPIC_NUM_PINS; other++) /* counted: another line is in flight with the vector */
+        s->count.together += level && other != gsi && (s->words[other] >> IN_FLIGHT & 1) && (s->words[other] & 0xff) == vector;
     stl_le_phys(X86_MACHINE(qdev_get_machine())->ioapic_as, to, vector | level << LEVEL);
 }
 
@@ -148,10 +150,10 @@ static void say_counts(void)
     for (unsigned gsi = 0; gsi < IOAPIC_NUM_PINS; gsi++)
         stuck += (s->words[LINES_UP] >> gsi & 1) && (s->words[gsi] >> LEVEL & 1) && !(s->words[gsi] >> MASKED & 1) && !(s->words[gsi] >> IN_FLIGHT & 1);
     fprintf(stderr,
-            "sillwander ioapic: version=0x%x up=%lu down=%lu sends=%lu eois=%lu ended=%lu again=%lu sending_writes=%lu reads=%lu writes=%lu eoi_writes=%lu "
+            "sillwander ioapic: version=0x%x up=%lu down=%lu sends=%lu together=%lu eois=%lu ended=%lu again=%lu sending_writes=%lu reads=%lu writes=%lu eoi_writes=%lu "
             "refused=%lu stuck=%u\n",
-            s->version, s->count.up, s->count.down, s->count.sends, s->count.eois, s->count.ended, s->count.again, s->count.sending_writes,
-            s->count.reads, s->count.writes, s->count.eoi_writes, s->count.refused, stuck);
+            s->version, s->count.up, s->count.down, s->count.sends, s->count.together, s->count.eois, s->count.ended, s->count.again,
+            s->count.sending_writes, s->count.reads, s->count.writes, s->count.eoi_writes, s->count.refused, stuck);
     if (sillwander_log != NULL)
         fclose(sillwander_log);
 }
