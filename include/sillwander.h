@@ -3,7 +3,8 @@
  *
  * A chip's state is an array of words that the caller owns and lends for a call. There is no allocation, no global and no lock: two calls
  * that lend the same words must not overlap in time. Any words may be lent (but for the flags of several vCPUs' records, below) and every
- * call takes any numbers: nothing faults. What words that no state has stand for is said at each layout.
+ * call takes any numbers: nothing faults. What words that no state has stand for is said at each layout. No pointer may be null, also where the
+ * call writes nothing through it, and the arrays lent to one call may not overlap.
  *
  * Every call answers one number, its code (that of several vCPUs has a mask beside it):
  *
@@ -63,7 +64,8 @@ extern "C" {
  *   30       bit g: entry g is in flight, the same as bit 14 of its register
  *   31       spare: 0 in a new state, and no call reads or writes it
  *
- * Bits of words 24 to 26 and 30 that stand for nothing are ignored; a new state has them 0, and every other call keeps them.
+ * Bits of words 24 to 26 and 30 that stand for nothing are ignored; a new state has them 0, and every other call keeps them (but sillwander_image_restore,
+ * which makes spare words, and bits that stand for nothing, 0: in every chip's words).
  * Word 30 is there so that an EOI looks only at the entries in flight: it decides which ones, on any words. A new state's agrees with the registers, and so
  * it does after every call on words where it agreed. A caller that writes a register's bit 14 itself has to write word 30 too: an EOI passes over an entry whose
  * bit is missing there.
@@ -176,8 +178,8 @@ uint64_t sillwander_pic_handle_write(uint64_t words[4], uint64_t port, uint64_t 
  *    2   TPR    6   SVR                         11   LVT CMCI             18..25  ISR, eight words of 32 bits
  *    3   PPR    7   ESR                         12   LVT timer            26..33  TMR, likewise
  *    4   LDR    8   errors since ESR was        13   LVT thermal          34..41  IRR, likewise
- *    5   DFR        last written                14   LVT counters         42..47  spare: sillwander_lapic_new makes
- *                                               15   LVT LINT0                    them 0, no other call touches them
+ *    5   DFR        last written                14   LVT counters         42..47  spare: a call named new makes
+ *                                               15   LVT LINT0                    them 0, no other touches them
  *
  * Of words 1 to 41 bits 31..0 count; what a call stores has the bits above them 0. Word 0 is 0 or 1 where a call stored it.
  */
@@ -213,8 +215,9 @@ uint64_t sillwander_lapic_handle_write(uint64_t words[48], uint64_t offset, uint
  * chip is the board's: what the I/O APIC sends becomes a request (IRR), which sets or clears its trigger bit (TMR); acceptance moves the highest request into service (ISR); an EOI goes back to
  * the I/O APIC. A new board's SVR is 0xff, and no call of the board writes it; where a caller sets its bit 12, EOIs aren't broadcast.
  *
- * The reading calls of the chips may be made on these words. Their other calls would go past the board: sillwander_lapic_accept_interrupt, say, leaves no request, and a local register's write
- * PPR as it was. On words whose version isn't 0x20 the I/O APIC is one of version 0x11; a board that began as a new one has none such.
+ * The reading calls of the chips may be made on these words. Their other calls would go past the board: sillwander_lapic_accept_interrupt, say, leaves no request, and a write of TPR
+ * (0x80) PPR as it was. sillwander_lapic_handle_write at other offsets than 0x80 and 0xb0 touches nothing that the board goes by but SVR's bit 12. On words whose version isn't 0x20 the I/O
+ * APIC is one of version 0x11; a board that began as a new one has none such.
  */
 
 /* A new board: the I/O APIC at 0xfec00000, of size 0x1000; the local APIC of vCPU 0 in xAPIC mode, nothing requested. Answers 0. */
