@@ -6,16 +6,16 @@ use Prim.Native.Nat.{ℕ, zero, suc, _+_, _%_, _<_, _≤_}
 use native.Mathlib.Omega.{arith}
 use lib.Dec.{ltb, eqb}
 use lib.ListN.{length}
-use borrow.Author.Tests.{ltb-true, eqb-false}
+use borrow.Author.Tests.{ltb-true, eqb-true, eqb-false}
 use Rattle.utils.specs.Set.{bit, with, without}
 use Rattle.utils.proofs.Bools.{never, both, either, not-is, and-true}
-use Rattle.utils.proofs.Laws.{bit-none, bit-without-other}
+use Rattle.utils.proofs.Laws.{bit-none, bit-with-same, bit-with-other, bit-without-other}
 use Rattle.types.specs.declared.PicLine.{PicLine}
 use Rattle.vpic_chip.specs.Registers.{Chip}
 use Rattle.vpic_priority.specs.Ring.{rank, firstRank, firstBy}
 use Rattle.vpic_priority.proofs.Ring.{rank-lt}
-use Rattle.vpic_chip.specs.Chip.{lowestBy, turned, specificEoi, nonSpecificEoi, autoRotated, icw1, ocw3, counts, pendingLine, asks, acknowledged, pulsed, unacknowledged, commanded, fed}
-use Rattle.vpic_theorems.specs.Rotation.{Event, raise, acknowledge, take-back, command, data-write, after, linesOf, lines, within, keepsTurns, isOrdinary, fairly, turns, raises, rounds, FairRounds, LastIsEighth, Needed, Waits, Fair, FairInEight}
+use Rattle.vpic_chip.specs.Chip.{lowestBy, turned, specificEoi, nonSpecificEoi, autoRotated, icw1, ocw3, counts, pendingLine, asks, acknowledged, pulsed, driven, unacknowledged, commanded, fed}
+use Rattle.vpic_theorems.specs.Rotation.{Event, raise, drive, acknowledge, take-back, command, data-write, after, linesOf, lines, within, keepsTurns, isOrdinary, fairly, turns, raises, rounds, FairRounds, LastIsEighth, Needed, Waits, Fair, FairInEight}
 use Rattle.vpic_theorems.proofs.Ring.{rank-turn, AllBefore, before, before-le, before-none, all-with, before-with, all-turn, before-turn, all-ended, before-ended}
 use Rattle.vpic_theorems.proofs.Ordinary.{ordinary-ended, ordinary-plainly, idle-plainly}
 use Rattle.vpic_theorems.proofs.Turns.{Becomes, becomes-same, ack-idle, eoi-taken, taken-still, raise-becomes, raise-keeps, ack-turns, ack-serves, fed-keeps, Next, next, asks-for, highestInService, rotatingEoi, eoi-highest, turned-not, top-in, top-first}
@@ -72,6 +72,19 @@ module _ (n : ℕ) (nlow : n < 8) (c : Chip) (w : Waiting n c) (k : ℕ) (h : Ne
 
 raised : (n : ℕ) (c : Chip) (l : PicLine) → Waiting n c → Step n c (pulsed c l) 0
 raised n c l w = let b = raise-becomes c l in same n c (pulsed c l) w (b .full) (raise-keeps c l n (w .asked)) (b .lowest) (b .«in_service»)
+
+-- a level on a line: up it keeps n's request, down it takes another's alone
+drive-keeps : (q n k : ℕ) (up : Bool) → bit q n ≡ true → (up || not (eqb n k)) ≡ true → bit (cond up (with q k) (without q k)) n ≡ true
+drive-keeps q n k true a f = go (eqb n k) refl
+  where
+    go : (z : Bool) → eqb n k ≡ z → bit (with q k) n ≡ true
+    go true e = subst (λ (m : ℕ). bit (with q k) m ≡ true) (sym (eqb-true n k e)) (bit-with-same q k)
+    go false e = bit-with-other q k n (eqb-false n k e) ∙ a
+drive-keeps q n k false a f = bit-without-other q k n (eqb-false n k (not-is (eqb n k) f)) ∙ a
+
+drive-step : (n : ℕ) (c : Chip) (l : PicLine) (up : Bool) → Waiting n c → (up || not (eqb n (l .0))) ≡ true → Step n c (driven c (l .0) up) 0
+unfolding driven
+drive-step n c l up w f = same n c (driven c (l .0) up) w refl (drive-keeps (c .request) n (l .0) up (w .asked) f) refl refl
 
 fed-step : (n : ℕ) (c : Chip) (v : ℕ) → Waiting n c → Step n c (fed c v) 0
 fed-step n c v w = let k = fed-keeps c v in same n c (fed c v) w (k .full) (rw (k .request) (w .asked)) (k .lowest) (k .«in_service»)
@@ -138,6 +151,11 @@ module _ (n : ℕ) (nlow : n < 8) where
       let s = raised n c p w in
       let k = and-true (isOrdinary c) (fairly n (pulsed c p) l) f in
       served-by l (pulsed c p) b (s .waiting) (k .1) (omega (arith, s .turns)) q
+  served-by (drive p up ∷ l) c b w f h q =
+      let o = and-true (isOrdinary c) ((up || not (eqb n (p .0))) && fairly n (driven c (p .0) up) l) f in
+      let k = and-true (up || not (eqb n (p .0))) (fairly n (driven c (p .0) up) l) (o .1) in
+      let s = drive-step n c p up w (k .0) in
+      served-by l (driven c (p .0) up) b (s .waiting) (k .1) (omega (arith, s .turns)) q
   served-by (take-back p g ∷ l) c b w f h q = never (and-true (isOrdinary c) false f .1) refl
   served-by (command v ∷ l) c b w f h q =
       let o = and-true (isOrdinary c) (keepsTurns v && fairly n (commanded c v) l) f in
@@ -266,7 +284,7 @@ unfolding asks pendingLine counts firstBy firstRank acknowledged pulsed commande
 last-is-eighth = refl
 
 pub needed : Needed
-unfolding asks pendingLine counts firstBy firstRank acknowledged unacknowledged pulsed commanded fed with without
+unfolding asks pendingLine counts firstBy firstRank acknowledged unacknowledged pulsed driven commanded fed with without
 needed = record {
   «plain-eoi» = refl;
   «specific-eoi» = refl;
@@ -275,10 +293,13 @@ needed = record {
   «auto-eoi» = refl;
   «taken-back» = refl;
   masked = refl;
+  «driven-down» = refl;
   plain = refl;
   initialized = refl;
   special = refl;
+  «masked-eoi» = refl;
   nested = refl;
   idle = refl;
   stuck = refl;
+  «idle-rounds» = refl;
 }

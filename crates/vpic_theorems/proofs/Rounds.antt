@@ -18,9 +18,9 @@ use Rattle.vpic_chip.specs.declared.PendingIrq.the-variants.{Irq}
 use Rattle.vpic_chip.specs.Registers.{Chip}
 use Rattle.vpic_priority.specs.Ring.{rank, firstRank, firstBy}
 use Rattle.vpic_priority.proofs.Ring.{rank-lt}
-use Rattle.vpic_chip.specs.Chip.{counts, lowestBy, pendingLine, pendingIrq, asks, driven, acknowledged, pulsed, commanded, cascadeIrq}
+use Rattle.vpic_chip.specs.Chip.{counts, lowestBy, pendingLine, pendingIrq, asks, driven, acknowledged, unacknowledged, pulsed, commanded, cascadeIrq}
 use Rattle.vpic.specs.Words.{PicState}
-use Rattle.vpic.specs.Pair.{StateClaim, nothingClaimed, cascadePlace, chips, isCascade, Keeps, settled, latchedAt, latched, masterClaim, slaveClaim, claimAt, claimIrq, claimPending, portWritten, writtenAt}
+use Rattle.vpic.specs.Pair.{StateClaim, nothingClaimed, cascadePlace, chips, isCascade, Keeps, settled, latchedAt, latched, masterClaim, slaveClaim, claimAt, claimIrq, claimPending, restored, portWritten, writtenAt}
 use Rattle.vpic_theorems.specs.Statements.{outcome}
 use Rattle.vpic_theorems.specs.Rotation.{within, turns, Round, edge-on, waiting, pairRounds, isKnown, areKnown, claimLine, claims, Rotating, SlaveWaits, MasterWaits, slaveBound, FairSlave, FairMaster, SixtyFour, LastIsSixtyFourth, NeededOnPair}
 use Rattle.vpic_theorems.proofs.Settled.{settled-cascade}
@@ -424,14 +424,18 @@ unfolding asks driven pendingLine pendingIrq counts firstBy firstRank acknowledg
 last-is-sixty-fourth = refl
 
 pub needed-on-pair : NeededOnPair
-unfolding asks driven pendingLine pendingIrq counts firstBy firstRank acknowledged pulsed commanded with without outside settled latched masterClaim slaveClaim claimIrq claimPending portWritten writtenAt outcome
+unfolding asks driven pendingLine pendingIrq counts firstBy firstRank acknowledged unacknowledged pulsed commanded with without outside settled latched masterClaim slaveClaim claimIrq claimPending restored portWritten writtenAt outcome
 needed-on-pair = record {
   «master-eoi» = refl;
   «slave-eoi» = refl;
+  restored = refl;
+  «set-priority» = refl;
+  «specific-rotation» = refl;
   «master-turns» = refl;
   «slave-turns» = refl;
   «master-plain» = refl;
   «slave-plain» = refl;
+  «master-masked» = refl;
   «cascade-masked» = refl;
   «slave-masked» = refl;
   unknown = refl;

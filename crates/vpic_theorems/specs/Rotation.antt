@@ -14,7 +14,7 @@ use Rattle.types.specs.Reply.{Outcome, flag, replyValues}
 use Rattle.types.specs.Departure.{Departure, Shown}
 use Rattle.vpic_priority.specs.Ring.{rank}
 use Rattle.vpic_chip.specs.Registers.{Chip, registers, plainRegisters, withRequest, withStep, withReadIsr, withLowest, withNested, asFull, placed}
-use Rattle.vpic_chip.specs.Chip.{cascadeIrq, lowestBy, isSpecial, isNested, isPolled, opened, commanded, fed, commandRead, pulsed, pendingLine, asks, pendingIrq, pendingReply, acknowledged, acknowledge as chipAcknowledge, unacknowledged, pollShown}
+use Rattle.vpic_chip.specs.Chip.{cascadeIrq, lowestBy, isSpecial, isNested, isPolled, opened, commanded, fed, commandRead, pulsed, driven, pendingLine, asks, pendingIrq, pendingReply, acknowledged, acknowledge as chipAcknowledge, unacknowledged, pollShown}
 use Rattle.vpic.specs.declared.PicRule.the-variants.{Cascade, Full}
 use Rattle.vpic.specs.declared.PicInterruptClaim.{PicInterruptClaim}
 use Rattle.vpic.specs.declared.PicClaim.{PicClaim}
@@ -29,6 +29,7 @@ use Rattle.vpic_theorems.specs.Rule.{run}
 
 pub data Event : Type 0 where
   raise : PicLine → Event
+  drive : PicLine → Bool → Event  -- by a level, as the slave's output drives the master's line 2 after each call on the pair
   acknowledge : Event  -- of the first line that counts; where none does, nothing
   take-back : PicLine → Bool → Event  -- an acknowledgement that couldn't be published
   command : ℕ → Event
@@ -36,6 +37,7 @@ pub data Event : Type 0 where
 
 abbrev pub after : Chip → Event → Chip
 after c (raise l) = pulsed c l
+after c (drive l up) = driven c (l .0) up
 after c acknowledge = cond (asks c) (acknowledged c (pendingLine c)) c
 after c (take-back l f) = unacknowledged c l f
 after c (command v) = commanded c v
@@ -44,6 +46,7 @@ after c (data-write v) = fed c v
 -- the lines acknowledged, in order
 abbrev pub linesOf : Chip → Event → List ℕ
 linesOf c (raise l) = []
+linesOf c (drive l up) = []
 linesOf c acknowledge = cond (asks c) (pendingLine c ∷ []) []
 linesOf c (take-back l f) = []
 linesOf c (command v) = []
@@ -73,10 +76,11 @@ turns c = not (c .«auto_eoi») || c .«auto_rotation»
 abbrev pub isOrdinary : Chip → Bool
 isOrdinary c = not (isSpecial c) && not (isNested c)
 
--- what is asked of each event as long as line n waits: at an acknowledgement the line is unmasked, and the chip turns; nothing is taken back. Edges on any lines, and any writes
--- to the data port; but no mode is on
+-- what is asked of each event as long as line n waits: at an acknowledgement the line is unmasked, and the chip turns; nothing is taken back; no level takes the line's own request
+-- away. Edges and levels on any other lines, and any writes to the data port; but no mode is on
 abbrev pub lets : ℕ → Chip → Event → Bool
 lets n c (raise l) = true
+lets n c (drive l up) = up || not (eqb n (l .0))
 lets n c acknowledge = not (bit (c .mask) n) && turns c
 lets n c (take-back l f) = false
 lets n c (command v) = keepsTurns v
@@ -158,6 +162,8 @@ pub record Needed : Type 0 where
   pub «auto-eoi» : starves (fullAt 3 0 0 true) []
   pub «taken-back» : starves (fullAt 3 0 0 false) (take-back (line 0) true ∷ [])
   pub masked : starves (fullAt 3 2 0 false) (command 0xa0 ∷ [])
+  -- line 1 driven by a level, and down at each acknowledgement
+  pub «driven-down» : starves (fullAt 3 0 0 false) (command 0xa0 ∷ drive (line 1) false ∷ [])
   -- a chip that isn't of the full profile
   pub plain : starves (at 3 0 0) (command 0xa0 ∷ [])
   -- ICW1, after which line 1 asks again
@@ -165,11 +171,16 @@ pub record Needed : Type 0 where
   -- special mask mode: line 0 is masked while line 1 is served and ended, and its own EOI turns the priorities back to it; line 2, of rank 2, would be the third at the latest
   pub special :
       lines (fullAt 7 0 0 false) (acknowledge ∷ command 0x68 ∷ data-write 1 ∷ acknowledge ∷ command 0xa0 ∷ data-write 0 ∷ command 0xa0 ∷ edge 1 ∷ acknowledge ∷ []) ≡ 0 ∷ 1 ∷ 1 ∷ []
+  -- special mask mode: line 0 is masked at its EOI, which passes it by, and then stands in the way of lines 1 and 2 for good
+  pub «masked-eoi» :
+      lines (fullAt 7 0 0 false) (command 0x68 ∷ acknowledge ∷ data-write 1 ∷ command 0xa0 ∷ data-write 0 ∷ often 8 (acknowledge ∷ edge 1 ∷ edge 2 ∷ [])) ≡ 0 ∷ []
   -- special fully nested mode: the master's line 2 comes again and again; line 3, of rank 3, would be the fourth at the latest
   pub nested : lines (withNested (placed true (fullAt 12 0 0 false)) true) (often 4 (acknowledge ∷ edge 2 ∷ [])) ≡ often 4 (2 ∷ [])
   -- line 7 was in service at the start: its EOI makes it lowest, and line 1 isn't the second; with an EOI to each acknowledgement alone, no line is the third
   pub idle : lines (fullAt 3 0 0x80 false) (acknowledge ∷ command 0xa0 ∷ command 0xa0 ∷ edge 0 ∷ acknowledge ∷ []) ≡ 0 ∷ 0 ∷ []
   pub stuck : lines (fullAt 3 0 0x80 false) (often 2 (acknowledge ∷ command 0xa0 ∷ edge 0 ∷ edge 1 ∷ []) ++ often 8 (acknowledge ∷ [])) ≡ 0 ∷ 1 ∷ []
+  -- and in rounds: line 0 was in service, and asks again; its own round serves nothing
+  pub «idle-rounds» : lines (fullAt 1 0 1 false) (rounds ([] ∷ [])) ≡ []
 
 -- ---- the pair is fair
 
@@ -289,18 +300,30 @@ starvesEight p m = claims p (roundsWith 0xa0 m (often 8 (on 0 ∷ []))) ≡ ofte
 abbrev pub starvesNine : PicState → ℕ → Type 0
 starvesNine p s = claims p (roundsWith s 0xa0 (often 11 (on 8 ∷ []))) ≡ often 11 (8 ∷ [])
 
+-- the same where other calls come between the claims
+abbrev pub starvesEightBy : List Call → Type 0
+starvesEightBy l = claims (pair 2 (fullAt 4 0 0 false) (fullAt 1 0 0 false)) (often 8 (claim-irq (line 0) ∷ l)) ≡ often 8 (0 ∷ [])
+
+abbrev pub lineZero : PicInterruptClaim
+lineZero = record { vector = record { 0 = 0 }; irq = record { 0 = 0 }; «master_in_service» = true; «slave_in_service» = false }
+
 -- a run without each premise
 pub record NeededOnPair : Type 0 where
   -- EOIs without rotation
   pub «master-eoi» : starvesEight (pair 2 (fullAt 4 0 0 false) (fullAt 1 0 0 false)) 0x20
   pub «slave-eoi» : starvesNine (pair 2 (fullAt 4 0 0 false) (fullAt 3 0 0 false)) 0x20
+  -- other calls than a round's: a claim that is restored; line 7 made lowest after each EOI, by set priority and by a specific EOI with rotation
+  pub restored : starvesEightBy (restore-interrupt lineZero ∷ [])
+  pub «set-priority» : starvesEightBy (handle-write 0x20 1 0xa0 ∷ handle-write 0x20 1 0xc7 ∷ [])
+  pub «specific-rotation» : starvesEightBy (handle-write 0x20 1 0xa0 ∷ handle-write 0x20 1 0xe7 ∷ [])
   -- automatic EOI mode without rotation
   pub «master-turns» : starvesEight (pair 2 (fullAt 4 0 0 true) (fullAt 1 0 0 false)) 0xa0
   pub «slave-turns» : starvesNine (pair 2 (fullAt 4 0 0 false) (fullAt 3 0 0 true)) 0xa0
   -- a chip that isn't of the full profile
   pub «master-plain» : starvesEight (pair 2 (at 4 0 0) (fullAt 1 0 0 false)) 0xa0
   pub «slave-plain» : starvesNine (pair 2 (fullAt 4 0 0 false) (at 3 0 0)) 0xa0
-  -- the master's line 2 masked, and the slave's line 1
+  -- the master's line 1 masked; its line 2; and the slave's line 1
+  pub «master-masked» : claims (pair 2 (fullAt 2 2 0 false) (fullAt 0 0 0 false)) (pairRounds (often 8 (on 0 ∷ []))) ≡ often 8 (0 ∷ [])
   pub «cascade-masked» : starvesEight (pair 2 (fullAt 4 4 0 false) (fullAt 1 0 0 false)) 0xa0
   pub «slave-masked» : starvesNine (pair 2 (fullAt 4 0 0 false) (fullAt 3 2 0 false)) 0xa0
   -- edges on a line that the pair hasn't claim nothing
