@@ -51,7 +51,7 @@ def none_of(words):
 
 LOCAL = ("id", "TPR", "PPR", "LDR", "DFR", "SVR", "ESR", "pending errors", "ICR, low word", "ICR, high word", "LVT CMCI", "LVT timer", "LVT thermal", "LVT performance", "LVT LINT0",
          "LVT LINT1", "LVT error")
-RULES = {0: "line 2 is a latch", 1: "line 2 follows the slave", 2: "the same, and priorities rotate"}
+RULES = {0: "line 2 is a latch", 1: "line 2 follows the slave", 2: "the full 8259A profile"}
 
 IO_APIC = Group(0x81, "I/O APIC", (
     *(Number(k, f"entry {k}", 8, entry_words) for k in range(GSIS)),

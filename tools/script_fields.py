@@ -29,7 +29,7 @@ VERSION = Part("version", 1, hex=True, codes={
 RULE = Part("rule", 1, codes={
     0: "line 2 is a latch",
     1: "line 2 follows the slave",
-    2: "the same, and priorities rotate",
+    2: "the full 8259A profile",
 })
 PORT = Part("port", 2, hex=True)
 LINE = Part("line", 1)

@@ -12,7 +12,7 @@ pub record PicState : Type 0 where
   pub slave : Chip
   pub spare : ℕ  -- the word that stands for nothing: nothing reads it, and a new pair alone doesn't keep it
 
--- the chip in a word of a pair of this rule, at the master's place or the slave's. A chip learns here, and nowhere else, whether it is a full one, and whether the slave hangs on it
+-- the chip in a word of a pair of this rule, at the master's place or the slave's. A word says neither whether its chip is a full one nor whether the slave hangs on it: both are said here, and of new chips by `Pair.ofRule`
 abbrev pub isFull : ℕ → Bool
 isFull rule = eqb rule 2
 

@@ -1,8 +1,8 @@
 // Ported to Rattle from vpic.rs of the Rust crate x86_vlapic 0.5.4 (Apache License, Version 2.0; the text stands in LICENSE).
 //
 // Changed: the pair's state is four words that the caller lends, `specs/Words.antt`; each call works in place on them, and `EmulatedPic` lends its own: state in and out by
-// value, and no lock. Lines and vectors are `PicLine` and `Vector`; `Option` and `Result` became enums, and panics and logs went; the rule that T-02 asks for was added;
-// each function has its contract.
+// value, and no lock. Lines and vectors are `PicLine` and `Vector`; `Option` and `Result` became enums, and panics and logs went; T-02's rule, and the full profile
+// of T-04 and T-06, which is rule 2, were added; each function has its contract.
 
 ghost use mathlib.Core.Path.{_≡_};
 ghost use mathlib.Core.Bool.{true, false, not};
