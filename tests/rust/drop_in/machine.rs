@@ -355,9 +355,10 @@ fn random_pic(dice: &mut Dice) {
     }
 }
 
-/// The registers that both have, used so that both answer alike (drop_in/otherwise.rs has the rest): SVR's bit 8 stays 0,
-/// delivery modes 3 and 7 aren't sent, no destination is above 63 but a broadcast, and there are at most 64 vCPUs; in
-/// x2APIC mode ID isn't read, and LDR and DFR aren't written; timer registers and those that there aren't are left alone.
+/// The registers that both have, used so that both answer alike (drop_in/otherwise.rs has the rest): DFR and SVR are
+/// written first, since new ones differ; SVR's bit 8 stays 0, delivery modes 3 and 7 aren't sent, no destination is above
+/// 63 but a broadcast, and there are at most 64 vCPUs; in x2APIC mode ID isn't read, and LDR and DFR aren't written; timer
+/// registers and those that there aren't are left alone.
 fn random_local(dice: &mut Dice) -> X86VlapicResult {
     let local = EmulatedLocalApic::<Host>::new(7, 1);
     for (addr, word) in [(0xfee0_00e0, 0xffff_ffff), (0xfee0_00f0, 0xff)] {

@@ -9,8 +9,13 @@ use x86_vlapic::{
 
 use std::{
     fmt::Debug,
+    mem::take,
     panic::{AssertUnwindSafe, catch_unwind, set_hook},
+    sync::Mutex,
 };
+
+/// The vCPUs that something was injected to, since somebody last looked.
+static REACHED: Mutex<Vec<X86VcpuId>> = Mutex::new(Vec::new());
 
 struct Host<const VCPUS: usize = 2>;
 
@@ -24,7 +29,8 @@ impl<const VCPUS: usize> X86VlapicHostOps for Host<VCPUS> {
     fn active_vcpus() -> usize {
         3
     }
-    fn inject_interrupt(_vcpu_id: X86VcpuId, _vector: X86InterruptVector) -> X86VlapicResult {
+    fn inject_interrupt(vcpu_id: X86VcpuId, _vector: X86InterruptVector) -> X86VlapicResult {
+        REACHED.lock().unwrap().push(vcpu_id);
         Ok(())
     }
     fn inject_pit_irq(_vm_id: X86VmId, _vcpu_id: X86VcpuId) -> X86VlapicResult {
@@ -58,6 +64,13 @@ fn main() {
     });
     let local = EmulatedLocalApic::<Host>::new(0, 3);
     said("a new DFR", || read(&local, 0xe0));
+    // Both answer Ok(()) to each write: whom the command reaches is what differs, by the model that a new DFR has.
+    said("whom a logical ICR to 0x12 reaches, LDR 0x03, DFR new", || {
+        for (offset, value) in [(0xd0, 0x0300_0000), (0x310, 0x1200_0000), (0x300, 0x840)] {
+            write(&local, offset, value).unwrap();
+        }
+        take(&mut *REACHED.lock().unwrap())
+    });
     said("a new SVR", || read(&local, 0xf0));
     said("read of a register that there isn't, 0x40", || read(&local, 0x40));
     said("write of a register that there isn't, 0x40", || write(&local, 0x40, 0));
