@@ -417,15 +417,12 @@ fn read_beside_the_chip(offset: usize) -> Option<usize> {
 mod tests {
     use super::*;
     use std::format;
-    use std::sync::atomic::{AtomicUsize, Ordering::Relaxed};
 
-    struct Host;
+    struct Host<const VCPUS: usize = 64>;
 
-    static VCPU_NUM: AtomicUsize = AtomicUsize::new(64);
-
-    impl X86VlapicHostOps for Host {
+    impl<const VCPUS: usize> X86VlapicHostOps for Host<VCPUS> {
         fn vcpu_num() -> usize {
-            VCPU_NUM.load(Relaxed)
+            VCPUS
         }
         fn active_vcpus() -> usize {
             1
@@ -470,11 +467,10 @@ mod tests {
         assert_eq!(local.handle_msr_read(X86MsrAddr::new(0x7ff), DWORD).map(|_| ()), REFUSED);
         assert_eq!(local.handle_mmio_write(register(0x310), DWORD, 64 << 24), Ok(()));
         assert_eq!(local.handle_mmio_write(register(0x300), DWORD, 0x50), REFUSED);
-        VCPU_NUM.store(65, Relaxed);
         assert_eq!(local.handle_mmio_write(register(0x310), DWORD, 0), Ok(()));
-        assert_eq!(local.handle_mmio_write(register(0x300), DWORD, 0x50), REFUSED);
-        VCPU_NUM.store(64, Relaxed);
         assert_eq!(local.handle_mmio_write(register(0x300), DWORD, 0x50), Ok(()));
+        let crowded = EmulatedLocalApic::<Host<65>>::new(0, 0);
+        assert_eq!(crowded.handle_mmio_write(register(0x300), DWORD, 0x50), REFUSED);
     }
 
     /// rust/sillwander/README.md's list.
