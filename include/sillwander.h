@@ -27,7 +27,6 @@
 #include <stdbool.h>
 #include <stddef.h>
 #include <stdint.h>
-#include <string.h>
 
 #ifdef __cplusplus
 extern "C" {
@@ -285,20 +284,24 @@ sillwander_sent sillwander_vcpus_send(sillwander_vcpu *records, size_t count, ui
    `id` on. The spare words aren't touched. */
 static inline void sillwander_vcpu_to_words(const sillwander_vcpu *vcpu, uint64_t words[48])
 {
-    uint32_t own[41];
-    memcpy(own, (const char *)vcpu + offsetof(sillwander_vcpu, regs.id), sizeof own);
+    /* by bytes, which may be those of any object, and without memcpy: a freestanding C has no <string.h> */
+    const unsigned char *own = (const unsigned char *)vcpu + offsetof(sillwander_vcpu, regs.id);
     words[0] = vcpu->regs.x2apic;
-    for (int k = 0; k < 41; k++)
-        words[k + 1] = own[k];
+    for (int k = 0; k < 41; k++, own += 4)
+        words[k + 1] = (uint32_t)own[3] << 24 | (uint32_t)own[2] << 16 | (uint32_t)own[1] << 8 | own[0];
 }
 
 static inline void sillwander_vcpu_from_words(sillwander_vcpu *vcpu, const uint64_t words[48])
 {
-    uint32_t own[41];
-    for (int k = 0; k < 41; k++)
-        own[k] = (uint32_t)words[k + 1];
+    unsigned char *own = (unsigned char *)vcpu + offsetof(sillwander_vcpu, regs.id);
     vcpu->regs.x2apic = words[0] != 0;
-    memcpy((char *)vcpu + offsetof(sillwander_vcpu, regs.id), own, sizeof own);
+    for (int k = 0; k < 41; k++, own += 4) {
+        uint32_t word = (uint32_t)words[k + 1];
+        own[0] = (unsigned char)word;
+        own[1] = (unsigned char)(word >> 8);
+        own[2] = (unsigned char)(word >> 16);
+        own[3] = (unsigned char)(word >> 24);
+    }
 }
 
 /*
