@@ -134,7 +134,7 @@ uint64_t sillwander_ioapic_handle_write(uint64_t words[32], uint64_t addr, uint6
  * Rule 2 is the full 8259A profile: rule 1's cascade, and each chip takes all eight OCW2 commands, rotation with them; its priorities, and with them which request
  * counts, start after the chip's lowest line. A restore doesn't turn priorities back. OCW3 and ICW4 are taken too: in special mask mode a masked line in service
  * blocks none and no plain EOI ends it; after a poll command the next read of either port of that chip is an acknowledgement; in special fully nested mode the
- * master takes line 2 again while it is in service. ICW1 clears the mask and every mode.
+ * master takes line 2 again while it is in service. ICW1 clears the mask and every mode, and makes line 7 lowest.
  */
 #define SILLWANDER_PIC_WORDS 4
 
