@@ -426,8 +426,8 @@ def check_program(checks, tool, program, name, path, printed):
 
 
 def check_pages(checks, program, verbs, count, folder=TOP):
-    """Each command in the README and in docs/SCRIPTS.md that has one of the verbs prints what stands below it. In another folder than the repository's, what it writes stays there."""
-    pages = "\n".join((TOP / name).read_text(encoding="utf-8") for name in ("README.md", "docs/SCRIPTS.md"))
+    """Each command behind a `$` in the README and the pages that has one of the verbs prints what stands below it. In another folder than the repository's, what it writes stays there."""
+    pages = "\n".join((TOP / name).read_text(encoding="utf-8") for name in ("README.md", "docs/SCRIPTS.md", "docs/IMAGE.md"))
     blocks = re.findall(r"^    \$ (.*)\n((?:    .*\n)*)", pages, re.M)
     named = re.compile(rf"tools/script-text ({verbs})")
     blocks = [(line, below) for line, below in blocks if named.search(line)]
