@@ -8,7 +8,11 @@
 //! - **States** are arrays of words inside the types. There is no allocation and no global.
 //! - **Locking** is the caller's: a call that changes a chip takes `&mut self`, where the original takes `&self` and locks inside. [`Locked`] is such a lock.
 //! - **The xmm registers** are used by the archives: save a guest's before a call.
-//! - **No panics**: what the original panics at is refused with [`X86VlapicError::InvalidAddress`] or [`X86VlapicError::OutOfRange`].
+//! - **Panics**: where the original panics at a number, of a guest's or a host's, a call is refused here:
+//!   [`InvalidAddress`](X86VlapicError::InvalidAddress), [`OutOfRange`](X86VlapicError::OutOfRange), and for a local register
+//!   that there isn't [`InvalidInput`](X86VlapicError::InvalidInput). What panics, each where it says so, is
+//!   [`X86GuestPhysAddrRange::new`], [`WaitingLists::new`] and `from_bytes` of more than 64 vCPUs, and in [`x86_vlapic`] a local
+//!   APIC's `new` and an I/O APIC's `address_range`.
 //!
 //! ```
 //! use sillwander::{EmulatedIoApic, IoApicInterrupt, X86AccessWidth::Dword, X86GuestPhysAddr};

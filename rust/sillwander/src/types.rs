@@ -1,8 +1,9 @@
 //! Addresses, ports, widths and errors.
 //!
-//! After types.rs of x86_vlapic 0.5.4 (Copyright 2026 The Axvisor Team, Apache License 2.0; `NOTICE`). Changed: the timers' types are left out, and
-//! `X86VlapicError` has the refusals of document 01 in the place of the kinds that can't occur. The addresses, ports and ranges serve
-//! [`x86_vlapic`](crate::x86_vlapic) too, which has the original's errors.
+//! After types.rs of x86_vlapic 0.5.4 (Copyright 2026 The Axvisor Team, Apache License 2.0; `NOTICE`). Changed: the
+//! timers' types are left out, and `X86VlapicError` has the refusals of docs/REFERENCE.md in the place of the kinds
+//! that can't occur. The addresses, ports and ranges serve [`x86_vlapic`](crate::x86_vlapic) too, which has the
+//! original's errors.
 
 use core::fmt::{Debug, Formatter, LowerHex, UpperHex};
 
@@ -15,8 +16,10 @@ pub type X86VcpuId = usize;
 /// A guest interrupt vector.
 pub type X86InterruptVector = u8;
 
-/// Why a call was refused; the discriminant is document 01's refusal number. A refused call has changed nothing, but for an interrupt command that is
-/// refused for its kind or destination, which has stored its command words.
+/// Why a call was refused; the discriminant is the refusal's number in docs/REFERENCE.md. A refused call has changed
+/// nothing, with two exceptions: an interrupt command that is refused for its kind or destination has stored its
+/// command words; and a claim whose vector finds no place in a waiting list ([`ListFull`](Self::ListFull)) is restored,
+/// as [`restore_interrupt`](crate::EmulatedPic::restore_interrupt) does it, and the line that it raised stays latched.
 #[derive(Clone, Copy, Debug, Eq, PartialEq, Hash)]
 #[repr(u8)]
 pub enum X86VlapicError {
@@ -41,7 +44,7 @@ pub enum X86VlapicError {
 }
 
 impl X86VlapicError {
-    /// Document 01's refusal number.
+    /// The refusal's number, as docs/REFERENCE.md and include/sillwander.h have it.
     pub const fn number(self) -> u8 {
         self as u8
     }

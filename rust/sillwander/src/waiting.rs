@@ -32,7 +32,7 @@ pub struct WaitingLists<const VCPUS: usize> {
 }
 
 impl<const VCPUS: usize> WaitingLists<VCPUS> {
-    /// Nothing waits.
+    /// Nothing waits. More than 64 vCPUs panic; in a constant they aren't compiled.
     pub const fn new() -> Self {
         assert!(VCPUS <= 64, "there are 64 vCPUs at most");
         Self { lists: [[0; LIST_BYTES]; VCPUS] }
@@ -43,7 +43,8 @@ impl<const VCPUS: usize> WaitingLists<VCPUS> {
         self.lists
     }
 
-    /// The lists with these bytes. Any are lists: a place counts modulo 64, and a count above 64 as 64.
+    /// The lists with these bytes. Any are lists: a place counts modulo 64, and a count above 64 as 64. More than 64 vCPUs
+    /// panic, as in [`new`](Self::new).
     pub const fn from_bytes(lists: [[u8; LIST_BYTES]; VCPUS]) -> Self {
         let mut new = Self::new();
         new.lists = lists;
