@@ -21,9 +21,22 @@ type Lapic = [u64; LAPIC_WORDS];
 #[link(name = "the archives of sillwander: run tools/archives, or name their folder by SILLWANDER_ARCHIVES", kind = "static")]
 unsafe extern "C" {}
 
+/// An archive's functions. They are called by System V's convention, on targets too where `extern "C"` is another one; a
+/// processor that hasn't it only makes documents and lints.
+macro_rules! archive {
+    ($archive:literal, $($functions:tt)*) => {
+        #[cfg(target_arch = "x86_64")]
+        #[link(name = $archive, kind = "static")]
+        unsafe extern "sysv64" { $($functions)* }
+
+        #[cfg(not(target_arch = "x86_64"))]
+        #[link(name = $archive, kind = "static")]
+        unsafe extern "C" { $($functions)* }
+    };
+}
+
 // SAFETY: the signatures are the header's; that the functions keep to them is proved.
-#[link(name = "vioapic_c", kind = "static")]
-unsafe extern "C" {
+archive! { "vioapic_c",
     pub safe fn sillwander_ioapic_new(words: &mut IoApic, base: u64, size: u64) -> u64;
     pub safe fn sillwander_ioapic_new_version(words: &mut IoApic, base: u64, size: u64, version: u64) -> u64;
     pub safe fn sillwander_ioapic_new_default(words: &mut IoApic) -> u64;
@@ -38,8 +51,7 @@ unsafe extern "C" {
 }
 
 // SAFETY: as above.
-#[link(name = "vpic_c", kind = "static")]
-unsafe extern "C" {
+archive! { "vpic_c",
     pub safe fn sillwander_pic_new(words: &mut Pic) -> u64;
     pub safe fn sillwander_pic_new_rule(words: &mut Pic, rule: u64) -> u64;
     pub safe fn sillwander_pic_port_ranges(ranges: &mut [u64; 4]) -> u64;
@@ -53,8 +65,7 @@ unsafe extern "C" {
 }
 
 // SAFETY: as above.
-#[link(name = "vlapic_c", kind = "static")]
-unsafe extern "C" {
+archive! { "vlapic_c",
     pub safe fn sillwander_lapic_setup(words: &mut Lapic, x2apic: u64, vcpu_id: u64, vcpu_num: u64) -> u64;
     pub safe fn sillwander_lapic_new(words: &mut Lapic) -> u64;
     pub safe fn sillwander_lapic_accept_interrupt(words: &mut Lapic, vector: u64, level_triggered: u64) -> u64;
@@ -72,8 +83,7 @@ unsafe extern "C" {
 }
 
 // SAFETY: as above. Two arrays that are lent at once are apart, as two `&mut` are.
-#[link(name = "board_c", kind = "static")]
-unsafe extern "C" {
+archive! { "board_c",
     pub safe fn sillwander_board_new(ioapic: &mut IoApic, apic: &mut Lapic) -> u64;
     pub safe fn sillwander_board_set_gsi_level(ioapic: &mut IoApic, apic: &mut Lapic, gsi: u64, asserted: u64) -> u64;
     pub safe fn sillwander_board_accept_interrupt(apic: &mut Lapic) -> u64;
@@ -84,8 +94,7 @@ unsafe extern "C" {
 }
 
 // SAFETY: as above. Each pointer has as many elements behind it as the number after it says.
-#[link(name = "planner_c", kind = "static")]
-unsafe extern "C" {
+archive! { "planner_c",
     pub fn sillwander_plan_check(ranges: *const u16, lines: usize, taken: &[u64; 4], plan: *const u8, bytes: usize) -> u64;
     pub fn sillwander_plan(ranges: *const u16, lines: usize, taken: &[u64; 4], plan: *mut u8, bytes: usize) -> u64;
     pub fn sillwander_plan_shortage(ranges: *const u16, lines: usize, taken: &[u64; 4], set: &mut [u64; 1]) -> u64;
@@ -99,8 +108,7 @@ pub struct Sent {
 }
 
 // SAFETY: as above. The pointer has `count` records behind it, whose layout is C's (`repr(C)`).
-#[link(name = "vcpus", kind = "static")]
-unsafe extern "C" {
+archive! { "vcpus",
     pub fn sillwander_vcpus_send(
         records: *mut Vcpu,
         count: usize,
@@ -113,8 +121,7 @@ unsafe extern "C" {
 }
 
 // SAFETY: as above.
-#[link(name = "waiting_c", kind = "static")]
-unsafe extern "C" {
+archive! { "waiting_c",
     pub fn sillwander_waiting_new(lists: *mut u8, bytes: usize, vcpu_id: usize) -> u64;
     pub fn sillwander_waiting_take(lists: *mut u8, bytes: usize, vcpu_id: usize, vector: u64) -> u64;
     pub fn sillwander_waiting_deliver(lists: *mut u8, bytes: usize, vcpu_id: usize) -> u64;
@@ -137,8 +144,7 @@ unsafe extern "C" {
 }
 
 // SAFETY: as above.
-#[link(name = "image_c", kind = "static")]
-unsafe extern "C" {
+archive! { "image_c",
     pub fn sillwander_image_save(ioapic: &IoApic, apic: &Lapic, pic: &Pic, image: *mut u8, bytes: usize) -> u64;
     pub fn sillwander_image_restore(image: *const u8, bytes: usize, ioapic: &mut IoApic, apic: &mut Lapic, pic: &mut Pic) -> u64;
 }

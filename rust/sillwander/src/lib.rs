@@ -27,7 +27,7 @@
 #![deny(missing_docs, unsafe_op_in_unsafe_fn)]
 
 // Documentation and lints don't link, and so do without.
-#[cfg(not(any(target_arch = "x86_64", doc, clippy)))]
+#[cfg(not(any(all(target_arch = "x86_64", target_pointer_width = "64"), doc, clippy)))]
 compile_error!("sillwander's archives are x86-64, and nothing else can be linked: build with --target x86_64-unknown-linux-gnu");
 
 #[cfg(test)]
