@@ -12,7 +12,8 @@ fn main() {
         None => {
             let top = PathBuf::from(env::var_os("CARGO_MANIFEST_DIR").expect("cargo sets it")).join("../..");
             let [built, released] = ["target/staticlib", "lib"].map(|folder| top.join(folder));
-            if released.is_dir() { released } else { built }
+            // any project may have a folder of that name above it
+            if released.join("libvioapic_c.a").is_file() { released } else { built }
         }
     };
     let files = ["vioapic_c", "vpic_c", "vlapic_c", "board_c", "vcpus", "waiting_c", "image_c", "planner_c"]
