@@ -12,32 +12,48 @@ use core::fmt::{Debug, Formatter};
 /// The registers of a vCPU's local APIC, in the order of the words of an [`EmulatedLocalApic`](crate::EmulatedLocalApic).
 #[derive(Clone, Copy, Eq, PartialEq)]
 #[repr(C)]
-#[allow(missing_docs)] // the registers' own names
 pub struct LocalApicRegisters {
     /// x2APIC mode; else xAPIC mode.
     pub x2apic: bool,
     /// Isn't asked: a vCPU's id is its record's place.
     pub id: u32,
+    /// Task priority.
     pub tpr: u32,
+    /// Processor priority.
     pub ppr: u32,
+    /// Logical destination.
     pub ldr: u32,
+    /// Destination format.
     pub dfr: u32,
+    /// Spurious interrupt vector.
     pub svr: u32,
+    /// Error status.
     pub esr: u32,
     /// Errors since `esr` was last written.
     pub esr_pending: u32,
+    /// Interrupt command, low word.
     pub icr_lo: u32,
+    /// Interrupt command, high word.
     pub icr_hi: u32,
+    /// Local vector: corrected machine checks.
     pub lvt_cmci: u32,
+    /// Local vector: timer.
     pub lvt_timer: u32,
+    /// Local vector: thermal sensor.
     pub lvt_thermal: u32,
+    /// Local vector: performance counters.
     pub lvt_pmi: u32,
+    /// Local vector: pin LINT0.
     pub lvt_lint0: u32,
+    /// Local vector: pin LINT1.
     pub lvt_lint1: u32,
+    /// Local vector: errors.
     pub lvt_error: u32,
-    /// Vector v is bit v % 32 of word v / 32, here and below: in service, level-triggered, requested.
+    /// In service: vector v is bit v % 32 of word v / 32, here and below.
     pub isr: [u32; 8],
+    /// Trigger mode: level-triggered.
     pub tmr: [u32; 8],
+    /// Requested.
     pub irr: [u32; 8],
 }
 
