@@ -8,6 +8,9 @@
 //! - **States** are arrays of words inside the types. There is no allocation and no global.
 //! - **Locking** is the caller's: a call that changes a chip takes `&mut self`, where the original takes `&self` and locks inside. [`Locked`] is such a lock.
 //! - **The xmm registers** are used by the archives: save a guest's before a call.
+//! - **The red zone** is too, whatever the target says: on a stack on which interrupts are taken, these have to be off during
+//!   a call, and NMIs and other exceptions need a stack of their own. A function of the archives takes at most 4 KB of stack,
+//!   that behind [`EmulatedBoard::restore`] 12 KB.
 //! - **Panics**: where the original panics at a number, of a guest's or a host's, a call is refused here:
 //!   [`InvalidAddress`](X86VlapicError::InvalidAddress), [`OutOfRange`](X86VlapicError::OutOfRange), and for a local register
 //!   that there isn't [`InvalidInput`](X86VlapicError::InvalidInput). What panics, each where it says so, is
