@@ -11,11 +11,11 @@ use Rattle.utils.specs.Set.{bit, with, without}
 use Rattle.utils.proofs.Bools.{never, both, either, not-is, and-true}
 use Rattle.utils.proofs.Laws.{bit-none, bit-with-same, bit-with-other, bit-without-other}
 use Rattle.types.specs.declared.PicLine.{PicLine}
-use Rattle.vpic_chip.specs.Registers.{Chip}
+use Rattle.vpic_chip.specs.Registers.{Chip, withPoll}
 use Rattle.vpic_priority.specs.Ring.{rank, firstRank, firstBy}
 use Rattle.vpic_priority.proofs.Ring.{rank-lt}
-use Rattle.vpic_chip.specs.Chip.{lowestBy, turned, specificEoi, nonSpecificEoi, autoRotated, icw1, ocw3, counts, pendingLine, asks, acknowledged, pulsed, driven, unacknowledged, commanded, fed}
-use Rattle.vpic_theorems.specs.Rotation.{Event, raise, drive, acknowledge, take-back, command, data-write, after, linesOf, lines, within, keepsTurns, isOrdinary, fairly, turns, raises, rounds, FairRounds, LastIsEighth, Needed, Waits, Fair, FairInEight}
+use Rattle.vpic_chip.specs.Chip.{lowestBy, turned, specificEoi, nonSpecificEoi, autoRotated, icw1, ocw3, counts, pendingLine, asks, acknowledged, pulsed, driven, unacknowledged, polled, commanded, fed}
+use Rattle.vpic_theorems.specs.Rotation.{Event, raise, drive, acknowledge, poll-read, take-back, command, data-write, after, linesOf, lines, within, keepsTurns, isOrdinary, fairly, turns, raises, rounds, FairRounds, LastIsEighth, Needed, Waits, Fair, FairInEight}
 use Rattle.vpic_theorems.proofs.Ring.{rank-turn, AllBefore, before, before-le, before-none, all-with, before-with, all-turn, before-turn, all-ended, before-ended}
 use Rattle.vpic_theorems.proofs.Ordinary.{ordinary-ended, ordinary-plainly, idle-plainly}
 use Rattle.vpic_theorems.proofs.Turns.{Becomes, becomes-same, ack-idle, eoi-taken, taken-still, raise-becomes, raise-keeps, ack-turns, ack-serves, fed-keeps, Next, next, asks-for, highestInService, rotatingEoi, eoi-highest, turned-not, top-in, top-first}
@@ -130,22 +130,37 @@ abbrev ServedBy : ℕ → Chip → List Event → Type 0
 ServedBy n c l =
     (b : ℕ) → Waiting n c → fairly n c l ≡ true → rank (lowestBy c) n < b + before (lowestBy c) (c .«in_service») n → b ≤ length (lines c l) → within n b (lines c l) ≡ true
 
--- line k is served, n or another
-served : (n : ℕ) → n < 8 → (c : Chip) (l : List Event) (k b : ℕ) → Next c k → ServedBy n (acknowledged c k) l → Waiting n c
-    → (not (bit (c .mask) n) && turns c) ≡ true → ((eqb k n || false) || fairly n (acknowledged c k) l) ≡ true
-    → rank (lowestBy c) n < b + before (lowestBy c) (c .«in_service») n → b ≤ suc (length (lines (acknowledged c k) l)) → within n b (k ∷ lines (acknowledged c k) l) ≡ true
-served n nlow c l k zero m r w u v h q = absurd (omega (arith, before-le (lowestBy c) (c .«in_service») n))
-served n nlow c l k (suc d) m r w u v h q = go (eqb k n) refl v
+-- line k is served, n or another, and e is left
+served : (n : ℕ) (c e : Chip) (l : List Event) (k b : ℕ) → ((k ≡ n → ⊥) → Step n c e 1) → ServedBy n e l → ((eqb k n || false) || fairly n e l) ≡ true
+    → rank (lowestBy c) n < b + before (lowestBy c) (c .«in_service») n → b ≤ suc (length (lines e l)) → within n b (k ∷ lines e l) ≡ true
+served n c e l k zero t r v h q = absurd (omega (arith, before-le (lowestBy c) (c .«in_service») n))
+served n c e l k (suc d) t r v h q = go (eqb k n) refl v
   where
-    go : (z : Bool) → eqb k n ≡ z → ((z || false) || fairly n (acknowledged c k) l) ≡ true → (z || within n d (lines (acknowledged c k) l)) ≡ true
-    go true e v = refl
-    go false e v =
-        let a = and-true (not (bit (c .mask) n)) (turns c) u in
-        let s = taken n nlow c w k m (not-is (bit (c .mask) n) (a .0)) (eqb-false k n e) (c .«auto_eoi») (c .«auto_rotation») refl refl (a .1) in
-        r d (s .waiting) v (omega (arith, s .turns)) (omega arith)
+    go : (z : Bool) → eqb k n ≡ z → ((z || false) || fairly n e l) ≡ true → (z || within n d (lines e l)) ≡ true
+    go true i v = refl
+    go false i v = let s = t (eqb-false k n i) in r d (s .waiting) v (omega (arith, s .turns)) (omega arith)
+
+-- an acknowledgement, after which the chip is passed through p
+module _ (n : ℕ) (nlow : n < 8) (c : Chip) (l : List Event) (p : Chip → Chip) (keeps : (e : Chip) (d : ℕ) → Step n c e d → Step n c (p e) d) (w : Waiting n c) (o : isOrdinary c ≡ true) where
+  acknowledges : ((e : Chip) → ServedBy n e l) → (not (bit (c .mask) n) && turns c) ≡ true → (b : ℕ) (a : Bool) → asks c ≡ a
+      → (within n 1 (cond a (pendingLine c ∷ []) []) || fairly n (p (cond a (acknowledged c (pendingLine c)) c)) l) ≡ true → rank (lowestBy c) n < b + before (lowestBy c) (c .«in_service») n
+      → b ≤ length (cond a (pendingLine c ∷ []) [] ++ lines (p (cond a (acknowledged c (pendingLine c)) c)) l)
+      → within n b (cond a (pendingLine c ∷ []) [] ++ lines (p (cond a (acknowledged c (pendingLine c)) c)) l) ≡ true
+  acknowledges r u b true e v h q =
+      let k = pendingLine c in
+      let t = and-true (not (bit (c .mask) n)) (turns c) u in
+      served n c (p (acknowledged c k)) l k b
+      (λ d. keeps (acknowledged c k) 1 (taken n nlow c w k (next c (ordinary-plainly c o) e) (not-is (bit (c .mask) n) (t .0)) d (c .«auto_eoi») (c .«auto_rotation») refl refl (t .1)))
+      (r (p (acknowledged c k))) v h q
+  acknowledges r u b false e v h q = let s = keeps c 0 (same n c c w refl (w .asked) refl refl) in r (p c) b (s .waiting) v (omega (arith, s .turns)) q
+
+-- a poll that is over changes nothing of it
+unpolled-step : (n : ℕ) (c e : Chip) (d : ℕ) → Step n c e d → Step n c (withPoll e false) d
+unpolled-step n c e d s = record { waiting = record { full = s .waiting .full; asked = s .waiting .asked; all = s .waiting .all }; turns = s .turns }
 
 module _ (n : ℕ) (nlow : n < 8) where
   served-by : (l : List Event) (c : Chip) → ServedBy n c l
+  unfolding polled
   served-by [] c b w f h q = absurd (omega (arith, before-le (lowestBy c) (c .«in_service») n))
   served-by (raise p ∷ l) c b w f h q =
       let s = raised n c p w in
@@ -169,14 +184,11 @@ module _ (n : ℕ) (nlow : n < 8) where
   served-by (acknowledge ∷ l) c b w f h q =
       let o = and-true (isOrdinary c) ((not (bit (c .mask) n) && turns c) && (within n 1 (linesOf c acknowledge) || fairly n (after c acknowledge) l)) f in
       let k = and-true (not (bit (c .mask) n) && turns c) (within n 1 (linesOf c acknowledge) || fairly n (after c acknowledge) l) (o .1) in
-      go (o .0) (asks c) refl (k .1) q (λ e. served-by l e) (k .0)
-    where
-      go : isOrdinary c ≡ true → (a : Bool) → asks c ≡ a → (within n 1 (cond a (pendingLine c ∷ []) []) || fairly n (cond a (acknowledged c (pendingLine c)) c) l) ≡ true
-          → b ≤ length (cond a (pendingLine c ∷ []) [] ++ lines (cond a (acknowledged c (pendingLine c)) c) l) → ((e : Chip) → ServedBy n e l)
-          → (not (bit (c .mask) n) && turns c) ≡ true
-          → within n b (cond a (pendingLine c ∷ []) [] ++ lines (cond a (acknowledged c (pendingLine c)) c) l) ≡ true
-      go o true e v q r u = served n nlow c l (pendingLine c) b (next c (ordinary-plainly c o) e) (r (acknowledged c (pendingLine c))) w u v h q
-      go o false e v q r u = r c b w v h q
+      acknowledges n nlow c l (λ e. e) (λ e d s. s) w (o .0) (λ e. served-by l e) (k .0) b (asks c) refl (k .1) h q
+  served-by (poll-read ∷ l) c b w f h q =
+      let o = and-true (isOrdinary c) ((not (bit (c .mask) n) && turns c) && (within n 1 (linesOf c poll-read) || fairly n (after c poll-read) l)) f in
+      let k = and-true (not (bit (c .mask) n) && turns c) (within n 1 (linesOf c poll-read) || fairly n (after c poll-read) l) (o .1) in
+      acknowledges n nlow c l (λ e. withPoll e false) (unpolled-step n c) w (o .0) (λ e. served-by l e) (k .0) b (asks c) refl (k .1) h q
 
 -- nothing in service: nothing stands before n
 starts : (c : Chip) (n : ℕ) → Waits c n → Waiting n c
@@ -284,13 +296,14 @@ unfolding asks pendingLine counts firstBy firstRank acknowledged pulsed commande
 last-is-eighth = refl
 
 pub needed : Needed
-unfolding asks pendingLine counts firstBy firstRank acknowledged unacknowledged pulsed driven commanded fed with without
+unfolding asks pendingLine counts firstBy firstRank acknowledged unacknowledged pulsed driven polled commanded fed with without
 needed = record {
   «plain-eoi» = refl;
   «specific-eoi» = refl;
   «set-priority» = refl;
   «specific-rotation» = refl;
   «auto-eoi» = refl;
+  «auto-eoi-polled» = refl;
   «taken-back» = refl;
   masked = refl;
   «driven-down» = refl;

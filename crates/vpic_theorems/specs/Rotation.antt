@@ -14,7 +14,7 @@ use Rattle.types.specs.Reply.{Outcome, flag, replyValues}
 use Rattle.types.specs.Departure.{Departure, Shown}
 use Rattle.vpic_priority.specs.Ring.{rank}
 use Rattle.vpic_chip.specs.Registers.{Chip, registers, plainRegisters, withRequest, withStep, withReadIsr, withLowest, withNested, asFull, placed}
-use Rattle.vpic_chip.specs.Chip.{cascadeIrq, lowestBy, isSpecial, isNested, isPolled, opened, commanded, fed, commandRead, pulsed, driven, pendingLine, asks, pendingIrq, pendingReply, acknowledged, acknowledge as chipAcknowledge, unacknowledged, pollShown}
+use Rattle.vpic_chip.specs.Chip.{cascadeIrq, lowestBy, isSpecial, isNested, isPolled, opened, commanded, fed, commandRead, pulsed, driven, pendingLine, asks, pendingIrq, pendingReply, acknowledged, acknowledge as chipAcknowledge, unacknowledged, pollShown, polled}
 use Rattle.vpic.specs.declared.PicRule.the-variants.{Cascade, Full}
 use Rattle.vpic.specs.declared.PicInterruptClaim.{PicInterruptClaim}
 use Rattle.vpic.specs.declared.PicClaim.{PicClaim}
@@ -31,6 +31,7 @@ pub data Event : Type 0 where
   raise : PicLine → Event
   drive : PicLine → Bool → Event  -- by a level, as the slave's output drives the master's line 2 after each call on the pair
   acknowledge : Event  -- of the first line that counts; where none does, nothing
+  poll-read : Event  -- a read while a poll waits: the same
   take-back : PicLine → Bool → Event  -- an acknowledgement that couldn't be published
   command : ℕ → Event
   data-write : ℕ → Event
@@ -39,6 +40,7 @@ abbrev pub after : Chip → Event → Chip
 after c (raise l) = pulsed c l
 after c (drive l up) = driven c (l .0) up
 after c acknowledge = cond (asks c) (acknowledged c (pendingLine c)) c
+after c poll-read = polled c
 after c (take-back l f) = unacknowledged c l f
 after c (command v) = commanded c v
 after c (data-write v) = fed c v
@@ -48,6 +50,7 @@ abbrev pub linesOf : Chip → Event → List ℕ
 linesOf c (raise l) = []
 linesOf c (drive l up) = []
 linesOf c acknowledge = cond (asks c) (pendingLine c ∷ []) []
+linesOf c poll-read = cond (asks c) (pendingLine c ∷ []) []
 linesOf c (take-back l f) = []
 linesOf c (command v) = []
 linesOf c (data-write v) = []
@@ -76,12 +79,13 @@ turns c = not (c .«auto_eoi») || c .«auto_rotation»
 abbrev pub isOrdinary : Chip → Bool
 isOrdinary c = not (isSpecial c) && not (isNested c)
 
--- what is asked of each event as long as line n waits: at an acknowledgement the line is unmasked, and the chip turns; nothing is taken back; no level takes the line's own request
+-- what is asked of each event as long as line n waits: at an acknowledgement, a poll's too, the line is unmasked, and the chip turns; nothing is taken back; no level takes the line's own request
 -- away. Edges and levels on any other lines, and any writes to the data port; but no mode is on
 abbrev pub lets : ℕ → Chip → Event → Bool
 lets n c (raise l) = true
 lets n c (drive l up) = up || not (eqb n (l .0))
 lets n c acknowledge = not (bit (c .mask) n) && turns c
+lets n c poll-read = not (bit (c .mask) n) && turns c
 lets n c (take-back l f) = false
 lets n c (command v) = keepsTurns v
 lets n c (data-write v) = true
@@ -160,6 +164,7 @@ pub record Needed : Type 0 where
   pub «specific-rotation» : starves (fullAt 3 0 0 false) (command 0xa0 ∷ command 0xe7 ∷ [])
   -- automatic EOI mode without rotation
   pub «auto-eoi» : starves (fullAt 3 0 0 true) []
+  pub «auto-eoi-polled» : lines (fullAt 3 0 0 true) (often 8 (poll-read ∷ edge 0 ∷ [])) ≡ often 8 (0 ∷ [])
   pub «taken-back» : starves (fullAt 3 0 0 false) (take-back (line 0) true ∷ [])
   pub masked : starves (fullAt 3 2 0 false) (command 0xa0 ∷ [])
   -- line 1 driven by a level, and down at each acknowledgement
