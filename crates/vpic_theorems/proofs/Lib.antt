@@ -15,3 +15,4 @@ pub mod FullRule
 pub mod Exactly
 pub mod Modes
 pub mod Polls
+pub mod OnPair
