@@ -1,6 +1,6 @@
--- The master of a pair by the cascade rule (8259A, cascade mode), whatever is called: what a call does to it is a list of one chip's events, so that rotation is fair there too, with
--- nested handlers, a slave that comes and goes, and polls.
-use Prim.Native.Nat.{ℕ, suc, _%_, _<_}
+-- The chips of a pair (8259A, cascade mode), whatever is called: what a call does to each is a list of one chip's events, so that rotation is fair there too, with nested handlers, a
+-- slave that comes and goes, and polls.
+use Prim.Native.Nat.{ℕ, suc, _-_, _%_, _<_}
 use mathlib.Core.Path.{_≡_}
 use mathlib.Core.Bool.{Bool, true, false, cond}
 use mathlib.Core.List.{List, [], _∷_, _++_}
@@ -14,12 +14,12 @@ use Rattle.vpic_priority.specs.Ring.{rank}
 use Rattle.vpic_chip.specs.Registers.{Chip}
 use Rattle.vpic_chip.specs.Chip.{cascadeIrq, lowestBy, asks, isPolled}
 use Rattle.vpic.specs.Words.{PicState}
-use Rattle.vpic.specs.Pair.{Port, master-command, master-data, slave-command, slave-data, no-port, portAt, isCascade, latched, claimPending, restored, slaveRead, writtenTo}
+use Rattle.vpic.specs.Pair.{Port, master-command, master-data, slave-command, slave-data, no-port, portAt, isCascade, latched, pendingPlace, claimPending, restored, slaveRead, writtenTo}
 use Rattle.vpic.specs.Departures.{line, pair}
 use Rattle.vpic_theorems.specs.Statements.{Call, claim-irq, claim-pending-interrupt, pulse-irq, next-interrupt, restore-interrupt, handle-read, handle-write, outcome}
 use Rattle.vpic_theorems.specs.Rotation.{Event, raise, drive, acknowledge, poll-read, take-back, command, data-write, after, linesOf, lines, within, fairly, Waits, fullAt, claimLine, claimedBy, claims}
 
--- ---- a call, event by event
+-- ---- what a call does to the master, event by event
 
 -- what ends each: the output of the slave of q on line 2
 abbrev pub driveFrom : PicState → Event
@@ -73,7 +73,7 @@ abbrev pub afterAll : Chip → List Event → Chip
 afterAll c [] = c
 afterAll c (e ∷ l) = afterAll (after c e) l
 
--- the master after any call is the master after these events
+-- by rules 1 and 2 the master after any call is the master after these events
 abbrev pub MasterIs : Type 0
 MasterIs = (p : PicState) (c : Call) → isCascade p ≡ true → outcome p c .state .master ≡ afterAll (p .master) (masterEvents p c)
 
@@ -92,35 +92,111 @@ polledLine p slave-command = []
 polledLine p slave-data = []
 polledLine p no-port = []
 
-abbrev pub servedBy : PicState → Call → List ℕ
-servedBy p (claim-irq l) = onMaster (claimLine (claimedBy p (claim-irq l)))
-servedBy p claim-pending-interrupt = onMaster (claimLine (claimedBy p claim-pending-interrupt))
-servedBy p (pulse-irq l) = onMaster (claimLine (claimedBy p (pulse-irq l)))
-servedBy p next-interrupt = onMaster (claimLine (claimedBy p next-interrupt))
-servedBy p (restore-interrupt c) = []
-servedBy p (handle-read port width) = cond (eqb width 1) (polledLine p (portAt port)) []
-servedBy p (handle-write port width value) = []
+abbrev pub masterServed : PicState → Call → List ℕ
+masterServed p (claim-irq l) = onMaster (claimLine (claimedBy p (claim-irq l)))
+masterServed p claim-pending-interrupt = onMaster (claimLine (claimedBy p claim-pending-interrupt))
+masterServed p (pulse-irq l) = onMaster (claimLine (claimedBy p (pulse-irq l)))
+masterServed p next-interrupt = onMaster (claimLine (claimedBy p next-interrupt))
+masterServed p (restore-interrupt c) = []
+masterServed p (handle-read port width) = cond (eqb width 1) (polledLine p (portAt port)) []
+masterServed p (handle-write port width value) = []
 
-abbrev pub ServedAre : Type 0
-ServedAre = (p : PicState) (c : Call) → isCascade p ≡ true → lines (p .master) (masterEvents p c) ≡ servedBy p c
+abbrev pub MasterServedAre : Type 0
+MasterServedAre = (p : PicState) (c : Call) → isCascade p ≡ true → lines (p .master) (masterEvents p c) ≡ masterServed p c
 
 -- ---- so rotation is fair to the master's lines, whatever is called
 
-abbrev pub eventsOf : PicState → List Call → List Event
-eventsOf p [] = []
-eventsOf p (c ∷ l) = masterEvents p c ++ eventsOf (outcome p c .state) l
-
-abbrev pub served : PicState → List Call → List ℕ
-served p [] = []
-served p (c ∷ l) = servedBy p c ++ served (outcome p c .state) l
+-- what f says of each call of a run
+abbrev pub along : {A : Type 0} → (PicState → Call → List A) → PicState → List Call → List A
+along f p [] = []
+along f p (c ∷ l) = f p c ++ along f (outcome p c .state) l
 
 -- with the premises of one chip (`fairly`): of line 2 itself also that no call takes the slave's request away
-abbrev pub FairOnPair : Type 0
-FairOnPair =
-    (p : PicState) (n : ℕ) (l : List Call) → isCascade p ≡ true → Waits (p .master) n → fairly n (p .master) (eventsOf p l) ≡ true → rank (lowestBy (p .master)) n < length (served p l)
-    → within n (suc (rank (lowestBy (p .master)) n)) (served p l) ≡ true
+abbrev pub FairOnMaster : Type 0
+FairOnMaster =
+    (p : PicState) (n : ℕ) (l : List Call) → isCascade p ≡ true → Waits (p .master) n → fairly n (p .master) (along masterEvents p l) ≡ true
+    → rank (lowestBy (p .master)) n < length (along masterServed p l) → within n (suc (rank (lowestBy (p .master)) n)) (along masterServed p l) ≡ true
 
--- such a run, and the bound is met: line 3, of rank 3, waits, line 1 is claimed, line 0 in the middle of its handler, a slave's line waits for both EOIs, and line 3 is the fourth, by a poll
+-- ---- the same of the slave, by every rule
+
+abbrev pub slaveEdges : PicPlace → List Event
+slaveEdges (Master k) = []
+slaveEdges (Slave k) = raise k ∷ []
+slaveEdges Nowhere = []
+
+-- a claim acknowledges there where it comes through line 2
+abbrev pub slaveClaims : PicPlace → List Event
+slaveClaims (Master k) = []
+slaveClaims (Slave k) = acknowledge ∷ []
+slaveClaims Nowhere = []
+
+abbrev pub slaveBack : PicPlace → Bool → List Event
+slaveBack (Master k) f = []
+slaveBack (Slave k) f = take-back k f ∷ []
+slaveBack Nowhere f = []
+
+abbrev pub slaveReads : PicState → Port → List Event
+slaveReads p master-command = []
+slaveReads p master-data = []
+slaveReads p slave-command = cond (isPolled (p .slave)) (poll-read ∷ []) []
+slaveReads p slave-data = cond (isPolled (p .slave)) (poll-read ∷ []) []
+slaveReads p no-port = []
+
+abbrev pub slaveWrites : Port → ℕ → List Event
+slaveWrites master-command byte = []
+slaveWrites master-data byte = []
+slaveWrites slave-command byte = command byte ∷ []
+slaveWrites slave-data byte = data-write byte ∷ []
+slaveWrites no-port byte = []
+
+abbrev pub slaveIrq : PicState → PicLine → List Event
+slaveIrq p l = cond (ltb (l .0) 16) (slaveEdges (placeOf l) ++ slaveClaims (pendingPlace (latched p l))) []
+
+abbrev pub slaveEvents : PicState → Call → List Event
+slaveEvents p (claim-irq l) = slaveIrq p l
+slaveEvents p claim-pending-interrupt = slaveClaims (pendingPlace p)
+slaveEvents p (pulse-irq l) = slaveIrq p l
+slaveEvents p next-interrupt = slaveClaims (pendingPlace p)
+slaveEvents p (restore-interrupt c) = cond (ltb (c .irq .0) 16) (slaveBack (placeOf (c .irq)) (c .«slave_in_service»)) []
+slaveEvents p (handle-read port width) = cond (eqb width 1) (slaveReads p (portAt port)) []
+slaveEvents p (handle-write port width value) = cond (eqb width 1) (slaveWrites (portAt port) (value % 256)) []
+
+abbrev pub SlaveIs : Type 0
+SlaveIs = (p : PicState) (c : Call) → outcome p c .state .slave ≡ afterAll (p .slave) (slaveEvents p c)
+
+-- of what a claim answers the lines from 8 up
+abbrev pub onSlave : List ℕ → List ℕ
+onSlave [] = []
+onSlave (k ∷ l) = cond (ltb k 8) (onSlave l) ((k - 8) ∷ onSlave l)
+
+abbrev pub slavePolled : PicState → Port → List ℕ
+slavePolled p master-command = []
+slavePolled p master-data = []
+slavePolled p slave-command = cond (isPolled (p .slave)) (linesOf (p .slave) poll-read) []
+slavePolled p slave-data = cond (isPolled (p .slave)) (linesOf (p .slave) poll-read) []
+slavePolled p no-port = []
+
+abbrev pub slaveServed : PicState → Call → List ℕ
+slaveServed p (claim-irq l) = onSlave (claimLine (claimedBy p (claim-irq l)))
+slaveServed p claim-pending-interrupt = onSlave (claimLine (claimedBy p claim-pending-interrupt))
+slaveServed p (pulse-irq l) = onSlave (claimLine (claimedBy p (pulse-irq l)))
+slaveServed p next-interrupt = onSlave (claimLine (claimedBy p next-interrupt))
+slaveServed p (restore-interrupt c) = []
+slaveServed p (handle-read port width) = cond (eqb width 1) (slavePolled p (portAt port)) []
+slaveServed p (handle-write port width value) = []
+
+abbrev pub SlaveServedAre : Type 0
+SlaveServedAre = (p : PicState) (c : Call) → lines (p .slave) (slaveEvents p c) ≡ slaveServed p c
+
+abbrev pub FairOnSlave : Type 0
+FairOnSlave =
+    (p : PicState) (n : ℕ) (l : List Call) → Waits (p .slave) n → fairly n (p .slave) (along slaveEvents p l) ≡ true
+    → rank (lowestBy (p .slave)) n < length (along slaveServed p l) → within n (suc (rank (lowestBy (p .slave)) n)) (along slaveServed p l) ≡ true
+
+-- ---- such a run
+
+-- the master's bound is met: line 3, of rank 3, waits, line 1 is claimed, line 0 in the middle of its handler, a slave's line waits for both EOIs, and line 3 is the fourth, by a poll;
+-- the slave's line 1 is served meanwhile
 abbrev pub threeWaits : PicState
 threeWaits = pair 2 (fullAt 8 0 0 false) (fullAt 0 0 0 false)
 
@@ -130,6 +206,7 @@ nestedCalls =
     ∷ handle-write 0xa0 1 0xa0 ∷ handle-write 0x20 1 0xa0 ∷ handle-write 0x20 1 0x0c ∷ handle-read 0x20 1 ∷ []
 
 pub record NestedOnPair : Type 0 where
-  pub fair : fairly 3 (threeWaits .master) (eventsOf threeWaits nestedCalls) ≡ true
-  pub served : served threeWaits nestedCalls ≡ 1 ∷ 0 ∷ 2 ∷ 3 ∷ []
+  pub fair : fairly 3 (threeWaits .master) (along masterEvents threeWaits nestedCalls) ≡ true
+  pub master : along masterServed threeWaits nestedCalls ≡ 1 ∷ 0 ∷ 2 ∷ 3 ∷ []
+  pub slave : along slaveServed threeWaits nestedCalls ≡ 1 ∷ []
   pub claims : claims threeWaits nestedCalls ≡ 1 ∷ 0 ∷ 9 ∷ []
