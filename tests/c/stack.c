@@ -1,12 +1,13 @@
 /*
  * How much stack a call takes: each is made on a painted stack of its own, and what is no longer painted after it counts, the red zone below the stack pointer
- * with it. docs/LINK.md says the most. Words, bytes and arguments are made up, half of them from states that calls made; images are whole and damaged.
+ * with it. docs/LINK.md says the most. Arguments are made up, and so are the words once in eight rounds: the others go on from what the calls before left. Images are whole
+ * and damaged. The calls are those that go deep, and some beside them; what they take has to be seen, so that too little is wrong as well.
  */
 #include <sillwander.h>
 #include <stdio.h>
 #include <string.h>
 
-enum { SIZE = 32768, MOST = 4096, MOST_OF_RESTORE = 12288, ROUNDS = 3000, PAINT = 0xd7 };
+enum { SIZE = 32768, MOST = 4096, MOST_OF_RESTORE = 12288, LEAST = 1000, ROUNDS = 3000, PAINT = 0xd7 };
 
 static _Alignas(64) unsigned char stack[SIZE];
 static unsigned long calls, wrong;
@@ -135,14 +136,15 @@ static void call_planner(void)
 
 static void call_image(void)
 {
-    sillwander_ioapic_new_default_version(io, below(2) ? 0x20 : 0x11);
-    sillwander_lapic_new(apic);
-    sillwander_pic_new_rule(pic, below(3));
-    TAKEN(sillwander_image_save, at(io), at(apic), at(pic), at(image), sizeof image, 0, 0);
-    TAKEN(sillwander_image_restore, at(image), sizeof image, at(io), at(apic), at(pic), 0, 0);
+    uint64_t from_io[32], from_apic[48], from_pic[4], to_io[32], to_apic[48], to_pic[4];
+    sillwander_ioapic_new_default_version(from_io, below(2) ? 0x20 : 0x11);
+    sillwander_lapic_new(from_apic);
+    sillwander_pic_new_rule(from_pic, below(3));
+    TAKEN(sillwander_image_save, at(from_io), at(from_apic), at(from_pic), at(image), sizeof image, 0, 0);
+    TAKEN(sillwander_image_restore, at(image), sizeof image, at(to_io), at(to_apic), at(to_pic), 0, 0);
     for (uint64_t k = below(4); k > 0; k--)
         image[below(sizeof image)] = (uint8_t)any();
-    TAKEN(sillwander_image_restore, at(image), below(4) ? sizeof image : below(sizeof image), at(io), at(apic), at(pic), 0, 0);
+    TAKEN(sillwander_image_restore, at(image), below(4) ? sizeof image : below(sizeof image), at(to_io), at(to_apic), at(to_pic), 0, 0);
 }
 
 int main(void)
@@ -156,5 +158,7 @@ int main(void)
     for (unsigned k = 0; k < ROUNDS; k++)
         call_io(), call_local(), call_pair(), call_planner(), call_image();
     printf("stack: %lu calls, %lu wrong; the deepest took %lu bytes (%s), a restore of an image %lu\n", calls, wrong, deepest[0], name[0], deepest[1]);
+    if (deepest[0] < LEAST || deepest[1] < LEAST)
+        printf("stack.c: less was seen than calls take: %d bytes at least\n", LEAST), wrong++;
     return wrong != 0;
 }

@@ -16,7 +16,7 @@ use Rattle.vpic_priority.specs.Ring.{rank, firstRank, firstBy}
 use Rattle.vpic_chip.specs.declared.PendingIrq.{PendingIrq}
 use Rattle.vpic_chip.specs.declared.PendingIrq.the-variants.{Irq, Nothing}
 use Rattle.vpic_chip.specs.Registers.{Chip}
-use Rattle.vpic_chip.specs.Chip.{cascadeIrq, lowestBy, isPolled, asks, driven, counts, pendingLine, pendingIrq, acknowledged, polled, pulsed, commanded}
+use Rattle.vpic_chip.specs.Chip.{cascadeIrq, lowestBy, isPolled, asks, driven, counts, pendingLine, pendingIrq, acknowledged, pollShown, polled, pulsed, commanded}
 use Rattle.types.specs.declared.Reply.the-variants as reply
 use Rattle.types.specs.declared.Refusal.the-variants.{OutOfRange, Unsupported}
 use Rattle.vpic.specs.declared.PicInterruptClaim.{PicInterruptClaim}
@@ -24,7 +24,7 @@ use Rattle.vpic.specs.Words.{PicState}
 use Rattle.vpic.specs.Pair.{StateClaim, nothingClaimed, Port, master-command, master-data, slave-command, slave-data, no-port, portAt, isThere, chips, isCascade, settled, latchedAt, latched, masterClaim, slaveClaim, cascadePlace, placeFrom, pendingPlace, claimAt, claimPending, claimIrq, restoredAt, restored, leftBy, portLeft, writtenTo, writtenAt, portWritten, drives, ruleIn, portRead, valueReply, refused, restoreInterrupt, handleRead, handleWrite}
 use Rattle.vpic_theorems.specs.Statements.{Call, claim-irq, claim-pending-interrupt, pulse-irq, next-interrupt, restore-interrupt, handle-read, handle-write, outcome}
 use Rattle.vpic_theorems.specs.Rotation.{Event, after, linesOf, lines, within, fairly, Waits, claimLine, acknowledge, poll-read, drive}
-use Rattle.vpic_theorems.specs.OnPair.{driveFrom, edgesAt, latchEvents, claimEvents, irqEvents, backAt, readEvents, writeEvents, masterEvents, afterAll, MasterIs, onMaster, polledLine, masterServed, MasterServedAre, along, FairOnMaster, slaveEdges, slaveClaims, slaveBack, slaveReads, slaveWrites, slaveIrq, slaveEvents, SlaveIs, onSlave, slavePolled, slaveServed, SlaveServedAre, FairOnSlave, NestedOnPair}
+use Rattle.vpic_theorems.specs.OnPair.{driveFrom, edgesAt, latchEvents, claimEvents, irqEvents, backAt, readEvents, writeEvents, masterEvents, afterAll, MasterIs, onMaster, shownLine, polledLine, masterServed, MasterServedAre, along, FairOnMaster, slaveEdges, slaveClaims, slaveBack, slaveReads, slaveWrites, slaveIrq, slaveEvents, SlaveIs, onSlave, slavePolled, slaveServed, SlaveServedAre, FairOnSlave, NestedOnPair, NestedOnSlave}
 use Rattle.vpic_theorems.proofs.Settled.{settled-cascade}
 use Rattle.vpic_theorems.proofs.Rule.{calls-keep-number}
 use Rattle.vpic_theorems.proofs.Rotation.{fair}
@@ -38,6 +38,19 @@ after-both (e ∷ l) m c = after-both l m (after c e)
 lines-both : (l m : List Event) (c : Chip) → lines c (l ++ m) ≡ lines c l ++ lines (afterAll c l) m
 lines-both [] m c = refl
 lines-both (e ∷ l) m c = ap (λ (x : List ℕ). linesOf c e ++ x) (lines-both l m (after c e)) ∙ sym (append-assoc (linesOf c e) (lines (after c e) l) (lines (afterAll (after c e) l) m))
+
+-- the line that a poll acknowledges is the one that it shows
+poll-lines : (c : Chip) → linesOf c poll-read ≡ shownLine (pollShown c)
+unfolding pollShown
+poll-lines c = go (asks c)
+  where
+    some : (k : ℕ) (b : Bool) → ltb (0x80 + k) 0x80 ≡ b → k ∷ [] ≡ cond b [] ((0x80 + k - 0x80) ∷ [])
+    some k true e = absurd (omega (arith, ltb-true (0x80 + k) 0x80 e))
+    some k false e = ap (λ (x : ℕ). x ∷ []) (omega arith)
+
+    go : (a : Bool) → cond a (pendingLine c ∷ []) [] ≡ shownLine (cond a (0x80 + pendingLine c) 0)
+    go true = some (pendingLine c) (ltb (0x80 + pendingLine c) 0x80) refl
+    go false = refl
 
 -- from p to q the chip at a place goes through these events, which serve the lines k
 record Does (chip : PicState → Chip) (p q : PicState) (l : List Event) (k : List ℕ) : Type 0 where
@@ -194,8 +207,8 @@ master-read : (p : PicState) (port width : ℕ) → isCascade p ≡ true → Mas
 unfolding portLeft
 master-read p port width e = go (eqb width 1) (portAt port)
   where
-    at-master : (b : Bool) → MasterDoes p (cond b (settled (chips p (polled (p .master)) (p .slave))) p) (cond b (poll-read ∷ driveFrom p ∷ []) []) (cond b (linesOf (p .master) poll-read) [])
-    at-master true = record { state = driven-by (chips p (polled (p .master)) (p .slave)) e; lines = append-nil (linesOf (p .master) poll-read) }
+    at-master : (b : Bool) → MasterDoes p (cond b (settled (chips p (polled (p .master)) (p .slave))) p) (cond b (poll-read ∷ driveFrom p ∷ []) []) (cond b (shownLine (pollShown (p .master))) [])
+    at-master true = record { state = driven-by (chips p (polled (p .master)) (p .slave)) e; lines = append-nil (linesOf (p .master) poll-read) ∙ poll-lines (p .master) }
     at-master false = record { state = refl; lines = refl }
 
     at-slave : (b : Bool) → MasterDoes p (cond b (settled (chips p (p .master) (polled (p .slave)))) p)
@@ -351,8 +364,8 @@ slave-read p port width = go (eqb width 1) (portAt port)
     at-master true = record { state = settled-slave (chips p (polled (p .master)) (p .slave)); lines = refl }
     at-master false = record { state = refl; lines = refl }
 
-    at-slave : (b : Bool) → SlaveDoes p (cond b (settled (chips p (p .master) (polled (p .slave)))) p) (cond b (poll-read ∷ []) []) (cond b (linesOf (p .slave) poll-read) [])
-    at-slave true = record { state = settled-slave (chips p (p .master) (polled (p .slave))); lines = append-nil (linesOf (p .slave) poll-read) }
+    at-slave : (b : Bool) → SlaveDoes p (cond b (settled (chips p (p .master) (polled (p .slave)))) p) (cond b (poll-read ∷ []) []) (cond b (shownLine (pollShown (p .slave))) [])
+    at-slave true = record { state = settled-slave (chips p (p .master) (polled (p .slave))); lines = append-nil (linesOf (p .slave) poll-read) ∙ poll-lines (p .slave) }
     at-slave false = record { state = refl; lines = refl }
 
     at-port : (a : Port) → SlaveDoes p (leftBy p a) (slaveReads p a) (slavePolled p a)
@@ -405,5 +418,9 @@ fair-on-slave p n l = fair-along (λ q. q .slave) slaveEvents slaveServed (λ q.
 -- ---- a computed run
 
 pub nested-on-pair : NestedOnPair
-unfolding asks driven pendingLine pendingIrq counts firstBy firstRank acknowledged polled pulsed commanded with without outside settled latched masterClaim slaveClaim claimIrq claimPending portWritten writtenAt portLeft outcome
-nested-on-pair = record { fair = refl; master = refl; slave = refl; claims = refl }
+unfolding asks driven pendingLine pendingIrq pollShown counts firstBy firstRank acknowledged polled pulsed commanded with without outside settled latched masterClaim slaveClaim claimIrq claimPending portWritten writtenAt portLeft outcome
+nested-on-pair = record { waits = record { full = refl; low = omega arith; asked = refl; idle = refl }; fair = refl; master = refl; slave = refl; claims = refl }
+
+pub nested-on-slave : NestedOnSlave
+unfolding asks driven pendingLine pendingIrq pollShown counts firstBy firstRank acknowledged polled pulsed commanded with without outside settled latched masterClaim slaveClaim claimIrq claimPending portWritten writtenAt portLeft outcome
+nested-on-slave = record { waits = record { full = refl; low = omega arith; asked = refl; idle = refl }; fair = refl; slave = refl; claims = refl }

@@ -306,6 +306,7 @@ needed = record {
   «auto-eoi-polled» = refl;
   «taken-back» = refl;
   masked = refl;
+  «masked-polled» = refl;
   «driven-down» = refl;
   plain = refl;
   initialized = refl;

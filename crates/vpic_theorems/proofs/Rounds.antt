@@ -431,6 +431,7 @@ needed-on-pair = record {
   restored = refl;
   «set-priority» = refl;
   «specific-rotation» = refl;
+  output = refl;
   «master-turns» = refl;
   «slave-turns» = refl;
   «master-plain» = refl;

@@ -1,5 +1,5 @@
--- The chips of a pair (8259A, cascade mode), whatever is called: what a call does to each is a list of one chip's events, so that rotation is fair there too, with nested handlers, a
--- slave that comes and goes, and polls.
+-- The chips of a pair (8259A, cascade mode): what any call does to each is a list of one chip's events, so that rotation is fair there too, on the premises of one chip, with nested
+-- handlers, a slave that comes and goes, and polls.
 use Prim.Native.Nat.{ℕ, suc, _-_, _%_, _<_}
 use mathlib.Core.Path.{_≡_}
 use mathlib.Core.Bool.{Bool, true, false, cond}
@@ -11,13 +11,13 @@ use Rattle.types.specs.declared.PicPlace.{PicPlace}
 use Rattle.types.specs.declared.PicPlace.the-variants.{Master, Slave, Nowhere}
 use Rattle.types.specs.Counters.{placeOf}
 use Rattle.vpic_priority.specs.Ring.{rank}
-use Rattle.vpic_chip.specs.Registers.{Chip}
-use Rattle.vpic_chip.specs.Chip.{cascadeIrq, lowestBy, asks, isPolled}
+use Rattle.vpic_chip.specs.Registers.{Chip, placed}
+use Rattle.vpic_chip.specs.Chip.{cascadeIrq, lowestBy, asks, isPolled, pollShown}
 use Rattle.vpic.specs.Words.{PicState}
 use Rattle.vpic.specs.Pair.{Port, master-command, master-data, slave-command, slave-data, no-port, portAt, isCascade, latched, pendingPlace, claimPending, restored, slaveRead, writtenTo}
 use Rattle.vpic.specs.Departures.{line, pair}
 use Rattle.vpic_theorems.specs.Statements.{Call, claim-irq, claim-pending-interrupt, pulse-irq, next-interrupt, restore-interrupt, handle-read, handle-write, outcome}
-use Rattle.vpic_theorems.specs.Rotation.{Event, raise, drive, acknowledge, poll-read, take-back, command, data-write, after, linesOf, lines, within, fairly, Waits, fullAt, claimLine, claimedBy, claims}
+use Rattle.vpic_theorems.specs.Rotation.{Event, raise, drive, acknowledge, poll-read, take-back, command, data-write, after, lines, within, fairly, Waits, fullAt, claimLine, claimedBy, claims}
 
 -- ---- what a call does to the master, event by event
 
@@ -84,10 +84,13 @@ abbrev pub onMaster : List ℕ → List ℕ
 onMaster [] = []
 onMaster (k ∷ l) = cond (ltb k 8) k (cascadeIrq .0) ∷ onMaster l
 
--- and the line that a poll shows
+-- and the line that a poll shows, by the byte that is read
+abbrev pub shownLine : ℕ → List ℕ
+shownLine byte = cond (ltb byte 0x80) [] ((byte - 0x80) ∷ [])
+
 abbrev pub polledLine : PicState → Port → List ℕ
-polledLine p master-command = cond (isPolled (p .master)) (linesOf (p .master) poll-read) []
-polledLine p master-data = cond (isPolled (p .master)) (linesOf (p .master) poll-read) []
+polledLine p master-command = cond (isPolled (p .master)) (shownLine (pollShown (p .master))) []
+polledLine p master-data = cond (isPolled (p .master)) (shownLine (pollShown (p .master))) []
 polledLine p slave-command = []
 polledLine p slave-data = []
 polledLine p no-port = []
@@ -104,14 +107,14 @@ masterServed p (handle-write port width value) = []
 abbrev pub MasterServedAre : Type 0
 MasterServedAre = (p : PicState) (c : Call) → isCascade p ≡ true → lines (p .master) (masterEvents p c) ≡ masterServed p c
 
--- ---- so rotation is fair to the master's lines, whatever is called
+-- ---- so rotation is fair to the master's lines, as far as one chip's premises go
 
 -- what f says of each call of a run
 abbrev pub along : {A : Type 0} → (PicState → Call → List A) → PicState → List Call → List A
 along f p [] = []
 along f p (c ∷ l) = f p c ++ along f (outcome p c .state) l
 
--- with the premises of one chip (`fairly`): of line 2 itself also that no call takes the slave's request away
+-- `fairly` asks of line 2 itself also that the slave's output stays up; a rotating EOI in a nested handler of the slave may lower it
 abbrev pub FairOnMaster : Type 0
 FairOnMaster =
     (p : PicState) (n : ℕ) (l : List Call) → isCascade p ≡ true → Waits (p .master) n → fairly n (p .master) (along masterEvents p l) ≡ true
@@ -172,8 +175,8 @@ onSlave (k ∷ l) = cond (ltb k 8) (onSlave l) ((k - 8) ∷ onSlave l)
 abbrev pub slavePolled : PicState → Port → List ℕ
 slavePolled p master-command = []
 slavePolled p master-data = []
-slavePolled p slave-command = cond (isPolled (p .slave)) (linesOf (p .slave) poll-read) []
-slavePolled p slave-data = cond (isPolled (p .slave)) (linesOf (p .slave) poll-read) []
+slavePolled p slave-command = cond (isPolled (p .slave)) (shownLine (pollShown (p .slave))) []
+slavePolled p slave-data = cond (isPolled (p .slave)) (shownLine (pollShown (p .slave))) []
 slavePolled p no-port = []
 
 abbrev pub slaveServed : PicState → Call → List ℕ
@@ -193,12 +196,12 @@ FairOnSlave =
     (p : PicState) (n : ℕ) (l : List Call) → Waits (p .slave) n → fairly n (p .slave) (along slaveEvents p l) ≡ true
     → rank (lowestBy (p .slave)) n < length (along slaveServed p l) → within n (suc (rank (lowestBy (p .slave)) n)) (along slaveServed p l) ≡ true
 
--- ---- such a run
+-- ---- such runs
 
 -- the master's bound is met: line 3, of rank 3, waits, line 1 is claimed, line 0 in the middle of its handler, a slave's line waits for both EOIs, and line 3 is the fourth, by a poll;
 -- the slave's line 1 is served meanwhile
 abbrev pub threeWaits : PicState
-threeWaits = pair 2 (fullAt 8 0 0 false) (fullAt 0 0 0 false)
+threeWaits = pair 2 (placed true (fullAt 8 0 0 false)) (fullAt 0 0 0 false)
 
 abbrev pub nestedCalls : List Call
 nestedCalls =
@@ -206,7 +209,23 @@ nestedCalls =
     ∷ handle-write 0xa0 1 0xa0 ∷ handle-write 0x20 1 0xa0 ∷ handle-write 0x20 1 0x0c ∷ handle-read 0x20 1 ∷ []
 
 pub record NestedOnPair : Type 0 where
+  pub waits : Waits (threeWaits .master) 3
   pub fair : fairly 3 (threeWaits .master) (along masterEvents threeWaits nestedCalls) ≡ true
   pub master : along masterServed threeWaits nestedCalls ≡ 1 ∷ 0 ∷ 2 ∷ 3 ∷ []
   pub slave : along slaveServed threeWaits nestedCalls ≡ 1 ∷ []
   pub claims : claims threeWaits nestedCalls ≡ 1 ∷ 0 ∷ 9 ∷ []
+
+-- and the slave's line 3: its line 1 is claimed, its line 0 in the middle of that handler, and line 3 is the third, by a poll
+abbrev pub threeOnSlave : PicState
+threeOnSlave = pair 2 (placed true (fullAt 4 0 0 false)) (fullAt 8 0 0 false)
+
+abbrev pub slaveCalls : List Call
+slaveCalls =
+    claim-irq (line 9) ∷ handle-write 0x20 1 0xa0 ∷ claim-irq (line 8) ∷ handle-write 0xa0 1 0xa0 ∷ handle-write 0xa0 1 0xa0 ∷ handle-write 0x20 1 0xa0
+    ∷ handle-write 0xa0 1 0x0c ∷ handle-read 0xa0 1 ∷ []
+
+pub record NestedOnSlave : Type 0 where
+  pub waits : Waits (threeOnSlave .slave) 3
+  pub fair : fairly 3 (threeOnSlave .slave) (along slaveEvents threeOnSlave slaveCalls) ≡ true
+  pub slave : along slaveServed threeOnSlave slaveCalls ≡ 1 ∷ 0 ∷ 3 ∷ []
+  pub claims : claims threeOnSlave slaveCalls ≡ 9 ∷ 8 ∷ []

@@ -167,7 +167,8 @@ pub record Needed : Type 0 where
   pub «auto-eoi-polled» : lines (fullAt 3 0 0 true) (often 8 (poll-read ∷ edge 0 ∷ [])) ≡ often 8 (0 ∷ [])
   pub «taken-back» : starves (fullAt 3 0 0 false) (take-back (line 0) true ∷ [])
   pub masked : starves (fullAt 3 2 0 false) (command 0xa0 ∷ [])
-  -- line 1 driven by a level, and down at each acknowledgement
+  pub «masked-polled» : lines (fullAt 3 2 0 false) (often 8 (poll-read ∷ command 0xa0 ∷ edge 0 ∷ [])) ≡ often 8 (0 ∷ [])
+  -- line 1 driven by a level, and let down after the acknowledgement
   pub «driven-down» : starves (fullAt 3 0 0 false) (command 0xa0 ∷ drive (line 1) false ∷ [])
   -- a chip that isn't of the full profile
   pub plain : starves (at 3 0 0) (command 0xa0 ∷ [])
@@ -321,6 +322,11 @@ pub record NeededOnPair : Type 0 where
   pub restored : starvesEightBy (restore-interrupt lineZero ∷ [])
   pub «set-priority» : starvesEightBy (handle-write 0x20 1 0xa0 ∷ handle-write 0x20 1 0xc7 ∷ [])
   pub «specific-rotation» : starvesEightBy (handle-write 0x20 1 0xa0 ∷ handle-write 0x20 1 0xe7 ∷ [])
+  -- line 2 of the master, when the slave's output falls: its line 0 waits, its lines 1 and 5 are in service, and the rotating EOI of line 1 puts line 0 below line 5. Line 8 would be
+  -- the third claim at the latest
+  pub output :
+      claims (pair 2 (fullAt 4 0 0 false) (fullAt 1 0 0x22 false)) (claim-irq (line 0) ∷ handle-write 0xa0 1 0xa0 ∷ often 2 (handle-write 0x20 1 0xa0 ∷ claim-irq (line 0) ∷ []))
+      ≡ often 3 (0 ∷ [])
   -- automatic EOI mode without rotation
   pub «master-turns» : starvesEight (pair 2 (fullAt 4 0 0 true) (fullAt 1 0 0 false)) 0xa0
   pub «slave-turns» : starvesNine (pair 2 (fullAt 4 0 0 false) (fullAt 3 0 0 true)) 0xa0

@@ -14,8 +14,8 @@
 //! - **Panics**: where the original panics at a number, of a guest's or a host's, a call is refused here:
 //!   [`InvalidAddress`](X86VlapicError::InvalidAddress), [`OutOfRange`](X86VlapicError::OutOfRange), and for a local register
 //!   that there isn't [`InvalidInput`](X86VlapicError::InvalidInput). What panics, each where it says so, is
-//!   [`X86GuestPhysAddrRange::new`], [`WaitingLists::new`] and `from_bytes` of more than 64 vCPUs, and in [`x86_vlapic`] a local
-//!   APIC's `new` and an I/O APIC's `address_range`.
+//!   [`X86GuestPhysAddrRange::new`], [`WaitingLists::new`], `default` and `from_bytes` of more than 64 vCPUs, and in
+//!   [`x86_vlapic`] a local APIC's `new` and an I/O APIC's `address_range`.
 //!
 //! ```
 //! use sillwander::{EmulatedIoApic, IoApicInterrupt, X86AccessWidth::Dword, X86GuestPhysAddr};
