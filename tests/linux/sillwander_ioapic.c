@@ -10,7 +10,9 @@
 #include "hw/i386/x86.h"
 #include "hw/qdev-properties.h"
 #include "hw/sysbus.h"
+#include "migration/vmstate.h"
 #include "qapi/error.h"
+#include "sysemu/runstate.h"
 #include "sillwander.h"
 #include "sillwander_log.h"
 
@@ -20,7 +22,6 @@
 #define EOI_REGISTER 0x40
 
 /* The layout of the words, as the header has it. */
-#define LINES_UP 25
 #define SELECTOR 26
 #define IN_FLIGHT 14
 #define LEVEL 15
@@ -34,6 +35,7 @@ struct SillwanderIoapic {
     MemoryRegion window;
     uint64_t words[SILLWANDER_IOAPIC_WORDS];
     uint8_t version;
+    uint32_t up; /* the wires, whatever the chip knows of them */
     struct {
         unsigned long up, down, sends, together, eois, ended, again, sending_writes, reads, writes, eoi_writes, refused;
     } count;
@@ -83,6 +85,7 @@ static void set_line(void *opaque, int line, int level)
     unsigned gsi = line == 0 ? 2 : line;
     uint64_t code = sillwander_logged(sillwander_ioapic_set_gsi_level(s->words, gsi, level != 0), "line %u %s", gsi, level ? "up" : "down");
     *(level ? &s->count.up : &s->count.down) += 1;
+    s->up = level ? s->up | 1u << gsi : s->up & ~(1u << gsi);
     if (SILLWANDER_COUNT(code) == 2)
         deliver(s, gsi, SILLWANDER_OF_TWO(code, 0), SILLWANDER_OF_TWO(code, 1));
 }
@@ -91,6 +94,8 @@ static void set_line(void *opaque, int line, int level)
 void ioapic_eoi_broadcast(int vector)
 {
     SillwanderIoapic *s = the_ioapic;
+    if (s == NULL) /* a machine without an I/O APIC may have local APICs */
+        return;
     s->count.eois++;
     ended(s, sillwander_logged(sillwander_ioapic_end_of_interrupt(s->words, vector), "eoi %d", vector));
 }
@@ -113,7 +118,7 @@ static void window_write(void *opaque, hwaddr offset, uint64_t value, unsigned w
     s->count.writes++;
     s->count.refused += SILLWANDER_REFUSAL(code) != 0;
     if (offset == EOI_REGISTER) {
-        s->count.eoi_writes++;
+        s->count.eoi_writes += s->version >= 0x20; /* there is no such register before */
         ended(s, code);
     } else if (SILLWANDER_COUNT(code) == 2) { /* the write of a low word made an entry fit whose line is up: it is the selected one */
         s->count.sending_writes++;
@@ -133,29 +138,33 @@ static const MemoryRegionOps window_ops = {
 static void reset(DeviceState *dev)
 {
     SillwanderIoapic *s = SILLWANDER_IOAPIC(dev);
-    uint64_t up = s->words[LINES_UP];
     sillwander_log_begin("ioapic");
     memset(&s->count, 0, sizeof s->count);
     sillwander_logged(sillwander_ioapic_new_version(s->words, BASE, SIZE, s->version), "io-version 0x%x", s->version);
     for (unsigned gsi = 0; gsi < IOAPIC_NUM_PINS; gsi++)
-        if (up >> gsi & 1)
+        if (s->up >> gsi & 1) {
+            s->count.up++;
             sillwander_logged(sillwander_ioapic_set_gsi_level(s->words, gsi, 1), "line %u up", gsi);
+        }
 }
 
-/* A line is stuck where it is up, and its entry is level-triggered, not masked, and not in flight: nothing would send it again. */
-static void say_counts(void)
+/* The machine stops, once its guest has ended. A line is stuck where it is up, and its entry is level-triggered, not masked, and not in flight: nothing would
+   send it again. That a guest left one is seen only if it ends without a shutdown, by which Linux masks all entries. */
+static void stopped(void *opaque, bool running, RunState state)
 {
-    SillwanderIoapic *s = the_ioapic;
+    SillwanderIoapic *s = opaque;
     unsigned stuck = 0;
+    (void)state;
+    if (running)
+        return;
     for (unsigned gsi = 0; gsi < IOAPIC_NUM_PINS; gsi++)
-        stuck += (s->words[LINES_UP] >> gsi & 1) && (s->words[gsi] >> LEVEL & 1) && !(s->words[gsi] >> MASKED & 1) && !(s->words[gsi] >> IN_FLIGHT & 1);
+        stuck += (s->up >> gsi & 1) && (s->words[gsi] >> LEVEL & 1) && !(s->words[gsi] >> MASKED & 1) && !(s->words[gsi] >> IN_FLIGHT & 1);
     fprintf(stderr,
             "sillwander ioapic: version=0x%x up=%lu down=%lu sends=%lu together=%lu eois=%lu ended=%lu again=%lu sending_writes=%lu reads=%lu writes=%lu eoi_writes=%lu "
             "refused=%lu stuck=%u\n",
             s->version, s->count.up, s->count.down, s->count.sends, s->count.together, s->count.eois, s->count.ended, s->count.again,
             s->count.sending_writes, s->count.reads, s->count.writes, s->count.eoi_writes, s->count.refused, stuck);
-    if (sillwander_log != NULL)
-        fclose(sillwander_log);
+    sillwander_log_end();
 }
 
 static void realize(DeviceState *dev, Error **errp)
@@ -173,7 +182,7 @@ static void realize(DeviceState *dev, Error **errp)
     memory_region_init_io(&s->window, OBJECT(dev), &window_ops, s, "ioapic", SIZE);
     sysbus_init_mmio(SYS_BUS_DEVICE(dev), &s->window);
     qdev_init_gpio_in(dev, set_line, IOAPIC_NUM_PINS);
-    atexit(say_counts);
+    qemu_add_vm_change_state_handler(stopped, s);
 }
 
 static Property properties[] = {
@@ -181,12 +190,16 @@ static Property properties[] = {
     DEFINE_PROP_END_OF_LIST(),
 };
 
+/* The words aren't saved, so QEMU refuses to save the machine, rather than go on without them. A device that is to be saved or moved lists its words here. */
+static const VMStateDescription unsaved = { .name = "sillwander-ioapic", .unmigratable = 1 };
+
 static void class_init(ObjectClass *klass, void *data)
 {
     DeviceClass *dc = DEVICE_CLASS(klass);
     (void)data;
     dc->realize = realize;
     dc->reset = reset;
+    dc->vmsd = &unsaved;
     dc->user_creatable = false;
     device_class_set_props(dc, properties);
 }

@@ -2,7 +2,8 @@
  * What the two devices count and write down. A vendor who copies the devices needs none of it.
  *
  * Where the environment has SILLWANDER_LOG=NAME, each call is a line of NAME.ioapic or NAME.pair: the call as tools/script-text reads it, and behind # what it
- * answered, as the program `script` prints it: refusal, values. A log begins with the chip's last reset. Counts go to standard error at the end.
+ * answered, as the program `script` prints it: refusal, values. A log begins with the chip's last reset, and so do the counts, which go to standard error
+ * when the machine stops. The devices count calls where they make them, so that `table` can hold the length of a log against them.
  */
 #ifndef SILLWANDER_LOG_H
 #define SILLWANDER_LOG_H
@@ -11,6 +12,7 @@
 #include <stdarg.h>
 #include <stdio.h>
 #include <stdlib.h>
+#include <unistd.h>
 
 static FILE *sillwander_log;
 
@@ -24,6 +26,20 @@ static void sillwander_log_begin(const char *chip)
     if (sillwander_log == NULL) {
         perror(path);
         exit(1);
+    }
+}
+
+/* When the guest has ended. A log that couldn't be written is a run that failed. */
+static void sillwander_log_end(void)
+{
+    if (sillwander_log == NULL)
+        return;
+    int failed = ferror(sillwander_log);
+    failed |= fclose(sillwander_log);
+    sillwander_log = NULL;
+    if (failed) {
+        fputs("sillwander: a log isn't whole\n", stderr);
+        _exit(1);
     }
 }
 

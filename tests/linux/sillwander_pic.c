@@ -5,15 +5,17 @@
  * acknowledge cycle is a claim, and the guest's reads and writes of ports are passed on. QEMU holds its big lock around each of these, so no two calls overlap.
  *
  * The pair hears edges. A PC has level lines besides: ELCR, two ports of the south bridge, says which ones. Such a line asks for as long as it is up, so the pair
- * gets an edge whenever the line is up and could be taken: neither requested, nor in service, nor masked. A line that goes down while its request waits isn't
- * taken back, since an edge isn't: the guest gets one interrupt more, as from an 8259's edge. They are counted, as `late`.
+ * gets an edge whenever the line is up and could be taken: neither requested, nor in service, nor masked. The request of a line that goes down while it waits
+ * isn't taken back (docs/DIFFERENCES.md, D-15): the guest gets one interrupt with nothing behind it. They are counted, as `late`.
  */
 #include "qemu/osdep.h"
 #include "hw/intc/i8259.h"
 #include "hw/irq.h"
 #include "hw/isa/isa.h"
 #include "hw/qdev-properties.h"
+#include "migration/vmstate.h"
 #include "qapi/error.h"
+#include "sysemu/runstate.h"
 #include "sillwander.h"
 #include "sillwander_log.h"
 
@@ -34,20 +36,24 @@ struct SillwanderPic {
     uint8_t rule;
     uint16_t up, elcr;
     struct {
-        unsigned long up, down, latched, claims, none, again, once_more, late, reads, writes, refused;
+        unsigned long up, down, latched, restored, claims, none, again, once_more, late, reads, writes, refused;
     } count;
 };
 
 DeviceState *isa_pic; /* QEMU's processors ask this device for vectors */
 
-/* An edge on a line is latched: what could be delivered is claimed with it, and given back at once, since the processor hasn't asked yet. */
+/* An edge on a line is latched: what could be delivered is claimed with it, and given back at once, since the processor hasn't asked yet. All is as it was then,
+   but by rule 2 where a chip rotates in automatic EOI mode: the claim turns its priorities, the restore doesn't turn them back, and the master's request 2
+   may go with that (docs/PROMISES.md, `RestoredButPriorities`, `RequestTwoLost`). Linux doesn't use that mode; for guests that do, this isn't the way. */
 static void latch(SillwanderPic *s, unsigned line)
 {
     uint64_t claim = sillwander_logged(sillwander_pic_claim_irq(s->words, line), "claim %u", line);
     s->count.latched++;
-    if (SILLWANDER_COUNT(claim) == 3)
+    if (SILLWANDER_COUNT(claim) == 3) {
+        s->count.restored++;
         sillwander_logged(sillwander_pic_restore_interrupt(s->words, claim), "restore %u %u %u", SILLWANDER_OF_THREE(claim, 0), SILLWANDER_OF_THREE(claim, 1),
                           SILLWANDER_OF_THREE(claim, 2));
+    }
 }
 
 /* INT is up while a claim would find something. It is tried on a copy. */
@@ -172,20 +178,24 @@ static void reset(DeviceState *dev)
     follow(s);
 }
 
-/* A line is stuck where its request waits, unmasked, nothing is in service, and INT is down. */
-static void say_counts(void)
+/* The machine stops, once its guest has ended. A line is stuck where it isn't masked, nothing is in service and INT is down, though its request waits or it is a
+   level line that is up. */
+static void stopped(void *opaque, bool running, RunState state)
 {
-    SillwanderPic *s = SILLWANDER_PIC(isa_pic);
+    SillwanderPic *s = opaque;
     unsigned stuck = 0;
+    (void)state;
+    if (running)
+        return;
     for (unsigned line = 0; line < ISA_NUM_IRQS; line++)
-        stuck += line != 2 && HAS(s, line, REQUESTS) && !HAS(s, line, MASK) && !((s->words[0] | s->words[1]) >> IN_SERVICE & 0xff) && !waits(s);
+        stuck += line != 2 && (HAS(s, line, REQUESTS) || (s->up & s->elcr) >> line & 1) && !HAS(s, line, MASK) &&
+                 !((s->words[0] | s->words[1]) >> IN_SERVICE & 0xff) && !waits(s);
     fprintf(stderr,
-            "sillwander pair: rule=%u up=%lu down=%lu latched=%lu again=%lu once_more=%lu late=%lu claims=%lu none=%lu reads=%lu writes=%lu refused=%lu "
-            "stuck=%u\n",
-            s->rule, s->count.up, s->count.down, s->count.latched, s->count.again, s->count.once_more, s->count.late, s->count.claims, s->count.none,
-            s->count.reads, s->count.writes, s->count.refused, stuck);
-    if (sillwander_log != NULL)
-        fclose(sillwander_log);
+            "sillwander pair: rule=%u up=%lu down=%lu latched=%lu restored=%lu again=%lu once_more=%lu late=%lu claims=%lu none=%lu reads=%lu writes=%lu "
+            "refused=%lu stuck=%u\n",
+            s->rule, s->count.up, s->count.down, s->count.latched, s->count.restored, s->count.again, s->count.once_more, s->count.late, s->count.claims,
+            s->count.none, s->count.reads, s->count.writes, s->count.refused, stuck);
+    sillwander_log_end();
 }
 
 static void realize(DeviceState *dev, Error **errp)
@@ -204,7 +214,7 @@ static void realize(DeviceState *dev, Error **errp)
     isa_register_ioport(isa, &s->elcr_ports, 0x4d0);
     qdev_init_gpio_in(dev, set_line, ISA_NUM_IRQS);
     qdev_init_gpio_out(dev, &s->intr, 1);
-    atexit(say_counts);
+    qemu_add_vm_change_state_handler(stopped, s);
 }
 
 /* The machine asks for a pair by this, and gets the ends of its sixteen wires. */
@@ -225,12 +235,16 @@ static Property properties[] = {
     DEFINE_PROP_END_OF_LIST(),
 };
 
+/* The words aren't saved, so QEMU refuses to save the machine, rather than go on without them. A device that is to be saved or moved lists its words here. */
+static const VMStateDescription unsaved = { .name = "sillwander-pair", .unmigratable = 1 };
+
 static void class_init(ObjectClass *klass, void *data)
 {
     DeviceClass *dc = DEVICE_CLASS(klass);
     (void)data;
     dc->realize = realize;
     dc->reset = reset;
+    dc->vmsd = &unsaved;
     dc->user_creatable = false;
     device_class_set_props(dc, properties);
 }

@@ -24,9 +24,11 @@ typedef struct { int unused; } SysBusDevice;
 typedef struct { int unused; } MemoryRegion;
 typedef struct { AddressSpace *ioapic_as; } X86MachineState;
 typedef struct { const char *name; size_t offset; uint8_t number; } Property;
+typedef struct { const char *name; int unmigratable; } VMStateDescription;
 typedef struct {
     void (*realize)(DeviceState *dev, Error **errp);
     void (*reset)(DeviceState *dev);
+    const VMStateDescription *vmsd;
     bool user_creatable;
 } DeviceClass;
 typedef struct {
@@ -35,6 +37,7 @@ typedef struct {
     void (*class_init)(ObjectClass *klass, void *data);
 } TypeInfo;
 enum { DEVICE_LITTLE_ENDIAN = 2 };
+typedef int RunState;
 typedef struct {
     uint64_t (*read)(void *opaque, hwaddr addr, unsigned size);
     void (*write)(void *opaque, hwaddr addr, uint64_t data, unsigned size);
@@ -70,6 +73,7 @@ typedef struct {
 extern Error *error_fatal;
 extern DeviceState *isa_pic;
 void error_setg(Error **errp, const char *format, ...);
+void *qemu_add_vm_change_state_handler(void (*handler)(void *opaque, bool running, RunState state), void *opaque);
 void type_register_static(const TypeInfo *info);
 Object *qdev_get_machine(void);
 void device_class_set_props(DeviceClass *dc, Property *properties);
