@@ -7,9 +7,10 @@
 #include <stdio.h>
 #include <string.h>
 
-enum { SIZE = 32768, MOST = 4096, MOST_OF_RESTORE = 12288, LEAST = 1000, ROUNDS = 3000, PAINT = 0xd7 };
+enum { SIZE = 32768, MOST = 4096, MOST_OF_RESTORE = 12288, LEAST = 1000, ROUNDS = 500, PAINT = 0xd7 };
 
 static _Alignas(64) unsigned char stack[SIZE];
+static const unsigned char painted[8] = {PAINT, PAINT, PAINT, PAINT, PAINT, PAINT, PAINT, PAINT};
 static unsigned long calls, wrong;
 
 static uint64_t state = 1;
@@ -39,7 +40,9 @@ static unsigned long taken(void (*call)(void), uint64_t a, uint64_t b, uint64_t 
                      : "rbx", "r10", "r11", "cc", "memory", "xmm0", "xmm1", "xmm2", "xmm3", "xmm4", "xmm5", "xmm6", "xmm7", "xmm8", "xmm9", "xmm10", "xmm11",
                        "xmm12", "xmm13", "xmm14", "xmm15");
     calls++;
-    unsigned char *lowest = stack;
+    unsigned char *lowest = stack; /* in steps of a word, and then to the byte */
+    while (lowest < top && memcmp(lowest, painted, sizeof painted) == 0)
+        lowest += sizeof painted;
     while (lowest < top && *lowest == PAINT)
         lowest++;
     return (unsigned long)(top - lowest);
