@@ -1,6 +1,8 @@
 // A whole board: an I/O APIC of version 0x20, one local APIC and its request register, in place over the words of both chips. An interrupt goes from its line through
 // the I/O APIC's entry to a request, is accepted, and its EOI goes back to the entry. Not in the Rust crate; each call is made of the chips' own calls.
 
+#![tactic(auto)]
+
 ghost use Rattle.std.specs.Prelude.{List, ℕ};
 ghost use Rattle.types.specs.Reply.{outcome_of};
 ghost use Rattle.vioapic_entry.specs.Answers.{routed_reply};
@@ -153,32 +155,32 @@ pub fn receive(apic: &mut [u64; 48], vector: Vector, level: bool)
 
 // ---- The same by value
 
-#[derive(Drop)]
+#[derive(Clone, Copy)]
 pub struct VirtualBoard {
     pub ioapic: [u64; 32],
     pub apic: [u64; 48],
 }
 
 // A board after a call, and the call's answer.
-#[derive(Drop)]
+#[derive(Clone, Copy)]
 pub struct BoardRouting {
     pub board: VirtualBoard,
     pub answer: Routed,
 }
 
-#[derive(Drop)]
+#[derive(Clone, Copy)]
 pub struct BoardAcceptance {
     pub board: VirtualBoard,
     pub answer: Acceptance,
 }
 
-#[derive(Drop)]
+#[derive(Clone, Copy)]
 pub struct BoardEnding {
     pub board: VirtualBoard,
     pub answer: Eoi,
 }
 
-#[derive(Drop)]
+#[derive(Clone, Copy)]
 pub struct BoardWriting {
     pub board: VirtualBoard,
     pub answer: Written,

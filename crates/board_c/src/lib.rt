@@ -1,6 +1,8 @@
 // The boundary of the board: each call is the board's own over the words of its two chips that a caller in C or Rust lends (include/sillwander.h has their layout), its
 // reply as a code.
 
+#![tactic(auto)]
+
 ghost use Rattle.std.specs.Prelude.{◌≡◌, List, ℕ};
 ghost use Rattle.reply_code.specs.Lent.{is_up};
 ghost use Rattle.board.specs.Board.{board_in};

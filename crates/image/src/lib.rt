@@ -1,5 +1,7 @@
 // A running guest's chips as an image, and back (document 02, T-11): the board's I/O APIC and local APIC and the pair of 8259s, each in the words that hold it.
 
+#![tactic(auto)]
+
 ghost use Rattle.std.specs.Prelude.{◌≡◌, ◌+◌, ◌<◌, ◌≤◌, not, eqb, length, take, drop};
 ghost use Rattle.types.specs.Reply.{outcome_of, flag};
 ghost use Rattle.image.specs.Words.{chip_word, word_at, gathered};
@@ -29,7 +31,7 @@ const MODE: usize = 32;
 
 const RULE: usize = 82;
 
-#[derive(Drop)]
+#[derive(Clone, Copy)]
 pub enum SaveAnswer {
     Saved(u64),
     NotSaved(Refusal),
@@ -46,7 +48,7 @@ impl SaveAnswer {
     }
 }
 
-#[derive(Drop)]
+#[derive(Clone, Copy)]
 pub enum RestoreAnswer {
     Restored,
     NotRestored(Refusal),

@@ -1,5 +1,7 @@
 // What C and Rust link: a board's and a pair's words as an image in lent bytes, and back (include/sillwander.h has the layouts), each reply as a code.
 
+#![tactic(auto)]
+
 ghost use Rattle.std.specs.Prelude.{◌≡◌};
 ghost use Rattle.image.specs.Save.{saved};
 ghost use Rattle.image.specs.Restore.{chips, restored};

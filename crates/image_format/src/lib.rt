@@ -1,6 +1,8 @@
 // The image of a board with the pair (document 02, T-11): its format, its writer and its reader. 84 words go in and come out; which state they are, and which
 // rules it must keep, says the crate `image`.
 
+#![tactic(auto)]
+
 ghost use Rattle.std.specs.Prelude.{◌≡◌, true, ℕ, ◌+◌, ◌-◌, ◌<◌, ◌≤◌, length, get_or};
 ghost use Rattle.image_format.specs.Format.{is_number, step_of, row_at};
 ghost use Rattle.image_format.specs.Image.{bytes_of, number_at, header_of, field_with, taken, written_to, loaded_from};
@@ -60,7 +62,7 @@ fn wide(x: u8) -> usize
 // ---- Reading
 
 // Where the next field starts, and which row it is; or that the image is refused.
-#[derive(Drop)]
+#[derive(Clone, Copy)]
 pub struct Place {
     pub ok: bool,
     pub at: usize,

@@ -1,5 +1,7 @@
 // The rules that an image's chips must keep (document 02, T-11), each chip's as a test of its words.
 
+#![tactic(auto)]
+
 ghost use Rattle.std.specs.Prelude.{◌≡◌, cond, ◌<◌};
 ghost use Rattle.utils.specs.Set.{bit};
 ghost use Rattle.vioapic_theorems.specs.Rules.{implies};

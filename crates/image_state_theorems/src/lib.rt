@@ -1,1 +1,3 @@
 // What holds of the image over any lines: the statements stand in specs/Statements.antt, their proofs in proofs/. No code.
+
+#![tactic(auto)]

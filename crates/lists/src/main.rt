@@ -2,6 +2,8 @@
 // waiting lists of four vCPUs, and prints for each field its line and a line for each vCPU: the vectors that wait for it after the field, the oldest first. What a step prints is
 // worked out, and proved, in the crate script_lists; here it is only read and written. An input that can't be read and an output that can't be written are told on standard error.
 
+#![tactic(auto)]
+
 use libc::STDOUT_FILENO;
 use script_format::Cursor;
 use script_lists::{BYTES, SPACE};

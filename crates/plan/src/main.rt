@@ -6,6 +6,8 @@
 // there is no plan, is proved in the crate planner; here it is only read and written. An input that can't be read and an output that can't be written are told on
 // standard error.
 
+#![tactic(auto)]
+
 ghost use Rattle.std.specs.Prelude.{◌≡◌, length};
 
 use libc::STDOUT_FILENO;

@@ -5,7 +5,7 @@ ghost use Rattle.std.specs.Prelude.{◌≤◌, ◌<◌, ◌≡◌, length};
 use types::Vector;
 
 // Why a row is none; `None` where it is one.
-#[derive(Drop)]
+#[derive(Clone, Copy)]
 pub enum Fault {
     None,
     FewWords,
@@ -17,7 +17,7 @@ pub enum Fault {
     Inverted,
 }
 
-#[derive(Drop)]
+#[derive(Clone, Copy)]
 pub enum Row {
     Blank,
     // Its range and its mark.
@@ -358,7 +358,7 @@ fn take(taken: &mut [u64; 4], lowest: Vector, highest: Vector) {
 }
 
 // How many lines there are after a row; 26 where it is none, and why.
-#[derive(Drop)]
+#[derive(Clone, Copy)]
 struct After {
     lines: usize,
     why: Fault,
@@ -416,7 +416,7 @@ fn put(
 }
 
 // How many lines there were, at most 25; or a row that is none, from 1, and why.
-#[derive(Drop)]
+#[derive(Clone, Copy)]
 pub enum Read {
     Lines(usize),
     Bad(usize, Fault),

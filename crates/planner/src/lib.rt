@@ -3,6 +3,8 @@
 // A line's range is a word, its lowest vector in the low byte and its highest in the high byte, so that the lines are one slice. The vectors already taken are
 // a set of 256 in four words: bit v % 64 of word v / 64.
 
+#![tactic(auto)]
+
 ghost use Rattle.std.specs.Prelude.{◌≡◌, ◌+◌, ◌*◌, ◌≤◌, ◌<◌, length, replicate};
 ghost use Rattle.types.specs.Reply.{outcome_of};
 ghost use Rattle.planner.specs.Lines.{lowest_of, highest_of, is_taken, is_free, allows};
@@ -209,7 +211,7 @@ fn write(plan: &[u8], n: usize, lent: &mut [u8])
     }
 }
 
-#[derive(Drop)]
+#[derive(Clone, Copy)]
 pub enum PlanAnswer {
     Done,
     Refused(Refusal),

@@ -8,7 +8,7 @@ ghost use Rattle.planner.specs.Shortage.{free_within, confined, crowded, end_lin
 
 use types::{Refusal, Reply, Vector};
 
-#[derive(Drop)]
+#[derive(Clone, Copy)]
 pub enum ShortageAnswer {
     Enough,
     // More of these lines, a set, than free vectors from the first to the second.

@@ -1,5 +1,7 @@
 // What C and Rust link: the planner's three calls over ranges, taken vectors and a plan that the caller lends (include/sillwander.h), each reply as a code.
 
+#![tactic(auto)]
+
 ghost use Rattle.std.specs.Prelude.{◌≡◌};
 ghost use Rattle.reply_code.specs.Lent.{reply_code, lent};
 ghost use Rattle.types.specs.Reply.{flag};

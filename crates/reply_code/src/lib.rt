@@ -1,5 +1,7 @@
 // What the boundaries of the three chips and of the planner share: what a caller in C is answered, and what it hands in as a flag.
 
+#![tactic(auto)]
+
 ghost use Rattle.std.specs.Prelude.{◌≡◌};
 ghost use Rattle.reply_code.specs.Lent.{reply_code, is_up};
 

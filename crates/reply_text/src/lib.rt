@@ -2,6 +2,8 @@
 // a lent buffer: a function that puts some takes the place where it starts and answers where it ends. A line is put where the buffer has room for the longest one; where
 // it hasn't, nothing is put, and the place is answered as it came.
 
+#![tactic(auto)]
+
 ghost use Rattle.std.specs.Prelude.{◌+◌, ◌*◌, ◌%◌, ◌≤◌, ◌<◌, ◌≡◌, [], ◌∷◌, length, leb};
 ghost use Rattle.io.specs.Digits.{hex_digit_ascii};
 ghost use Rattle.types.specs.Reply.{reply_values};

@@ -3,6 +3,8 @@
 // else. What is printed is worked out, and proved, in the crate script_resume; here it is only read and written. An input that can't be read and an output that can't be written are told on standard
 // error.
 
+#![tactic(auto)]
+
 use libc::STDOUT_FILENO;
 use script_print::SPACE;
 use script_resume::IMAGE;

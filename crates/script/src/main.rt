@@ -1,6 +1,8 @@
 // The program of document 01, "Scripts": it reads a script of at most 65,536 bytes from standard input and prints a line for each field. What is printed is worked out, and
 // proved, in the crate script_print, all of it; here it is only read and written. An input that can't be read and an output that can't be written are told on standard error.
 
+#![tactic(auto)]
+
 use libc::STDOUT_FILENO;
 use script_print::SPACE;
 

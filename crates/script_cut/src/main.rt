@@ -2,6 +2,8 @@
 // standard input is run three fields at a time, and then, by another machine, at once. Printed are, for each run, how many fields were performed and where the next starts, and
 // why it ended, by its number; and at the end what the pair has pending, which is the same for both.
 
+#![tactic(auto)]
+
 use libc::STDIN_FILENO;
 use script_format::{Call, Cursor, PicCall};
 use types::Reply;

@@ -1,5 +1,7 @@
 // The fields of a script (document 01, "Scripts"): a tag of one byte, a length of two, and a body of that many bytes. Not in the Rust crate.
 
+#![tactic(auto)]
+
 ghost use Rattle.std.specs.Prelude.{◌≡◌, ◌+◌, ◌<◌, ◌^◌};
 ghost use Rattle.script_format.specs.Format.{number_at, is_width, checked, io_formats, pic_formats, apic_formats, board_formats, decoded_in, decoded};
 ghost use Rattle.script_format.specs.Chips.{chip_of, is_choice};
@@ -10,7 +12,7 @@ use vioapic::{IoApicVersion, is_version};
 use vpic::{PicInterruptClaim, PicRule};
 
 // Calls of the I/O APIC.
-#[derive(Drop)]
+#[derive(Clone, Copy)]
 pub enum IoCall {
     HandleRead { addr: u64, width: u8 },
     HandleWrite { addr: u64, width: u8, value: u64 },
@@ -20,7 +22,7 @@ pub enum IoCall {
 }
 
 // Calls of the pair of 8259s.
-#[derive(Drop)]
+#[derive(Clone, Copy)]
 pub enum PicCall {
     HandleRead { port: u16, width: u8 },
     HandleWrite { port: u16, width: u8, value: u64 },
@@ -30,7 +32,7 @@ pub enum PicCall {
 }
 
 // Calls of the local APIC. Setup also says how many vCPUs the VM has, and which of them are active.
-#[derive(Drop)]
+#[derive(Clone, Copy)]
 pub enum ApicCall {
     AcceptInterrupt(Vector, bool),
     HandleWrite {
@@ -49,7 +51,7 @@ pub enum ApicCall {
 }
 
 // Calls of the board.
-#[derive(Drop)]
+#[derive(Clone, Copy)]
 pub enum BoardCall {
     SetGsiLevel(Gsi, bool),
     AcceptInterrupt,
@@ -60,7 +62,7 @@ pub enum BoardCall {
 }
 
 // A call of a chip, or a choice, which makes a new one: of the I/O APIC's version, of the pair's rule.
-#[derive(Drop)]
+#[derive(Clone, Copy)]
 pub enum Call {
     Io(IoCall),
     IoVersion(IoApicVersion),
@@ -71,7 +73,7 @@ pub enum Call {
 }
 
 // The three chips, and the board, which has chips of its own.
-#[derive(Drop)]
+#[derive(Clone, Copy)]
 pub enum Chip {
     IoApic,
     Pic,
@@ -110,20 +112,20 @@ impl Call {
 }
 
 // What a body says.
-#[derive(Drop)]
+#[derive(Clone, Copy)]
 pub enum Body {
     Says(Call),
     Malformed,
 }
 
 // A place in a script.
-#[derive(Drop)]
+#[derive(Clone, Copy)]
 pub struct Cursor {
     pub at: usize,
 }
 
 // What stands at a place of a script.
-#[derive(Drop)]
+#[derive(Clone, Copy)]
 pub enum Field {
     Good { tag: u8, call: Call, next: Cursor },
     Bad,

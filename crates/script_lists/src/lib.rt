@@ -1,6 +1,8 @@
 // Scripts over a host of four vCPUs (document 02, T-13): a machine of scripts, and beside it the vCPUs' waiting lists, into which its pair's claims go. A step of such a script
 // and the lists after it are put as text, a step at a time: what the program `lists` prints. Fields 40 to 45 are the lists'; all others are the machine's.
 
+#![tactic(auto)]
+
 ghost use Rattle.std.specs.Prelude.{◌+◌, ◌≤◌, ◌≡◌, length, take};
 ghost use Rattle.io.specs.Counts.{IsPrefixLen};
 ghost use Rattle.types.specs.Reply.{outcome_of};
@@ -25,7 +27,7 @@ pub const BYTES: usize = 264;
 pub const SPACE: usize = 5460;
 
 // Calls of the lists, each for a vCPU.
-#[derive(Drop)]
+#[derive(Clone, Copy)]
 pub enum ListCall {
     Take(VcpuId, Vector),
     Deliver(VcpuId),
@@ -36,14 +38,14 @@ pub enum ListCall {
 }
 
 // What a body says.
-#[derive(Drop)]
+#[derive(Clone, Copy)]
 pub enum ListBody {
     Says(ListCall),
     Malformed,
 }
 
 // What stands at a place of a script: a field of the lists, a bad one, or something else.
-#[derive(Drop)]
+#[derive(Clone, Copy)]
 pub enum ListField {
     Good {
         tag: u8,
@@ -55,7 +57,7 @@ pub enum ListField {
 }
 
 // A step, and how many bytes its text has.
-#[derive(Drop)]
+#[derive(Clone, Copy)]
 pub struct Shown {
     pub stepped: Stepped,
     pub end: usize,

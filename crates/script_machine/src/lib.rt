@@ -1,5 +1,7 @@
 // A machine of the three interrupt controllers, and a board apart from them, in place over the words of each, and runs of scripts on it (document 01, "Scripts"). Not in the Rust crate.
 
+#![tactic(auto)]
+
 ghost use Rattle.std.specs.Prelude.{◌≡◌};
 ghost use Rattle.types.specs.Reply.{outcome_of};
 ghost use Rattle.vioapic.specs.State as io-words;
@@ -17,7 +19,7 @@ use types::{Refusal, Reply, VcpuId};
 use vioapic::{IOAPIC_BASE, IOAPIC_SIZE};
 
 // Whether a field of the I/O APIC, or of the pair, was performed.
-#[derive(Drop)]
+#[derive(Clone, Copy)]
 pub struct Used {
     pub io: bool,
     pub pic: bool,
@@ -54,7 +56,7 @@ impl Used {
 }
 
 // What a machine has beside its chips: how many vCPUs the VM has, which of them are active, and which chips were used.
-#[derive(Drop)]
+#[derive(Clone, Copy)]
 pub struct Vm {
     pub vcpu_num: usize,
     pub active_vcpus: u64,
@@ -62,14 +64,14 @@ pub struct Vm {
 }
 
 // What a call leaves beside the chips' words, and what it says back.
-#[derive(Drop)]
+#[derive(Clone, Copy)]
 pub struct Performed {
     pub vm: Vm,
     pub reply: Reply,
 }
 
 // Why a run ended.
-#[derive(Drop)]
+#[derive(Clone, Copy)]
 pub enum Stop {
     Allowance,
     BadField,
@@ -90,14 +92,14 @@ impl Stop {
 }
 
 // What a step says: a field was performed, with its tag and what its call said back, or none was, and why.
-#[derive(Drop)]
+#[derive(Clone, Copy)]
 pub enum Said {
     Did { tag: u8, reply: Reply },
     Stopped(Stop),
 }
 
 // What a step leaves beside the chips' words: where the next field starts, and what it says.
-#[derive(Drop)]
+#[derive(Clone, Copy)]
 pub struct Stepped {
     pub vm: Vm,
     pub next: Cursor,
@@ -105,7 +107,7 @@ pub struct Stepped {
 }
 
 // What a run leaves beside the chips' words: how many fields were performed, where the next one starts, and why the run ended.
-#[derive(Drop)]
+#[derive(Clone, Copy)]
 pub struct Ended {
     pub vm: Vm,
     pub done: usize,
@@ -476,7 +478,7 @@ pub fn run(
 // ---- The same by value.
 
 // The words of the three chips and of the board's two, and the rest of the machine.
-#[derive(Drop)]
+#[derive(Clone, Copy)]
 pub struct Machine {
     pub ioapic: [u64; 32],
     pub pic: [u64; 4],
@@ -486,13 +488,13 @@ pub struct Machine {
     pub vm: Vm,
 }
 
-#[derive(Drop)]
+#[derive(Clone, Copy)]
 pub struct MachinePerformed {
     pub machine: Machine,
     pub reply: Reply,
 }
 
-#[derive(Drop)]
+#[derive(Clone, Copy)]
 pub struct MachineRun {
     pub machine: Machine,
     pub done: usize,

@@ -1,5 +1,7 @@
 // What the program prints for a script (document 01, "Scripts"), all of it, into a buffer that is lent and large enough for any script's lines.
 
+#![tactic(auto)]
+
 ghost use Rattle.std.specs.Prelude.{suc, ◌+◌, ◌≤◌, ◌≡◌, length};
 ghost use Rattle.io.specs.Counts.{IsPrefixLen};
 ghost use Rattle.reply_text.specs.Text.{Puts, in_room};
@@ -17,7 +19,7 @@ const LIMIT: usize = 65536;
 pub const SPACE: usize = 1747760;
 
 // What a run leaves beside the chips' words, and how many bytes its text has.
-#[derive(Drop)]
+#[derive(Clone, Copy)]
 pub struct Printed {
     pub vm: Vm,
     pub end: usize,

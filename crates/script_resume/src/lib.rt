@@ -1,5 +1,7 @@
 // A guest that is moved between hosts (document 02, T-11): a script goes on with the board and the pair of an image, or with new ones, and there is an image after it.
 
+#![tactic(auto)]
+
 ghost use Rattle.std.specs.Prelude.{◌≡◌};
 ghost use Rattle.io.specs.Counts.{IsPrefixLen};
 ghost use Rattle.image.specs.Restore.{chips};
@@ -17,7 +19,7 @@ const TAG: u8 = 0x80;
 pub const IMAGE: usize = image_format::IMAGE_SIZE;
 
 // Whether there was a run, what it left beside the chips' words, and how many bytes its text and the image after it have. An image that is refused is refused with 10.
-#[derive(Drop)]
+#[derive(Clone, Copy)]
 pub struct Resumed {
     pub ok: bool,
     pub vm: Vm,
@@ -26,7 +28,7 @@ pub struct Resumed {
 }
 
 // A machine that a run can start with, or that there is none.
-#[derive(Drop)]
+#[derive(Clone, Copy)]
 pub struct Started {
     pub ok: bool,
     pub vm: Vm,

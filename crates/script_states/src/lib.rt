@@ -1,5 +1,7 @@
 // A step of a script and the machine after it, as text: what the program `states` prints, a step at a time, since no buffer holds the states of a long script.
 
+#![tactic(auto)]
+
 ghost use Rattle.std.specs.Prelude.{◌+◌, ◌≤◌, ◌≡◌, length};
 ghost use Rattle.io.specs.Counts.{IsPrefixLen};
 ghost use Rattle.reply_text.specs.Text.{Puts, too_long_line};
@@ -14,7 +16,7 @@ use script_machine::{Said, Stepped, Vm};
 pub const SPACE: usize = 4096;
 
 // A step, and how many bytes its text has.
-#[derive(Drop)]
+#[derive(Clone, Copy)]
 pub struct Shown {
     pub stepped: Stepped,
     pub end: usize,

@@ -2,6 +2,8 @@
 // prints, and the words of the machine's chips after it, a line a chip: the I/O APIC, the pair, the local APIC, the board's I/O APIC, the board's local APIC. What a step prints is
 // worked out, and proved, in the crate script_states; here it is only read and written. An input that can't be read and an output that can't be written are told on standard error.
 
+#![tactic(auto)]
+
 use libc::STDOUT_FILENO;
 use script_format::Cursor;
 use script_machine::Said;

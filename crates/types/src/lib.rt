@@ -6,29 +6,31 @@
 // answers are here; `X86InterruptVector` and `X86VcpuId` became structs of their own beside `Gsi` and `PicLine`, which the Rust has as plain
 // numbers, so that one can't be passed for another; `X86VlapicError` became `Refusal`, with document 01's numbers; `Reply` was added.
 
+#![tactic(auto)]
+
 ghost use Rattle.std.specs.Prelude.{◌≡◌};
 ghost use Rattle.utils.specs.Set.{without};
 ghost use Rattle.types.specs.Counters.{entry_index, place_of, line_vector, vcpu_mask, apic_id, vcpu_of};
 ghost use Rattle.types.specs.Reply.{refusal_number, reply_number, flag};
 
 // A global system interrupt: an input of the I/O APIC.
-#[derive(Drop)]
+#[derive(Clone, Copy)]
 pub struct Gsi(pub usize);
 
 // A line of an 8259 chip, 0 to 7, or of the pair, 0 to 15.
-#[derive(Drop)]
+#[derive(Clone, Copy)]
 pub struct PicLine(pub u8);
 
 // An interrupt vector.
-#[derive(Drop)]
+#[derive(Clone, Copy)]
 pub struct Vector(pub u8);
 
 // A virtual processor's number.
-#[derive(Drop)]
+#[derive(Clone, Copy)]
 pub struct VcpuId(pub usize);
 
 // Which chip of the pair a line belongs to, and the line's number there.
-#[derive(Drop)]
+#[derive(Clone, Copy)]
 pub enum PicPlace {
     Master(PicLine),
     Slave(PicLine),
@@ -105,7 +107,7 @@ impl VcpuId {
 }
 
 // Why a call is refused.
-#[derive(Drop)]
+#[derive(Clone, Copy)]
 pub enum Refusal {
     // Width, or PIC port: the Rust's `Unsupported`.
     Unsupported,
@@ -152,7 +154,7 @@ impl Refusal {
 }
 
 // What any call says back: refused, or done with up to three values.
-#[derive(Drop)]
+#[derive(Clone, Copy)]
 pub enum Reply {
     Refused(Refusal),
     Nothing,

@@ -1,6 +1,8 @@
 // The local APICs of up to 64 vCPUs, a lent slice of records: a write of a register that sends an IPI changes the records of those whom it reaches, and the sender's.
 // Each function here passes over the slice or calls one that does, and is proved by hand; what is done to one record is in crate vcpus_ipi.
 
+#![tactic(auto)]
+
 ghost use Rattle.std.specs.Prelude.{◌≡◌};
 ghost use Rattle.vcpus_ipi.specs.Ipi.{ask_of, send_ipi};
 ghost use Rattle.vcpus_ipi.specs.Steps.{seen_all, changed_all, left, leaves};
@@ -61,12 +63,12 @@ pub extern "C" fn sillwander_vcpus_send(
 }
 
 // 64 vCPUs by value.
-#[derive(Drop)]
+#[derive(Clone, Copy)]
 pub struct Vcpus {
     pub records: [Vcpu; 64],
 }
 
-#[derive(Drop)]
+#[derive(Clone, Copy)]
 pub struct VcpusSent {
     pub records: [Vcpu; 64],
     pub sent: Sent,

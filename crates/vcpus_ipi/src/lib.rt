@@ -1,6 +1,8 @@
 // An interrupt command among several vCPUs, record by record: what one vCPU's record is, whether a command reaches it, and what is left in it. Each rule is a function of one
 // record by value; crate vcpus passes over a lent slice of them. Not in the Rust crate: there the sender's LDR decides for all (D-65).
 
+#![tactic(auto)]
+
 ghost use Rattle.std.specs.Prelude.{◌≡◌, false, cond, ◌&&◌, eqb};
 ghost use Rattle.utils.specs.Set.{bit};
 ghost use Rattle.vlapic_requests.specs.Requests.{request};
@@ -19,7 +21,7 @@ use vlapic_regs::{register, vectors};
 
 // One vCPU: the registers of its local APIC, and what waits for the processor. Laid out in memory as it stands here (include/sillwander.h).
 #[repr(C)]
-#[derive(Drop)]
+#[derive(Clone, Copy)]
 pub struct Vcpu {
     pub regs: VirtualApicRegs,
     // An NMI, an INIT and a start-up IPI wait; the vector of the last start-up IPI.
@@ -30,7 +32,7 @@ pub struct Vcpu {
 }
 
 // A write of a register that sends: by which vCPU, where, what and how wide; and the vCPUs that are active.
-#[derive(Drop)]
+#[derive(Clone, Copy)]
 pub struct Ask {
     pub sender: VcpuId,
     pub offset: u64,
@@ -40,7 +42,7 @@ pub struct Ask {
 }
 
 // A mode, and the words of an ICR.
-#[derive(Drop)]
+#[derive(Clone, Copy)]
 pub struct Command {
     pub x2apic: bool,
     pub icr_lo: u32,
@@ -48,7 +50,7 @@ pub struct Command {
 }
 
 // What a pass over the records looks for, and what it found so far.
-#[derive(Drop)]
+#[derive(Clone, Copy)]
 pub struct Plan {
     pub count: usize,
     pub ask: Ask,
@@ -62,7 +64,7 @@ pub struct Plan {
 }
 
 // What is done to the records: the sender's ICR takes the command's words where `stores` says so, and the answer is carried out.
-#[derive(Drop)]
+#[derive(Clone, Copy)]
 pub struct Effect {
     pub sender: VcpuId,
     pub stores: bool,
@@ -72,7 +74,7 @@ pub struct Effect {
 
 // What the caller is answered: the code of the reply, in which an IPI has two values, kind and vector, and the mask of those whom it was sent to.
 #[repr(C)]
-#[derive(Drop)]
+#[derive(Clone, Copy)]
 pub struct Sent {
     pub code: u64,
     pub mask: u64,

@@ -1,1 +1,3 @@
 // Theorems about interrupt commands among several vCPUs: see specs/ (the statements) and proofs/.
+
+#![tactic(auto)]

@@ -7,6 +7,8 @@
 // number and values (`reply`); an access width is a number; an address below the base, and a base and size whose sum doesn't fit,
 // are refused instead of overflowing. Each function has its contract, and logging is left out.
 
+#![tactic(auto)]
+
 ghost use Rattle.std.specs.Prelude.{◌≡◌, true, false, ◌<◌, ◌%◌, ◌^◌};
 ghost use Rattle.vioapic_entry.specs.Answers.{routed_reply};
 ghost use Rattle.vioapic_entry.specs.Redirection.{vector_of, remote_irr, is_level, with_remote_irr, without_remote_irr, with_word, with_deferred, with_input, awaits, send_entry, raise_entry, lower_entry, end_entry, end_entry20, write_low, write_high, is_owed, replace_low20, write_low20};
@@ -71,7 +73,7 @@ const VERSION: usize = 29;
 const IN_FLIGHT: usize = 30;
 
 // The versions that there are.
-#[derive(Drop)]
+#[derive(Clone, Copy)]
 pub enum IoApicVersion {
     // The 82093AA's.
     V11,
@@ -80,20 +82,20 @@ pub enum IoApicVersion {
 }
 
 // Result of a virtual IO APIC EOI broadcast: the GSI whose remote-IRR state was cleared, and the interrupt that should be injected now.
-#[derive(Drop)]
+#[derive(Clone, Copy)]
 pub struct IoApicEoi {
     pub gsi: Gsi,
     pub pending: Routed,
 }
 
 // The same in version 0x20, one bit a GSI: those whose remote-IRR state was cleared, and those of them whose interrupt should be injected now.
-#[derive(Drop)]
+#[derive(Clone, Copy)]
 pub struct IoApicEois {
     pub cleared: u32,
     pub sent: u32,
 }
 
-#[derive(Drop)]
+#[derive(Clone, Copy)]
 pub enum Eoi {
     NotEnded,
     Ended(IoApicEoi),
@@ -101,19 +103,19 @@ pub enum Eoi {
 }
 
 // The vector programmed for a GSI.
-#[derive(Drop)]
+#[derive(Clone, Copy)]
 pub enum GsiVector {
     NoVector,
     Programmed(Vector),
 }
 
-#[derive(Drop)]
+#[derive(Clone, Copy)]
 pub enum Read {
     Value(u64),
     NotRead(Refusal),
 }
 
-#[derive(Drop)]
+#[derive(Clone, Copy)]
 pub enum Written {
     Done,
     // Version 0x20: the entry whose low word was written is owed its interrupt.
@@ -124,7 +126,7 @@ pub enum Written {
 }
 
 // From the base up to, and without, the end.
-#[derive(Drop)]
+#[derive(Clone, Copy)]
 pub enum AddressRange {
     Between(u64, u64),
     NoRange(Refusal),
@@ -564,7 +566,7 @@ fn end_first(words: &mut [u64; 32], vector: Vector) -> Eoi
 }
 
 // What an EOI of version 0x20 has ended so far, in one number: bit g is up where entry g was, and bit 24 + g where it is sent again.
-#[derive(Drop)]
+#[derive(Clone, Copy)]
 struct Ends(u64);
 
 impl Ends {
@@ -1080,25 +1082,25 @@ fn fits(base: u64, size: u64) -> bool
 // ---- The same by value
 
 // A minimal emulated x86 IO APIC.
-#[derive(Drop)]
+#[derive(Clone, Copy)]
 pub struct EmulatedIoApic {
     pub words: [u64; 32],
 }
 
 // An IO APIC after a call, and the call's answer.
-#[derive(Drop)]
+#[derive(Clone, Copy)]
 pub struct IoApicRouting {
     pub chip: EmulatedIoApic,
     pub answer: Routed,
 }
 
-#[derive(Drop)]
+#[derive(Clone, Copy)]
 pub struct IoApicEnding {
     pub chip: EmulatedIoApic,
     pub answer: Eoi,
 }
 
-#[derive(Drop)]
+#[derive(Clone, Copy)]
 pub struct IoApicWriting {
     pub chip: EmulatedIoApic,
     pub answer: Written,

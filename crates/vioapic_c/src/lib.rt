@@ -1,6 +1,8 @@
 // The boundary of the I/O APIC: each call is the chip's own over 32 words that a caller in C or Rust lends (include/sillwander.h has
 // their layout), its reply as a code.
 
+#![tactic(auto)]
+
 ghost use Rattle.std.specs.Prelude.{◌≡◌};
 ghost use Rattle.reply_code.specs.Lent.{reply_code, is_up, lent};
 ghost use Rattle.vioapic.specs.declared.IoApicVersion.TheVariants.{V20};

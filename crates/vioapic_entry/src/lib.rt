@@ -4,6 +4,8 @@
 // are the fields of its register; masks became divisions and remainders by powers of two. Its rules are definitions of one entry
 // (specs/Redirection.antt), and the code of crate `vioapic` does them in place. `Option<IoApicInterrupt>` became `Routed`.
 
+#![tactic(auto)]
+
 ghost use Rattle.std.specs.Prelude.{◌≡◌, cond};
 ghost use Rattle.utils.specs.Set.{bit};
 ghost use Rattle.vioapic_entry.specs.Answers.{interrupt_reply, routed_reply, is_routed};
@@ -12,7 +14,7 @@ ghost use Rattle.vioapic_entry.specs.Redirection.{vector_of, remote_irr, is_leve
 use types::{Reply, Vector};
 
 // A redirection entry: its register, whether a level interrupt was deferred, and the level of its input line.
-#[derive(Drop)]
+#[derive(Clone, Copy)]
 pub struct Entry {
     pub word: u64,
     pub pending_level: bool,
@@ -20,14 +22,14 @@ pub struct Entry {
 }
 
 // A routed interrupt from the virtual IO APIC.
-#[derive(Drop)]
+#[derive(Clone, Copy)]
 pub struct IoApicInterrupt {
     pub vector: Vector,
     pub level_triggered: bool,
 }
 
 // What an entry asks to inject, if anything.
-#[derive(Drop)]
+#[derive(Clone, Copy)]
 pub enum Routed {
     NotRouted,
     Interrupt(IoApicInterrupt),

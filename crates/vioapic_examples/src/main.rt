@@ -1,6 +1,8 @@
 // Runs document 01's numbered examples 1 to 6 on the I/O APIC of version 0x11, and document 02's masking (T-08) on a new one, which is of version
 // 0x20, and prints the number and the values of each reply.
 
+#![tactic(auto)]
+
 use types::{Gsi, Reply, Vector};
 use vioapic::{EmulatedIoApic, IoApicVersion};
 

@@ -7,6 +7,8 @@
 // IPI is an answer; the highest vector in service (`isrv`) is searched for where it is wanted and not kept; `Option` and `Result` became enums. Timer, logging and the
 // APIC base register were left out, `setup` was added, and each function has its contract.
 
+#![tactic(auto)]
+
 ghost use Rattle.std.specs.Prelude.{◌≡◌, false, ◌<◌};
 ghost use Rattle.types.specs.declared.Reply.TheVariants.{One};
 ghost use Rattle.vlapic.specs.Regs.{start, with_isr, with_tmr, with_tpr, with_ldr, with_dfr, with_svr, with_errors, with_pending, with_icr_hi};
@@ -24,7 +26,7 @@ use vlapic_regs::{lvt, register, vectors};
 
 // The registers of one vCPU's local APIC, laid out in memory as they stand here (a caller in C lends them: crate vcpus).
 #[repr(C)]
-#[derive(Drop)]
+#[derive(Clone, Copy)]
 pub struct VirtualApicRegs {
     // x2APIC mode; else xAPIC mode.
     pub x2apic: bool,
@@ -54,25 +56,25 @@ pub struct VirtualApicRegs {
 }
 
 // What an EOI tells the I/O APICs.
-#[derive(Drop)]
+#[derive(Clone, Copy)]
 pub enum EoiAnswer {
     Broadcast(Vector),
     Nothing,
 }
 
-#[derive(Drop)]
+#[derive(Clone, Copy)]
 pub struct EoiStep {
     pub regs: VirtualApicRegs,
     pub answer: EoiAnswer,
 }
 
-#[derive(Drop)]
+#[derive(Clone, Copy)]
 pub enum ReadAnswer {
     Value(u32),
     Refused(Refusal),
 }
 
-#[derive(Drop)]
+#[derive(Clone, Copy)]
 pub enum WriteAnswer {
     Done,
     // An interrupt for the vCPUs in `mask`; its kind is the delivery mode: 0 fixed, 4 NMI, 5 INIT, 6 startup.
@@ -80,7 +82,7 @@ pub enum WriteAnswer {
     Refused(Refusal),
 }
 
-#[derive(Drop)]
+#[derive(Clone, Copy)]
 pub struct Written {
     pub regs: VirtualApicRegs,
     pub answer: WriteAnswer,

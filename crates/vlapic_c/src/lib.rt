@@ -1,5 +1,7 @@
 // What C and Rust link: each call is that of vlapic_words over the words that the caller lends (include/sillwander.h has their layout), its reply as a code.
 
+#![tactic(auto)]
+
 ghost use Rattle.std.specs.Prelude.{◌≡◌};
 ghost use Rattle.reply_code.specs.Lent.{reply_code, is_up};
 ghost use Rattle.vlapic.specs.Answers.{write_reply};

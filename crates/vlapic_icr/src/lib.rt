@@ -6,6 +6,8 @@
 // functions of the words that they read (`InterruptCommand`). The host is asked nothing: the vCPU count and the active vCPUs come in as numbers, and an IPI is an answer;
 // `Result` became enums; each function has its contract.
 
+#![tactic(auto)]
+
 ghost use Rattle.std.specs.Prelude.{◌≡◌, ◌<◌};
 ghost use Rattle.vlapic_icr.specs.Icr.{share, matching, in_cluster, dest_field, is_broadcast, dest_field_matched, logical_dest, physical_dest, dest_no_shorthand, calculate_dest, send, deliver, command, self_ipi};
 
@@ -18,7 +20,7 @@ const XAPIC_BROADCAST_DEST_ID: u32 = 0xff;
 const X2APIC_BROADCAST_DEST_ID: u32 = 0xffffffff;
 
 // What a local APIC goes by when it carries out an interrupt command: mode, own id, LDR, DFR and the command's words.
-#[derive(Drop)]
+#[derive(Clone, Copy)]
 pub struct InterruptCommand {
     pub x2apic: bool,
     pub vapic_id: u32,
@@ -29,7 +31,7 @@ pub struct InterruptCommand {
 }
 
 // Whether a logical destination is this APIC's.
-#[derive(Drop)]
+#[derive(Clone, Copy)]
 pub enum DestMatch {
     Matched,
     Unmatched,
@@ -37,14 +39,14 @@ pub enum DestMatch {
 }
 
 // The vCPUs that an interrupt command names.
-#[derive(Drop)]
+#[derive(Clone, Copy)]
 pub enum Dest {
     Mask(u64),
     NoMask(Refusal),
 }
 
 // What becomes of an interrupt command.
-#[derive(Drop)]
+#[derive(Clone, Copy)]
 pub enum IcrAnswer {
     Nothing,
     SendIllegalVector,

@@ -59,7 +59,7 @@ pub fn icr_hi(val: u32) -> u32
 }
 
 // ESR, and the errors since it was last written.
-#[derive(Drop)]
+#[derive(Clone, Copy)]
 pub struct Errors {
     pub esr: u32,
     pub esr_pending: u32,

@@ -1,6 +1,8 @@
 // The local APIC with its request register, in place over its 48 words (crate vlapic_words; the third array of eight is IRR). Not in the Rust crate: there the
 // processor keeps the requests, and what it accepted is told. Vectors 16 to 255 count.
 
+#![tactic(auto)]
+
 ghost use Rattle.std.specs.Prelude.{◌+◌, ◌*◌, ◌<◌, ◌≡◌, set};
 ghost use Rattle.utils.specs.Set.{marked, last_set32};
 ghost use Rattle.vlapic_regs.specs.Vectors.{in_words};
@@ -40,7 +42,7 @@ const LOWEST: u8 = 16;
 const RECEIVE_ILLEGAL_VECTOR: u32 = 6;
 
 // What the processor did with the highest request.
-#[derive(Drop)]
+#[derive(Clone, Copy)]
 pub enum Acceptance {
     NotAccepted,
     Accepted(Vector),

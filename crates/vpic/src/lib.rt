@@ -4,6 +4,8 @@
 // value, and no lock. Lines and vectors are `PicLine` and `Vector`; `Option` and `Result` became enums, and panics and logs went; T-02's rule, and the full profile
 // of T-04 and T-06, which is rule 2, were added; each function has its contract.
 
+#![tactic(auto)]
+
 ghost use Rattle.std.specs.Prelude.{◌≡◌, true, false, not, ◌%◌, eqb};
 ghost use Rattle.types.specs.Counters.{place_of};
 ghost use Rattle.types.specs.declared.PicPlace.TheVariants as place;
@@ -26,7 +28,7 @@ pub const SLAVE_COMMAND: u16 = 0xa0;
 pub const SLAVE_DATA: u16 = 0xa1;
 
 // What the slave's output does to the master's line 2, and whether the chips are full 8259As.
-#[derive(Drop)]
+#[derive(Clone, Copy)]
 pub enum PicRule {
     // Nothing: the Rust's rule, number 0. A slave's edge sets the line's request, and an acknowledgement clears it.
     Latch,
@@ -37,7 +39,7 @@ pub enum PicRule {
 }
 
 // A pending legacy PIC interrupt removed from the requests for delivery. It can be restored where its vector couldn't be published.
-#[derive(Drop)]
+#[derive(Clone, Copy)]
 pub struct PicInterruptClaim {
     pub vector: Vector,
     pub irq: PicLine,
@@ -46,34 +48,34 @@ pub struct PicInterruptClaim {
 }
 
 // The Rust's `Option<PicInterruptClaim>`.
-#[derive(Drop)]
+#[derive(Clone, Copy)]
 pub enum PicClaim {
     Claimed(PicInterruptClaim),
     Nothing,
 }
 
 // The Rust's `X86VlapicResult`: done, or why not.
-#[derive(Drop)]
+#[derive(Clone, Copy)]
 pub enum PicDone {
     Done,
     Refused(Refusal),
 }
 
 // The Rust's `X86VlapicResult<usize>`.
-#[derive(Drop)]
+#[derive(Clone, Copy)]
 pub enum PicValue {
     Value(u8),
     Refused(Refusal),
 }
 
 // The first and the last port of a range.
-#[derive(Drop)]
+#[derive(Clone, Copy)]
 pub struct PortRange {
     pub start: u16,
     pub end: u16,
 }
 
-#[derive(Drop)]
+#[derive(Clone, Copy)]
 pub struct PortRanges {
     pub master: PortRange,
     pub slave: PortRange,
@@ -1004,30 +1006,30 @@ fn is_port(port: u64) -> bool
 // ---- The same by value: a pair lends its words, and is handed back.
 
 // The guest's pair of legacy 8259-compatible interrupt controllers.
-#[derive(Drop)]
+#[derive(Clone, Copy)]
 pub struct EmulatedPic {
     pub words: [u64; 4],
 }
 
-#[derive(Drop)]
+#[derive(Clone, Copy)]
 pub struct PicClaimed {
     pub pic: EmulatedPic,
     pub claim: PicClaim,
 }
 
-#[derive(Drop)]
+#[derive(Clone, Copy)]
 pub struct PicVectored {
     pub pic: EmulatedPic,
     pub vector: PicVector,
 }
 
-#[derive(Drop)]
+#[derive(Clone, Copy)]
 pub struct PicWritten {
     pub pic: EmulatedPic,
     pub done: PicDone,
 }
 
-#[derive(Drop)]
+#[derive(Clone, Copy)]
 pub struct PicRead {
     pub pic: EmulatedPic,
     pub value: PicValue,

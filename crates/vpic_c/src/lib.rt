@@ -2,6 +2,8 @@
 //
 // Each call is the core's over those words, and the code of its reply. Numbers come in at their full width, and none is cut.
 
+#![tactic(auto)]
+
 ghost use Rattle.std.specs.Prelude.{◌≡◌};
 ghost use Rattle.vpic.specs.Words.{view};
 ghost use Rattle.vpic.specs.declared.PicRule.TheVariants.{Cascade};

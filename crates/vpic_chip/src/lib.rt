@@ -4,6 +4,8 @@
 // lends; methods take the chip by value and hand it back; ICWs and OCWs became functions of their own; a line is a `PicLine`, and one that a chip doesn't have changes
 // nothing; `Option` became enums; each function has its contract. A set of the chip's eight lines is a byte.
 
+#![tactic(auto)]
+
 ghost use Rattle.std.specs.Prelude.{◌≡◌, false, cond, ◌||◌, ◌<◌, ◌≤◌, eqb};
 ghost use Rattle.utils.specs.Set.{bit, with, without, set_of, lowest};
 ghost use Rattle.types.specs.Reply.{flag};
@@ -17,32 +19,32 @@ use utils::{set8, set64};
 pub const CASCADE_IRQ: u8 = 2;
 
 // A chip: specs/Registers.antt says which registers the word holds. None but the accessors and setters look into it.
-#[derive(Drop)]
+#[derive(Clone, Copy)]
 pub struct PicChip(pub u64);
 
 // The line whose request counts.
-#[derive(Drop)]
+#[derive(Clone, Copy)]
 pub enum PendingIrq {
     Irq(PicLine),
     Nothing,
 }
 
 // The vector that a chip or the pair gives.
-#[derive(Drop)]
+#[derive(Clone, Copy)]
 pub enum PicVector {
     Given(Vector),
     Nothing,
 }
 
 // A chip after an acknowledgement, and the vector that it gave.
-#[derive(Drop)]
+#[derive(Clone, Copy)]
 pub struct Acknowledged {
     pub chip: PicChip,
     pub vector: PicVector,
 }
 
 // A chip after a poll was read, and what the read showed.
-#[derive(Drop)]
+#[derive(Clone, Copy)]
 pub struct Polled {
     pub chip: PicChip,
     pub shown: u8,

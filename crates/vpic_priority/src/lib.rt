@@ -1,5 +1,7 @@
 // An 8259's priorities, which rotation turns: its lines on a ring, of which one is lowest today. Not in the Rust, which ignores rotation.
 
+#![tactic(auto)]
+
 ghost use Rattle.std.specs.Prelude.{◌≡◌};
 ghost use Rattle.utils.specs.Set.{bit};
 ghost use Rattle.vpic_priority.specs.Ring.{rank, above, first_by};

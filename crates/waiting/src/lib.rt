@@ -4,6 +4,8 @@
 // call leaves, for 64: any bytes are a list, and zeros are an empty one. The lists of a host's vCPUs lie one behind the other, a vCPU's list at 66 times its id; how many
 // vCPUs there are is said by the number of bytes.
 
+#![tactic(auto)]
+
 ghost use Rattle.std.specs.Prelude.{◌≡◌, ◌+◌, ◌*◌, ◌≤◌, ◌<◌, length};
 ghost use Rattle.types.specs.Reply.{outcome_of};
 ghost use Rattle.waiting.specs.Waiting as one;
@@ -29,14 +31,14 @@ const COUNT: usize = 65;
 // ---- Answers in the numbers of documents 01 and 02.
 
 // Taken in, or why not.
-#[derive(Drop)]
+#[derive(Clone, Copy)]
 pub enum Taken {
     Done,
     Refused(Refusal),
 }
 
 // A vector that waited, or none.
-#[derive(Drop)]
+#[derive(Clone, Copy)]
 pub enum Waited {
     Given(Vector),
     Nothing,
@@ -44,7 +46,7 @@ pub enum Waited {
 }
 
 // How many wait.
-#[derive(Drop)]
+#[derive(Clone, Copy)]
 pub enum Counted {
     Count(u8),
     Refused(Refusal),
@@ -310,18 +312,18 @@ pub fn peek(lists: &[u8], vcpu: VcpuId, k: usize) -> Waited
 
 // ---- One list by value: it lends its bytes, and is handed back.
 
-#[derive(Drop)]
+#[derive(Clone, Copy)]
 pub struct WaitingList {
     pub bytes: [u8; 66],
 }
 
-#[derive(Drop)]
+#[derive(Clone, Copy)]
 pub struct ListTaken {
     pub list: WaitingList,
     pub taken: Taken,
 }
 
-#[derive(Drop)]
+#[derive(Clone, Copy)]
 pub struct ListWaited {
     pub list: WaitingList,
     pub waited: Waited,

@@ -1,6 +1,8 @@
 // What C and Rust link: the waiting lists over bytes that the caller lends, and the pair's claims into them over the pair's four words (include/sillwander.h has the layouts),
 // each reply as a code. Numbers come in at their full width, and none is cut.
 
+#![tactic(auto)]
+
 ghost use Rattle.std.specs.Prelude.{◌≡◌};
 ghost use Rattle.vpic.specs.Words.{view};
 ghost use Rattle.waiting.specs.Lists.{lists_in, new, deliver, count, peek};

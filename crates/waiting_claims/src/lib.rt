@@ -1,6 +1,8 @@
 // The pair's claims for a vCPU that is stopped (document 02, T-13): a claimed vector goes into the vCPU's waiting list. Where that has no place left, the claim is restored by the
 // same call, so that nothing is lost: the pair still has its request.
 
+#![tactic(auto)]
+
 ghost use Rattle.std.specs.Prelude.{◌≡◌, true};
 ghost use Rattle.types.specs.Reply.{outcome_of};
 ghost use Rattle.vpic.specs.Words.{view};
@@ -12,7 +14,7 @@ use vpic::{PicClaim, PicInterruptClaim};
 use waiting::Taken;
 
 // A claim whose vector waits now, or why it doesn't.
-#[derive(Drop)]
+#[derive(Clone, Copy)]
 pub enum WaitingClaim {
     Claimed(PicInterruptClaim),
     Nothing,
