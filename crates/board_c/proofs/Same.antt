@@ -14,7 +14,7 @@ use Rattle.reply_code.proofs.Codes.{code_same}
 use Rattle.vioapic.specs.State.{IoApicState}
 use Rattle.vioapic.specs.IoApic as chip
 use Rattle.vioapic.specs.Answers.{eoi_reply}
-use Rattle.vioapic_c.proofs.Fit.{level_fits, end_fits, write_fits}
+use Rattle.vioapic_fit.proofs.Fit.{level_fits, end_fits, write_fits}
 use Rattle.vlapic.specs.declared.VirtualApicRegs.{VirtualApicRegs}
 use Rattle.vlapic.specs.declared.EoiAnswer.{EoiAnswer}
 use Rattle.vlapic.specs.declared.EoiAnswer.TheVariants as local

@@ -1,5 +1,5 @@
 // The local APICs of up to 64 vCPUs, a lent slice of records: a write of a register that sends an IPI changes the records of those whom it reaches, and the sender's.
-// Each function here passes over the slice or calls one that does, and is proved by hand; what is done to one record is in crate vcpus_ipi.
+// Each function here passes over the slice or calls one that does; what is done to one record is in crate vcpus_ipi.
 
 #![tactic(auto)]
 
@@ -40,9 +40,8 @@ fn deliver(records: &mut [Vcpu], effect: Effect)
     }
 }
 
-// A write of the ICR or of SELF IPI by vCPU `sender`, `width` bytes wide, where the vCPUs in `active` are active. What C and Rust link.
-#[unsafe(no_mangle)]
-pub extern "C" fn sillwander_vcpus_send(
+// A write of the ICR or of SELF IPI by vCPU `sender`, `width` bytes wide, where the vCPUs in `active` are active. C and Rust link it by `vcpus_c`.
+pub fn sillwander_vcpus_send(
     records: &mut [Vcpu],
     sender: usize,
     offset: u64,
@@ -90,7 +89,7 @@ fn send_by_value(
 }
 
 impl Vcpus {
-    // The same by value. A caller of this needs no proof by hand.
+    // The same by value.
     pub fn send(self, sender: VcpuId, offset: u64, value: u64, width: u8, active: u64) -> VcpusSent
         ensures { left_after result ≡ leaves (send_ipi self.records (ask_of sender.0 offset value width active)) }
     {

@@ -1,4 +1,3 @@
 pub mod Ways
-pub mod Fit
 pub mod Agree
 pub mod Cases

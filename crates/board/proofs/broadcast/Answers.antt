@@ -1,0 +1,6 @@
+use Rattle.board.proofs.Ways.{broadcast_way}
+use borrow.Author.Rules.{rules}
+use Rattle.board.proofs.broadcast.Goals as goal
+
+pub returns : goal.returns
+returns c = search broadcast_way

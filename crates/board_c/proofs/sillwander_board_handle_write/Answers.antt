@@ -1,0 +1,6 @@
+use Rattle.board_c.proofs.Ways.{write_coded}
+use borrow.Author.Rules.{rules}
+use Rattle.board_c.proofs.sillwander_board_handle_write.Goals as goal
+
+pub returns : goal.returns
+returns c = search write_coded

@@ -1,0 +1,15 @@
+use Rattle.image.proofs.Saving.{saved_short, saved_whole}
+use borrow.Author.Rules.{rules}
+use Rattle.image.proofs.save.Reads as reads
+use Rattle.image.proofs.save.Lts as lts
+use Rattle.image.proofs.gather.Reads as gather-reads
+use Rattle.image_format.proofs.write.Reads as write-reads
+use Rattle.image.proofs.save.Goals as goal
+
+-- src/lib.rt:93:9
+pub returns-then-buf-lt-IMAGE_SIZE : goal.returns-then-buf-lt-IMAGE_SIZE
+returns-then-buf-lt-IMAGE_SIZE c = saved_short c.args.io.now c.args.apic.now c.args.pair.now c.args.buf.now c.if-buf-lt-IMAGE_SIZE.true
+
+-- src/lib.rt:89:1
+pub returns : goal.returns
+returns c = saved_whole c.args.io.now c.args.apic.now c.args.pair.now c.args.buf.now _ _ c.if-buf-lt-IMAGE_SIZE.false c.gather.ensures c.write.ensures

@@ -1,0 +1,11 @@
+use Rattle.image_rules.proofs.Tests.{ppr_kept}
+use borrow.Author.Rules.{rules}
+use Rattle.image_rules.proofs.ppr_keeps.Reads as reads
+use Rattle.image_rules.proofs.ppr_keeps.Lts as lts
+use Rattle.image_rules.proofs.word.Reads as word-reads
+use Rattle.vlapic_requests.proofs.write_tpr.Reads as write-tpr-reads
+use Rattle.image_rules.proofs.ppr_keeps.Goals as goal
+
+-- src/lib.rt:201:1
+pub returns : goal.returns
+returns c = ppr_kept c.args.words.now _ _ _ _ c.word.ensures c.write_tpr.ensures.registers c.word-2.ensures c.word-3.ensures

@@ -1,0 +1,17 @@
+use Prim.Native.Nat.{◌≤◌, ◌-◌}
+use mathlib.Core.Path.{◌≡◌, refl}
+use mathlib.Core.Bool.{true}
+use native.Mathlib.Omega.{arith}
+use lib.ListN.{length}
+use Rattle.planner.specs.Lines.{every}
+use Rattle.planner.specs.Check.{line_passes}
+use Rattle.planner.proofs.Loops.{passes_short, passes_not, passes_yes}
+use Rattle.planner.proofs.Laws.{every_next}
+use Rattle.utils.specs.Cases.{so}
+use Rattle.planner.proofs.check.Given as goal
+
+abbrev pub invariant-loop-k : goal.invariant-loop-k
+invariant-loop-k l = (l.k ≤ length l.ranges) × (every l.k (line_passes l.ranges l.taken l.plan) ≡ true)
+
+abbrev pub decreases-loop-k : goal.decreases-loop-k
+decreases-loop-k l = length l.ranges - l.k

@@ -1,0 +1,20 @@
+use Prim.Native.Nat.{ℕ, ◌≤◌, ◌<◌, ◌-◌}
+use mathlib.Core.Path.{◌≡◌}
+use mathlib.Core.Bool.{false}
+use native.Mathlib.Omega.{arith}
+use borrow.Author.Rules.{rules}
+use borrow.Author.Count.{below_more}
+use lib.ListN.{length}
+use Rattle.planner.specs.Shortage.{ends_at}
+use Rattle.planner.proofs.Loops.{end_found, end_none}
+use Rattle.planner.proofs.Leaves.{ends_at_lem}
+use Rattle.planner.proofs.shortage.end_line.Goals as goal
+
+pub returns-then-crowded : goal.returns-then-crowded
+returns-then-crowded c = search (end_found, ends_at_lem)
+
+pub loop-k-preserved : goal.loop-k-preserved
+loop-k-preserved c = (omega arith, below_more _ _ c.loop-k.invariant.1 (search ends_at_lem))
+
+pub returns : goal.returns
+returns c = search end_none

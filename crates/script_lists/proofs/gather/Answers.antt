@@ -1,0 +1,19 @@
+use Prim.Native.Nat.{◌-◌}
+use mathlib.Core.Path.{sym, ◌∙◌}
+use native.Mathlib.Omega.{arith}
+use borrow.Author.Rules.{rules}
+use Rattle.waiting.specs.Lists.{lists_in, list_at}
+use Rattle.script_lists.proofs.Gathered.{Gathered, gathered_none, gathered_more, gathered_all, gave, gave_none, refused, waits_le}
+use Rattle.script_lists.proofs.gather.Goals as goal
+
+pub loop-n-preserved : goal.loop-n-preserved
+loop-n-preserved c = gathered_more _ _ _ c.loop-n.invariant _ c.loop-n-test.true (gave _ _ _ c.peek.result c.peek.ensures _ c.in-Given.is)
+
+pub returns-in-Nothing : goal.returns-in-Nothing
+returns-in-Nothing c = gathered_all _ _ _ c.loop-n.invariant (gave_none _ _ _ c.peek.result c.peek.ensures c.in-Nothing.is)
+
+pub returns-in-Refused : goal.returns-in-Refused
+returns-in-Refused c = gathered_all _ _ _ c.loop-n.invariant (refused _ _ _ c.peek.result c.peek.ensures _ c.in-Refused.is)
+
+pub returns : goal.returns
+returns c = gathered_all _ _ _ c.loop-n.invariant (omega (arith, waits_le c.args.lists.now c.args.vcpu, c.loop-n-test.false))

@@ -1,0 +1,6 @@
+use Rattle.script_machine.proofs.Chips.{new_machine_lem}
+use borrow.Author.Rules.{rules}
+use Rattle.script_machine.proofs.new.Goals as goal
+
+pub returns : goal.returns
+returns c = new_machine_lem _ _ _ _ _ _ _ _ _ c.new_default.ensures c.new.ensures c.new-2.ensures c.new-3.ensures

@@ -1,0 +1,15 @@
+use Rattle.script_machine.specs.Machine.{machine_in}
+use Rattle.script_machine.specs.Run.{step_in, run_of, ended}
+use Rattle.script_machine.proofs.Runs.{further, further_none, run_out, run_did, run_stopped}
+use borrow.Author.Rules.{rules}
+use native.Mathlib.Omega.{arith}
+use mathlib.Core.Path.{◌≡◌, sym, ap, ◌∙◌}
+use Prim.Native.Nat.{ℕ, ◌+◌, ◌-◌, ◌≤◌}
+use Rattle.script_machine.proofs.run.Given as goal
+
+abbrev pub invariant-loop-done : goal.invariant-loop-done
+invariant-loop-done l = (l.done ≤ l.allowance)
+    × (run_of l.script (machine_in l.initial.ioapic l.initial.pic l.initial.apic l.initial.board_ioapic l.initial.board_apic l.initial.after) l.initial.next.at l.allowance ≡ further l.done (run_of l.script (machine_in l.ioapic l.pic l.apic l.board_ioapic l.board_apic l.after) l.next.at (l.allowance - l.done)))
+
+abbrev pub decreases-loop-done : goal.decreases-loop-done
+decreases-loop-done l = l.allowance - l.done

@@ -1,0 +1,20 @@
+use mathlib.Core.Path.{refl}
+use Rattle.script_machine.proofs.Local.{set_up_done, set_up_refused}
+use borrow.Author.Rules.{rules}
+use Rattle.script_machine.proofs.set_up.Goals as goal
+
+pub returns-then-number-eq0 : goal.returns-then-number-eq0
+returns-then-number-eq0 c =
+    let a = c.args in
+    record {
+      reply_after = set_up_done _ _ a.vm _ _ a.x2apic a.vcpu_id a.vcpu_num a.active_vcpus _ c.reply-reply.ensures c.setup.ensures c.number.ensures a.vm.used c.if-number-eq0.true;
+      used_value = refl;
+    }
+
+pub returns : goal.returns
+returns c =
+    let a = c.args in
+    record {
+      reply_after = set_up_refused _ _ a.vm _ _ a.x2apic a.vcpu_id a.vcpu_num a.active_vcpus _ c.reply-reply.ensures c.setup.ensures c.number.ensures c.if-number-eq0.false;
+      used_value = refl;
+    }

@@ -1,0 +1,15 @@
+use Prim.Native.Nat.{◌-◌}
+use lib.ListN.{length}
+use native.Mathlib.Omega.{arith}
+use borrow.Author.Rules.{rules}
+use Rattle.script_machine.specs.Machine.{machine_in}
+use Rattle.script_machine.specs.Run.{step_in}
+use Rattle.script_machine.proofs.Places.{did_lies}
+use Rattle.script_print.proofs.Printing.{Printing, printing_none, printing_did, printed_stopped, ran_stopped, printed_fits}
+use Rattle.script_print.proofs.put_lines.Given as goal
+
+abbrev pub invariant-loop-tag : goal.invariant-loop-tag
+invariant-loop-tag l = Printing l.script l.initial.out (machine_in l.initial.ioapic l.initial.pic l.initial.apic l.initial.board_ioapic l.initial.board_apic l.initial.after) (machine_in l.ioapic l.pic l.apic l.board_ioapic l.board_apic l.after) l.next.at l.end l.out
+
+abbrev pub decreases-loop-tag : goal.decreases-loop-tag
+decreases-loop-tag l = length l.script - l.next.at

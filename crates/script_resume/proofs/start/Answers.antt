@@ -1,0 +1,16 @@
+use mathlib.Core.Path.{refl}
+use borrow.Author.Rules.{rules}
+use borrow.Author.Tests.{eq-eqb, ne_eqb}
+use Rattle.script_resume.proofs.Starting.{start_new, start_took, start_refused}
+use Rattle.script_resume.proofs.start.Goals as goal
+
+pub returns-then-image-eq0 : goal.returns-then-image-eq0
+returns-then-image-eq0 c = start_new c.args.image.now _ _ _ _ _ _ c.new-vm.ensures (eq-eqb _ _ c.if-image-eq0.true)
+
+pub returns-in-Restored : goal.returns-in-Restored
+returns-in-Restored c =
+    start_took c.args.image.now _ _ _ _ _ _ c.new-vm.ensures _ _ _ _ (ne_eqb _ _ c.if-image-eq0.false) c.restore.ensures _ refl c.in-Restored.is
+
+pub returns-in-NotRestored : goal.returns-in-NotRestored
+returns-in-NotRestored c =
+    start_refused c.args.image.now _ _ _ _ _ _ c.new-vm.ensures _ _ _ _ (ne_eqb _ _ c.if-image-eq0.false) c.restore.ensures _ c.in-NotRestored.is

@@ -1,0 +1,12 @@
+use Rattle.vcpus_ipi.specs.Steps.{seen_by}
+use Rattle.utils.specs.Cases.{cases}
+use borrow.Author.Rules.{rules}
+use Rattle.vcpus_ipi.proofs.Plan.mask_with.Goals as goal
+
+pub returns-then-is_hit : goal.returns-then-is_hit
+unfolding seen_by
+returns-then-is_hit c = search cases
+
+pub returns : goal.returns
+unfolding seen_by
+returns c = search cases

@@ -1,0 +1,6 @@
+use Rattle.vioapic.proofs.Ways.{new_value}
+use borrow.Author.Rules.{rules}
+use Rattle.vioapic.proofs.EmulatedIoApic.new_version.Goals as goal
+
+pub returns : goal.returns
+returns c = search new_value

@@ -1,0 +1,9 @@
+use Rattle.vioapic.proofs.Ways.{fits_sum, range_fits, range_wide}
+use borrow.Author.Rules.{rules}
+use Rattle.vioapic.proofs.address_range.Goals as goal
+
+pub returns-then-fits : goal.returns-then-fits
+returns-then-fits c = search range_fits
+
+pub returns : goal.returns
+returns c = search range_wide

@@ -1,0 +1,9 @@
+use Rattle.vioapic.proofs.Ways.{read_eight, read_four, read_width}
+use borrow.Author.Rules.{rules}
+use Rattle.vioapic.proofs.handle_read.Goals as goal
+
+pub returns-then-width-eq8 : goal.returns-then-width-eq8
+returns-then-width-eq8 c = search read_eight
+
+pub returns : goal.returns
+returns c = search read_width

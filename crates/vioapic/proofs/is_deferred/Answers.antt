@@ -1,0 +1,6 @@
+use Rattle.vioapic.proofs.Words.{deferred_at}
+use borrow.Author.Rules.{rules}
+use Rattle.vioapic.proofs.is_deferred.Goals as goal
+
+pub returns : goal.returns
+returns c = search deferred_at

@@ -1,0 +1,6 @@
+use Rattle.vioapic.proofs.Ways.{version_is}
+use borrow.Author.Rules.{rules}
+use Rattle.vioapic.proofs.is_version_20.Goals as goal
+
+pub returns : goal.returns
+returns c = search version_is

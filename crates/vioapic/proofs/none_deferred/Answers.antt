@@ -1,0 +1,6 @@
+use Rattle.vioapic.proofs.Entries.{none_deferred}
+use borrow.Author.Rules.{rules}
+use Rattle.vioapic.proofs.none_deferred.Goals as goal
+
+pub returns : goal.returns
+returns c = λ h. none_deferred _ h

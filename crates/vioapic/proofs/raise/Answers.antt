@@ -1,0 +1,12 @@
+use Rattle.vioapic.proofs.Entries.{raised_again, word_up, raised_still, raised_flying}
+use borrow.Author.Rules.{rules}
+use Rattle.vioapic.proofs.raise.Goals as goal
+
+pub returns-then-not-remote_irr : goal.returns-then-not-remote_irr
+returns-then-not-remote_irr c = search raised_still
+
+pub returns-then-is_up : goal.returns-then-is_up
+returns-then-is_up c = search raised_again
+
+pub returns : goal.returns
+returns c = search raised_flying

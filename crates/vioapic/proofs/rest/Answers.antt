@@ -1,0 +1,6 @@
+use Rattle.vioapic.proofs.Entries.{rest_is}
+use borrow.Author.Rules.{rules}
+use Rattle.vioapic.proofs.rest.Goals as goal
+
+pub returns : goal.returns
+returns c = search rest_is

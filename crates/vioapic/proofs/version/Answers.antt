@@ -1,0 +1,6 @@
+use Rattle.vioapic.proofs.Ways.{version_held}
+use borrow.Author.Rules.{rules}
+use Rattle.vioapic.proofs.version.Goals as goal
+
+pub returns : goal.returns
+returns c = search version_held

@@ -1,0 +1,6 @@
+use Rattle.vlapic_requests.proofs.Ways.{request_way}
+use borrow.Author.Rules.{rules}
+use Rattle.vlapic_requests.proofs.request.Goals as goal
+
+pub returns : goal.returns
+returns c = search request_way

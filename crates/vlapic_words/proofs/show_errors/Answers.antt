@@ -1,0 +1,6 @@
+use Rattle.vlapic_words.proofs.Ways.{errors_way}
+use borrow.Author.Rules.{rules}
+use Rattle.vlapic_words.proofs.show_errors.Goals as goal
+
+pub returns : goal.returns
+returns c = search errors_way

@@ -1,0 +1,13 @@
+use Rattle.vpic.proofs.Laws.{restore_out}
+use Rattle.vpic.proofs.Full.{restore_full_low, restore_full, restore_plain}
+use borrow.Author.Rules.{rules}
+use Rattle.vpic.proofs.restore_interrupt.Goals as goal
+
+pub returns-then-irq-lt8 : goal.returns-then-irq-lt8
+returns-then-irq-lt8 c = search restore_full_low
+
+pub returns-then-is_full : goal.returns-then-is_full
+returns-then-is_full c = search restore_full
+
+pub returns : goal.returns
+returns c = search restore_plain

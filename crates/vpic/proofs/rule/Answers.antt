@@ -1,0 +1,7 @@
+use Rattle.vpic.specs.Words.{plain_view}
+use borrow.Author.Rules.{rules}
+use Rattle.vpic.proofs.rule.Goals as goal
+
+pub returns : goal.returns
+unfolding plain_view
+returns c = c.from_number.ensures

@@ -1,0 +1,7 @@
+use native.Mathlib.Omega.{arith}
+use Rattle.vpic.proofs.Laws.{master_set}
+use borrow.Author.Rules.{rules}
+use Rattle.vpic.proofs.set_master.Goals as goal
+
+pub returns : goal.returns
+returns c = master_set _ _ (omega arith)

@@ -1,0 +1,16 @@
+use Rattle.utils.specs.Cases.{cases}
+use Rattle.vpic_chip.specs.Chip.{commanded}
+use borrow.Author.Rules.{rules}
+use Rattle.vpic_chip.proofs.PicChip.full_command.Goals as goal
+
+pub returns-then-value-eq1 : goal.returns-then-value-eq1
+unfolding commanded
+returns-then-value-eq1 c = search cases
+
+pub returns-then-value-eq1-2 : goal.returns-then-value-eq1-2
+unfolding commanded
+returns-then-value-eq1-2 c = search cases
+
+pub returns : goal.returns
+unfolding commanded
+returns c = search cases

@@ -1,0 +1,9 @@
+use Rattle.vpic_chip.proofs.Full.{eoi_none, eoi_some}
+use borrow.Author.Rules.{rules}
+use Rattle.vpic_chip.proofs.PicChip.full_end_highest.Goals as goal
+
+pub returns-then-irq-ge8 : goal.returns-then-irq-ge8
+returns-then-irq-ge8 c = search eoi_none
+
+pub returns : goal.returns
+returns c = search eoi_some

@@ -1,0 +1,6 @@
+use Rattle.vpic_chip.proofs.Packing.{lowest_line_read}
+use borrow.Author.Rules.{rules}
+use Rattle.vpic_chip.proofs.PicChip.lowest_line.Goals as goal
+
+pub returns : goal.returns
+returns c = search lowest_line_read

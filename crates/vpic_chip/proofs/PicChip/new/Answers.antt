@@ -1,0 +1,6 @@
+use Rattle.vpic_chip.proofs.Packing.{new_put}
+use borrow.Author.Rules.{rules}
+use Rattle.vpic_chip.proofs.PicChip.new.Goals as goal
+
+pub returns : goal.returns
+returns c = search new_put

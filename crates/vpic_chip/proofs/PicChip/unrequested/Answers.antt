@@ -1,0 +1,6 @@
+use Rattle.vpic_chip.proofs.Packing.{unrequested_put}
+use borrow.Author.Rules.{rules}
+use Rattle.vpic_chip.proofs.PicChip.unrequested.Goals as goal
+
+pub returns : goal.returns
+returns c = search unrequested_put

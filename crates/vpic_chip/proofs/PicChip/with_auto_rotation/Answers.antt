@@ -1,0 +1,6 @@
+use Rattle.vpic_chip.proofs.Packing.{rotation_put}
+use borrow.Author.Rules.{rules}
+use Rattle.vpic_chip.proofs.PicChip.with_auto_rotation.Goals as goal
+
+pub returns : goal.returns
+returns c = search rotation_put

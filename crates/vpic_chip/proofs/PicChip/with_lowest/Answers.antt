@@ -1,0 +1,6 @@
+use Rattle.vpic_chip.proofs.Packing.{lowest_put}
+use borrow.Author.Rules.{rules}
+use Rattle.vpic_chip.proofs.PicChip.with_lowest.Goals as goal
+
+pub returns : goal.returns
+returns c = search lowest_put

@@ -1,0 +1,6 @@
+use Rattle.waiting.proofs.Lists.{is_known}
+use borrow.Author.Rules.{rules}
+use Rattle.waiting.proofs.is_known.Goals as goal
+
+pub returns : goal.returns
+returns c = search is_known
