@@ -5,6 +5,6 @@ use Rattle.script_lists.proofs.put_said.Goals as goal
 
 pub returns-in-Did : goal.returns-in-Did
 returns-in-Did c = record {
-      puts = did_put _ _ _ _ (omega (arith, c.requires)) c.in-Did.is c.put_line-end.ensures.puts c.put_lists.ensures.puts;
-      upper_bound = omega (arith, c.put_line-end.ensures.upper_bound, c.put_lists.ensures.upper_bound);
-    }
+  puts = did_put _ _ _ _ (omega (arith, c.requires)) c.in-Did.is c.put_line-end.ensures.puts c.put_lists.ensures.puts;
+  upper_bound = omega (arith, c.put_line-end.ensures.upper_bound, c.put_lists.ensures.upper_bound);
+}

@@ -4,6 +4,6 @@ use Rattle.script_states.proofs.put_said.Goals as goal
 
 pub returns-in-Did : goal.returns-in-Did
 returns-in-Did c = record {
-      puts = did_put _ _ _ _ c.requires c.in-Did.is c.put_line-end.ensures.puts c.put_chips.ensures.puts;
-      upper_bound = search rules;
-    }
+  puts = did_put _ _ _ _ c.requires c.in-Did.is c.put_line-end.ensures.puts c.put_chips.ensures.puts;
+  upper_bound = search rules;
+}
