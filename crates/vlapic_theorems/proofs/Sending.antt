@@ -13,7 +13,7 @@ use Rattle.utils.specs.Set.{bit, without, below}
 use Rattle.utils.proofs.Bools.{never, either, and_true, not_is}
 use Rattle.utils.proofs.Bits.{bit_power}
 use Rattle.utils.proofs.Laws.{bit_above, bit_none, bit_cut, same_bits}
-use Rattle.types.specs.declared.Refusal.TheVariants.{InvalidRegister, InvalidDelivery, OutOfRange}
+use Rattle.types.specs.declared.Refusal.TheVariants.{InvalidRegister, InvalidDelivery, OutOfRange, Unsupported, InvalidAddress, BadField, ScriptTooLong, NoPlan, ListFull, BadImage, TooShort}
 use Rattle.types.specs.declared.Reply.{Reply}
 use Rattle.types.specs.declared.Reply.TheVariants as reply
 use Rattle.types.specs.declared.Vector.{Vector}
@@ -167,6 +167,15 @@ module _ (lo num : ℕ) (hit : ℕ → Bool) (three five : Bool) where
       (λ u. sends (k ∙ ap not u) (λ i. cut_bits mask bits i) (cut_some mask bits n) t f))
   delivered (NoMask InvalidDelivery) (unmatchable none t f) k = refuses_kind (λ _. none) t f
   delivered (NoMask OutOfRange) (beyond none t f) k = refuses_id (λ _. none) t f
+  delivered (NoMask Unsupported) x k = elim x [ ]
+  delivered (NoMask InvalidRegister) x k = elim x [ ]
+  delivered (NoMask InvalidAddress) x k = elim x [ ]
+  delivered (NoMask BadField) x k = elim x [ ]
+  delivered (NoMask ScriptTooLong) x k = elim x [ ]
+  delivered (NoMask NoPlan) x k = elim x [ ]
+  delivered (NoMask ListFull) x k = elim x [ ]
+  delivered (NoMask BadImage) x k = elim x [ ]
+  delivered (NoMask TooShort) x k = elim x [ ]
 
 -- the tests of the definition, in words
 reserved_same : (lo : ℕ) → is_reserved_mode lo ≡ is_reserved lo
