@@ -9,7 +9,7 @@ ghost use Rattle.io.specs.Digits.{hex_digit_ascii};
 ghost use Rattle.types.specs.Reply.{reply_values};
 ghost use Rattle.reply_text.specs.Text.{Puts, in_room, decimal, values, reply_text, line, bad_line, too_long_line, words_line, words_in_room};
 
-use libc::STDOUT_FILENO;
+use std::io::{Result, Write};
 use types::{Refusal, Reply};
 
 // No line is longer.
@@ -20,20 +20,20 @@ const WORD: usize = 21;
 
 // ---- printing
 
-pub fn print_text(text: &[u8]) {
-    io::write_all(STDOUT_FILENO, text);
+pub fn print_text<W: Write>(out: &mut W, text: &[u8]) -> Result<()> {
+    out.write_all(text)
 }
 
-pub fn print_reply(reply: Reply) {
+pub fn print_reply<W: Write>(out: &mut W, reply: Reply) -> Result<()> {
     let mut space = [0u8; 80];
-    print_in(&mut space, reply);
+    print_in(out, &mut space, reply)
 }
 
-fn print_in(space: &mut [u8], reply: Reply)
+fn print_in<W: Write>(out: &mut W, space: &mut [u8], reply: Reply) -> Result<()>
     requires { 80 ≤ length space.old }
 {
     let end = put_reply(space, 0, reply);
-    print_text(&space[..end]);
+    print_text(out, &space[..end])
 }
 
 // ---- lines

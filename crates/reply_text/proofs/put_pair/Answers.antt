@@ -4,6 +4,6 @@ use Rattle.reply_text.proofs.put_pair.Goals as goal
 
 pub returns : goal.returns
 returns c = record {
-      puts = search (then_put, then_byte);
-      upper_bound = search rules;
-    }
+  puts = search (then_put, then_byte);
+  upper_bound = search rules;
+}

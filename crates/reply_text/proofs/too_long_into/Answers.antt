@@ -6,6 +6,6 @@ use Rattle.reply_text.proofs.too_long_into.Goals as goal
 pub returns : goal.returns
 unfolding too_long_line
 returns c = record {
-      puts = then_put (rw c.number.ensures at c.put_decimal-end.ensures.puts) c.put.ensures.puts;
-      upper_bound = search rules;
-    }
+  puts = then_put (rw c.number.ensures at c.put_decimal-end.ensures.puts) c.put.ensures.puts;
+  upper_bound = search rules;
+}

@@ -19,6 +19,6 @@ loop-k-preserved c =
 
 pub returns : goal.returns
 returns c = record {
-      puts = search (all_words, rules);
-      upper_bound = search rules;
-    }
+  puts = search (all_words, rules);
+  upper_bound = search rules;
+}
