@@ -10,239 +10,216 @@
 
 ghost use Rattle.std.specs.Prelude.{◌≡◌, length};
 
-use libc::STDOUT_FILENO;
+use input::Input;
 use planner::PlanAnswer;
 use planner::shortage::ShortageAnswer;
 use rows::{Fault, Read};
+use std::io::{self, Write};
 use types::{Refusal, Vector};
 
 mod rows;
 
-fn main() {
-    let mut text = io::large_buffer();
-    let input = input::read_all(&mut text);
-    let length = input.length;
-    let mut told = false;
-    if input.failed {
-        os::fail(b"plan: standard input");
-        return;
+fn main(rt: HostRuntime) -> io::Result<()> {
+    let mut text = [0u8; 65536];
+    let Input { length, ended } = input::read_all(&mut rt.reader(), &mut text);
+    if let Err(error) = ended {
+        return eprintln!(rt; "plan: standard input: {error}");
     }
-    if length == 65536 {
-        say(&mut told, b"plan: the text is longer than 65,535 bytes\n");
-        return;
+    let mut out = io::writer(&rt);
+    let written = if length == 65536 {
+        out.write_all(b"plan: the text is longer than 65,535 bytes\n")
+    } else {
+        run(&mut out, &text[..length])
+    };
+    if let Err(error) = written {
+        return eprintln!(rt; "plan: standard output: {error}");
     }
-    run(&mut told, &text[..length]);
+    Ok(())
 }
 
 // ---- planning
 
 // The lines are at most 25: one more than there may be, so that the planner sees them to be too many.
-fn run(told: &mut bool, text: &[u8]) {
+fn run<W: Write>(out: &mut W, text: &[u8]) -> io::Result<()> {
     let mut ranges = [0u16; 25];
     let mut marks = [0u64; 25];
     let mut taken = [0u64; 4];
     match rows::read_all(text, &mut ranges, &mut marks, &mut taken) {
-        Read::Lines(lines) => answer_first(&mut *told, text, &ranges, &marks, &taken, lines),
-        Read::Bad(row, why) => bad_row(&mut *told, row, why),
+        Read::Lines(lines) => answer_first(out, text, &ranges, &marks, &taken, lines),
+        Read::Bad(row, why) => bad_row(out, row, why),
     }
 }
 
-fn answer_first(
-    told: &mut bool,
+fn answer_first<W: Write>(
+    out: &mut W,
     text: &[u8],
     ranges: &[u16],
     marks: &[u64],
     taken: &[u64; 4],
     lines: usize,
-) {
+) -> io::Result<()> {
     if lines > ranges.len() {
-        return;
+        return Ok(());
     }
     if lines > marks.len() {
-        return;
+        return Ok(());
     }
-    answer(&mut *told, text, &ranges[..lines], &marks[..lines], taken);
+    answer(out, text, &ranges[..lines], &marks[..lines], taken)
 }
 
-fn answer(told: &mut bool, text: &[u8], ranges: &[u16], marks: &[u64], taken: &[u64; 4])
+fn answer<W: Write>(
+    out: &mut W,
+    text: &[u8],
+    ranges: &[u16],
+    marks: &[u64],
+    taken: &[u64; 4],
+) -> io::Result<()>
     requires { length ranges.now ≡ length marks.now }
 {
     let mut plan = [0u8; 24];
     match planner::plan(ranges, taken, &mut plan) {
-        PlanAnswer::Done => entries(&mut *told, text, marks, &plan),
-        PlanAnswer::Refused(why) => refused(&mut *told, text, ranges, marks, taken, why),
+        PlanAnswer::Done => entries(out, text, marks, &plan),
+        PlanAnswer::Refused(why) => refused(out, text, ranges, marks, taken, why),
     }
 }
 
-// ---- writing
+// ---- writing: the first write that fails ends it
 
-// What can't be written is told once.
-fn note(told: &mut bool, written: bool) {
-    if written {
-        return;
-    }
-    if !*told {
-        os::fail(b"plan: standard output");
-        *told = true;
-    }
-}
-
-fn say(told: &mut bool, text: &[u8]) {
-    note(told, io::write_all(STDOUT_FILENO, text));
-}
-
-fn say_number(told: &mut bool, n: u64) {
-    note(told, io::print_decimal(STDOUT_FILENO, n));
-}
-
-fn say_hex(told: &mut bool, n: u64) {
-    note(told, io::print_hex(STDOUT_FILENO, n, 2));
-}
-
-fn bad_row(told: &mut bool, row: usize, why: Fault) {
-    say(&mut *told, b"row ");
-    say_number(&mut *told, row as u64);
+fn bad_row<W: Write>(out: &mut W, row: usize, why: Fault) -> io::Result<()> {
+    write!(out, "row {row}")?;
     match why {
-        Fault::None => say(&mut *told, b"\n"),
-        Fault::FewWords => say(
-            &mut *told,
-            b": too few words; a row is: name lowest highest [input]\n",
-        ),
-        Fault::ManyWords => say(
-            &mut *told,
+        Fault::None => out.write_all(b"\n"),
+        Fault::FewWords => {
+            out.write_all(b": too few words; a row is: name lowest highest [input]\n")
+        }
+        Fault::ManyWords => out.write_all(
             b": too many words; a row is: name lowest highest [input], or: taken lowest highest\n",
         ),
-        Fault::NoNumber => say(
-            &mut *told,
-            b": a word that is no number, decimal or hexadecimal behind 0x\n",
-        ),
-        Fault::LargeNumber => say(&mut *told, b": a number above 255\n"),
-        Fault::LargeInput => say(&mut *told, b": an input above 23\n"),
-        Fault::SameInput => say(&mut *told, b": an input that a row before has\n"),
-        Fault::Inverted => say(
-            &mut *told,
-            b": the lowest taken vector is above the highest\n",
-        ),
+        Fault::NoNumber => {
+            out.write_all(b": a word that is no number, decimal or hexadecimal behind 0x\n")
+        }
+        Fault::LargeNumber => out.write_all(b": a number above 255\n"),
+        Fault::LargeInput => out.write_all(b": an input above 23\n"),
+        Fault::SameInput => out.write_all(b": an input that a row before has\n"),
+        Fault::Inverted => out.write_all(b": the lowest taken vector is above the highest\n"),
     }
 }
 
-fn say_vector(told: &mut bool, vector: Vector) {
-    say(&mut *told, b"0x");
-    say_hex(&mut *told, vector.0 as u64);
+fn say_vector<W: Write>(out: &mut W, vector: Vector) -> io::Result<()> {
+    let number = vector.0;
+    write!(out, "0x{number:02x}")
 }
 
-fn say_name(told: &mut bool, text: &[u8], mark: u64) {
+fn say_name<W: Write>(out: &mut W, text: &[u8], mark: u64) -> io::Result<()> {
     let from = rows::name_from(mark);
     let to = rows::name_to(mark);
     if to > text.len() {
-        return;
+        return Ok(());
     }
     if from > to {
-        return;
+        return Ok(());
     }
-    say(&mut *told, &text[from..to]);
+    out.write_all(&text[from..to])
 }
 
 // One entry a line.
-fn entries(told: &mut bool, text: &[u8], marks: &[u64], plan: &[u8]) {
+fn entries<W: Write>(out: &mut W, text: &[u8], marks: &[u64], plan: &[u8]) -> io::Result<()> {
     let mut k = 0;
     while k < marks.len() {
         if k < plan.len() {
-            entry(&mut *told, text, marks[k], Vector(plan[k]));
+            entry(out, text, marks[k], Vector(plan[k]))?;
         }
         k += 1;
     }
+    Ok(())
 }
 
-fn entry(told: &mut bool, text: &[u8], mark: u64, vector: Vector) {
+fn entry<W: Write>(out: &mut W, text: &[u8], mark: u64, vector: Vector) -> io::Result<()> {
     let input = rows::input(mark);
-    say(&mut *told, b"entry ");
-    say_number(&mut *told, input);
-    say(&mut *told, b", register 0x");
-    say_hex(&mut *told, 16 + 2 * input);
-    say(&mut *told, b": vector ");
-    say_vector(&mut *told, vector);
-    say(&mut *told, b"    ");
-    say_name(&mut *told, text, mark);
-    say(&mut *told, b"\n");
+    let register = 16 + 2 * input;
+    write!(out, "entry {input}, register 0x{register:02x}: vector ")?;
+    say_vector(out, vector)?;
+    out.write_all(b"    ")?;
+    say_name(out, text, mark)?;
+    out.write_all(b"\n")
 }
 
-fn refused(
-    told: &mut bool,
+fn refused<W: Write>(
+    out: &mut W,
     text: &[u8],
     ranges: &[u16],
     marks: &[u64],
     taken: &[u64; 4],
     why: Refusal,
-)
+) -> io::Result<()>
     requires { length ranges.now ≡ length marks.now }
 {
     match why {
-        Refusal::OutOfRange => say(&mut *told, b"refused, 5: more than 24 lines\n"),
+        Refusal::OutOfRange => out.write_all(b"refused, 5: more than 24 lines\n"),
         Refusal::InvalidRegister => {
-            say(
-                &mut *told,
-                b"refused, 2: the lowest vector is above the highest for:\n",
-            );
-            unordered(&mut *told, text, ranges, marks);
+            out.write_all(b"refused, 2: the lowest vector is above the highest for:\n")?;
+            unordered(out, text, ranges, marks)
         }
         Refusal::NoPlan => {
-            say(&mut *told, b"refused, 8: there is no plan.\n");
-            shortage(&mut *told, text, ranges, marks, taken);
+            out.write_all(b"refused, 8: there is no plan.\n")?;
+            shortage(out, text, ranges, marks, taken)
         }
-        _ => say(&mut *told, b"refused\n"),
+        _ => out.write_all(b"refused\n"),
     }
 }
 
-fn unordered(told: &mut bool, text: &[u8], ranges: &[u16], marks: &[u64])
+fn unordered<W: Write>(out: &mut W, text: &[u8], ranges: &[u16], marks: &[u64]) -> io::Result<()>
     requires { length ranges.now ≡ length marks.now }
 {
     let mut k = 0;
     while k < ranges.len() {
         if planner::highest(ranges[k]).0 < planner::lowest(ranges[k]).0 {
-            say_line(&mut *told, text, marks[k]);
+            say_line(out, text, marks[k])?;
         }
         k += 1;
     }
+    Ok(())
 }
 
-fn say_line(told: &mut bool, text: &[u8], mark: u64) {
-    say(&mut *told, b"  ");
-    say_name(&mut *told, text, mark);
-    say(&mut *told, b"\n");
+fn say_line<W: Write>(out: &mut W, text: &[u8], mark: u64) -> io::Result<()> {
+    out.write_all(b"  ")?;
+    say_name(out, text, mark)?;
+    out.write_all(b"\n")
 }
 
-fn shortage(told: &mut bool, text: &[u8], ranges: &[u16], marks: &[u64], taken: &[u64; 4]) {
+fn shortage<W: Write>(
+    out: &mut W,
+    text: &[u8],
+    ranges: &[u16],
+    marks: &[u64],
+    taken: &[u64; 4],
+) -> io::Result<()> {
     let ShortageAnswer::Shown(lowest, highest, lines) = planner::shortage::shortage(ranges, taken)
     else {
-        return;
+        return Ok(());
     };
-    say(&mut *told, b"vectors ");
-    say_vector(&mut *told, lowest);
-    say(&mut *told, b" to ");
-    say_vector(&mut *told, highest);
-    say(&mut *told, b": ");
-    say_number(
-        &mut *told,
-        planner::shortage::count_free(taken, lowest, highest),
-    );
-    say(&mut *told, b" free; lines that may have no other: ");
-    say_number(
-        &mut *told,
-        planner::shortage::count_confined(ranges, lowest, highest),
-    );
-    say(&mut *told, b"\n");
-    confined(&mut *told, text, marks, lines);
+    out.write_all(b"vectors ")?;
+    say_vector(out, lowest)?;
+    out.write_all(b" to ")?;
+    say_vector(out, highest)?;
+    let free = planner::shortage::count_free(taken, lowest, highest);
+    let confined_lines = planner::shortage::count_confined(ranges, lowest, highest);
+    writeln!(
+        out,
+        ": {free} free; lines that may have no other: {confined_lines}"
+    )?;
+    confined(out, text, marks, lines)
 }
 
-fn confined(told: &mut bool, text: &[u8], marks: &[u64], lines: u64) {
+fn confined<W: Write>(out: &mut W, text: &[u8], marks: &[u64], lines: u64) -> io::Result<()> {
     let mut k: usize = 0;
     while k < marks.len() {
         if k < 64 {
             if utils::set64::has(lines, k as u64) {
-                say_line(&mut *told, text, marks[k]);
+                say_line(out, text, marks[k])?;
             }
         }
         k += 1;
     }
+    Ok(())
 }

@@ -5,31 +5,24 @@
 
 #![tactic(auto)]
 
-use libc::STDOUT_FILENO;
+use input::Input;
 use script_print::SPACE;
 use script_resume::IMAGE;
+use std::io::{self, Write};
 
-fn main() {
+fn main(rt: HostRuntime) -> io::Result<()> {
     let mut input = [0u8; 66165];
-    let got = input::read_all(&mut input);
-    let length = got.length;
-    if got.failed {
-        os::fail(b"resume: standard input");
-        return;
+    let Input { length, ended } = input::read_all(&mut rt.reader(), &mut input);
+    if let Err(error) = ended {
+        return eprintln!(rt; "resume: standard input: {error}");
     }
-    run(&input[..length]);
+    if let Err(error) = run(&mut io::writer(&rt), &input[..length]) {
+        return eprintln!(rt; "resume: standard output: {error}");
+    }
+    Ok(())
 }
 
-// Writes, and answers whether that was done.
-fn write(text: &[u8]) -> bool {
-    if io::write_all(STDOUT_FILENO, text) {
-        return true;
-    }
-    os::fail(b"resume: standard output");
-    false
-}
-
-fn run(input: &[u8]) {
+fn run<W: Write>(out: &mut W, input: &[u8]) -> io::Result<()> {
     let mut text = [0u8; SPACE];
     let mut after = [0u8; IMAGE];
     let mut ioapic = [0u64; 32];
@@ -52,10 +45,8 @@ fn run(input: &[u8]) {
     let end = resumed.end;
     let size = resumed.size;
     if !resumed.ok {
-        write(b"10\n");
-        return;
+        return out.write_all(b"10\n");
     }
-    if write(&text[..end]) {
-        write(&after[..size]);
-    }
+    out.write_all(&text[..end])?;
+    out.write_all(&after[..size])
 }

@@ -3,20 +3,20 @@
 
 #![tactic(auto)]
 
-use libc::STDOUT_FILENO;
+use input::Input;
 use script_print::SPACE;
+use std::io::{self, Write};
 
-fn main() {
+fn main(rt: HostRuntime) -> io::Result<()> {
     let mut script = [0u8; 65537];
-    let input = input::read_all(&mut script);
-    let length = input.length;
-    if input.failed {
-        os::fail(b"script: standard input");
-        return;
+    let Input { length, ended } = input::read_all(&mut rt.reader(), &mut script);
+    if let Err(error) = ended {
+        return eprintln!(rt; "script: standard input: {error}");
     }
     let mut text = [0u8; SPACE];
     let end = script_print::print(&script[..length], &mut text);
-    if !io::write_all(STDOUT_FILENO, &text[..end]) {
-        os::fail(b"script: standard output");
+    if let Err(error) = io::writer(&rt).write_all(&text[..end]) {
+        return eprintln!(rt; "script: standard output: {error}");
     }
+    Ok(())
 }

@@ -4,18 +4,26 @@
 
 #![tactic(auto)]
 
-use libc::STDIN_FILENO;
+use input::Input;
 use script_format::{Call, Cursor, PicCall};
+use std::io::{self, Write};
 use types::Reply;
 
-fn main() {
-    let mut script = io::buffer();
-    let n = io::read_full(STDIN_FILENO, &mut script);
-    print_runs(&script[..n], 3, 4);
-    print_runs(&script[..n], 100, 1);
+fn main(rt: HostRuntime) -> io::Result<()> {
+    let mut script = [0u8; 4096];
+    let Input { length, ended } = input::read_all(&mut rt.reader(), &mut script);
+    ended?;
+    let mut out = io::writer(&rt);
+    print_runs(&mut out, &script[..length], 3, 4)?;
+    print_runs(&mut out, &script[..length], 100, 1)
 }
 
-fn print_runs(script: &[u8], allowance: usize, runs: usize) {
+fn print_runs<W: Write>(
+    out: &mut W,
+    script: &[u8],
+    allowance: usize,
+    runs: usize,
+) -> io::Result<()> {
     let mut ioapic = [0u64; 32];
     let mut pic = [0u64; 4];
     let mut apic = [0u64; 48];
@@ -46,8 +54,8 @@ fn print_runs(script: &[u8], allowance: usize, runs: usize) {
         let after = ended.vm;
         let behind = ended.next;
         let stop = ended.stop;
-        reply_text::print_reply(Reply::Two(ended.done as u64, behind.at as u64));
-        reply_text::print_reply(stop.reply());
+        reply_text::print_reply(out, Reply::Two(ended.done as u64, behind.at as u64))?;
+        reply_text::print_reply(out, stop.reply())?;
         vm = after;
         next = behind;
     }
@@ -62,5 +70,5 @@ fn print_runs(script: &[u8], allowance: usize, runs: usize) {
         pending,
     );
     let reply = performed.reply;
-    reply_text::print_reply(reply);
+    reply_text::print_reply(out, reply)
 }

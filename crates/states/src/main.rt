@@ -4,46 +4,41 @@
 
 #![tactic(auto)]
 
-use libc::STDOUT_FILENO;
+use input::Input;
 use script_format::Cursor;
 use script_machine::Said;
 use script_states::SPACE;
+use std::io::{self, Write};
 
 // The longest script, in bytes.
 const LIMIT: usize = 65536;
 
-fn main() {
+fn main(rt: HostRuntime) -> io::Result<()> {
     let mut script = [0u8; 65537];
-    let input = input::read_all(&mut script);
-    let length = input.length;
-    if input.failed {
-        os::fail(b"states: standard input");
-        return;
+    let Input { length, ended } = input::read_all(&mut rt.reader(), &mut script);
+    if let Err(error) = ended {
+        return eprintln!(rt; "states: standard input: {error}");
     }
-    if length > LIMIT {
-        refuse();
-        return;
+    let mut out = io::writer(&rt);
+    let written = if length > LIMIT {
+        refuse(&mut out)
+    } else {
+        run(&mut out, &script[..length])
+    };
+    if let Err(error) = written {
+        return eprintln!(rt; "states: standard output: {error}");
     }
-    run(&script[..length]);
-}
-
-// Writes, and answers whether that was done.
-fn write(text: &[u8]) -> bool {
-    if io::write_all(STDOUT_FILENO, text) {
-        return true;
-    }
-    os::fail(b"states: standard output");
-    false
+    Ok(())
 }
 
 // A script that is too long.
-fn refuse() {
+fn refuse<W: Write>(out: &mut W) -> io::Result<()> {
     let mut text = [0u8; SPACE];
     let end = script_states::put_refusal(&mut text);
-    write(&text[..end]);
+    out.write_all(&text[..end])
 }
 
-fn run(script: &[u8]) {
+fn run<W: Write>(out: &mut W, script: &[u8]) -> io::Result<()> {
     let mut text = [0u8; SPACE];
     let mut ioapic = [0u64; 32];
     let mut pic = [0u64; 4];
@@ -77,13 +72,11 @@ fn run(script: &[u8]) {
         let said = stepped.said;
         vm = after;
         next = behind;
-        if !write(&text[..end]) {
-            return;
-        }
+        out.write_all(&text[..end])?;
         match said {
             Said::Did { tag: _, reply: _ } => {}
             Said::Stopped(_) => {
-                return;
+                return Ok(());
             }
         }
     }

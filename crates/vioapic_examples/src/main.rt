@@ -3,6 +3,7 @@
 
 #![tactic(auto)]
 
+use std::io::{self, Write};
 use types::{Gsi, Reply, Vector};
 use vioapic::{EmulatedIoApic, IoApicVersion};
 
@@ -11,10 +12,10 @@ const IOREGSEL: u64 = 0xfec0_0000;
 const IOWIN: u64 = 0xfec0_0010;
 
 // A line: what was done, the reply's number, and its values or `-`.
-fn say(what: &[u8], reply: Reply) {
-    reply_text::print_text(what);
-    reply_text::print_text(b": ");
-    reply_text::print_reply(reply);
+fn say<W: Write>(out: &mut W, what: &[u8], reply: Reply) -> io::Result<()> {
+    reply_text::print_text(out, what)?;
+    reply_text::print_text(out, b": ")?;
+    reply_text::print_reply(out, reply)
 }
 
 fn select(chip: EmulatedIoApic, register: u64) -> EmulatedIoApic {
@@ -27,30 +28,30 @@ fn write(chip: EmulatedIoApic, value: u64) -> EmulatedIoApic {
     writing.chip
 }
 
-fn read(chip: EmulatedIoApic) {
+fn read<W: Write>(out: &mut W, chip: EmulatedIoApic) -> io::Result<()> {
     let got = chip.handle_read(IOWIN, 4);
-    say(b"read", got.reply());
+    say(out, b"read", got.reply())
 }
 
-fn raise(chip: EmulatedIoApic, gsi: usize) -> EmulatedIoApic {
+fn raise<W: Write>(out: &mut W, chip: EmulatedIoApic, gsi: usize) -> io::Result<EmulatedIoApic> {
     let routing = chip.set_gsi_level(Gsi(gsi), true);
     let answer = routing.answer;
-    say(b"raise", answer.reply());
-    routing.chip
+    say(out, b"raise", answer.reply())?;
+    Ok(routing.chip)
 }
 
-fn lower(chip: EmulatedIoApic, gsi: usize) -> EmulatedIoApic {
+fn lower<W: Write>(out: &mut W, chip: EmulatedIoApic, gsi: usize) -> io::Result<EmulatedIoApic> {
     let routing = chip.set_gsi_level(Gsi(gsi), false);
     let answer = routing.answer;
-    say(b"lower", answer.reply());
-    routing.chip
+    say(out, b"lower", answer.reply())?;
+    Ok(routing.chip)
 }
 
-fn eoi(chip: EmulatedIoApic, vector: u8) -> EmulatedIoApic {
+fn eoi<W: Write>(out: &mut W, chip: EmulatedIoApic, vector: u8) -> io::Result<EmulatedIoApic> {
     let ending = chip.end_of_interrupt(Vector(vector));
     let answer = ending.answer;
-    say(b"EOI", answer.reply());
-    ending.chip
+    say(out, b"EOI", answer.reply())?;
+    Ok(ending.chip)
 }
 
 // A new chip of document 01's version.
@@ -63,98 +64,108 @@ fn with_entry(selector: u64, low: u64) -> EmulatedIoApic {
     write(select(old(), selector), low)
 }
 
-fn example_1() {
+fn example_1<W: Write>(out: &mut W) -> io::Result<()> {
     let chip = old();
-    read(select(chip, 0x10));
-    read(select(chip, 0x40));
+    read(out, select(chip, 0x10))?;
+    read(out, select(chip, 0x40))
 }
 
-fn example_2() {
-    let chip = raise(with_entry(0x14, 0x8030), 2);
-    read(chip);
-    let chip = raise(chip, 2);
-    let chip = eoi(chip, 0x30);
-    let chip = lower(chip, 2);
-    let chip = eoi(chip, 0x30);
-    eoi(chip, 0x30);
+fn example_2<W: Write>(out: &mut W) -> io::Result<()> {
+    let chip = raise(out, with_entry(0x14, 0x8030), 2)?;
+    read(out, chip)?;
+    let chip = raise(out, chip, 2)?;
+    let chip = eoi(out, chip, 0x30)?;
+    let chip = lower(out, chip, 2)?;
+    let chip = eoi(out, chip, 0x30)?;
+    eoi(out, chip, 0x30)?;
+    Ok(())
 }
 
-fn example_3() {
-    let chip = raise(with_entry(0x14, 0x8030), 2);
+fn example_3<W: Write>(out: &mut W) -> io::Result<()> {
+    let chip = raise(out, with_entry(0x14, 0x8030), 2)?;
     let chip = write(chip, 0x8030);
-    read(chip);
+    read(out, chip)?;
     let chip = write(chip, 0x18030);
-    read(chip);
-    eoi(chip, 0x30);
+    read(out, chip)?;
+    eoi(out, chip, 0x30)?;
+    Ok(())
 }
 
-fn example_4() {
+fn example_4<W: Write>(out: &mut W) -> io::Result<()> {
     let chip = write(select(with_entry(0x16, 0x8041), 0x1a), 0x8041);
-    let chip = raise(chip, 3);
-    let chip = raise(chip, 5);
-    let chip = eoi(chip, 0x41);
-    let chip = eoi(chip, 0x41);
-    eoi(chip, 0x41);
+    let chip = raise(out, chip, 3)?;
+    let chip = raise(out, chip, 5)?;
+    let chip = eoi(out, chip, 0x41)?;
+    let chip = eoi(out, chip, 0x41)?;
+    eoi(out, chip, 0x41)?;
+    Ok(())
 }
 
-fn example_5() {
-    raise(with_entry(0x10, 15), 0);
-    raise(with_entry(0x10, 16), 0);
+fn example_5<W: Write>(out: &mut W) -> io::Result<()> {
+    raise(out, with_entry(0x10, 15), 0)?;
+    raise(out, with_entry(0x10, 16), 0)?;
+    Ok(())
 }
 
-fn example_6() {
+fn example_6<W: Write>(out: &mut W) -> io::Result<()> {
     let chip = old();
     let narrow = chip.handle_read(0xfebf_ffff, 2);
-    say(b"read of width 2 below the base", narrow.reply());
+    say(out, b"read of width 2 below the base", narrow.reply())?;
     let wide = chip.handle_read(0xfebf_ffff, 4);
-    say(b"read of width 4 below the base", wide.reply());
+    say(out, b"read of width 4 below the base", wide.reply())?;
     let narrow = chip.handle_write(0xfebf_ffff, 2, 0);
     let narrow_answer = narrow.answer;
-    say(b"write of width 2 below the base", narrow_answer.reply());
+    say(
+        out,
+        b"write of width 2 below the base",
+        narrow_answer.reply(),
+    )?;
     let wide = chip.handle_write(0xfebf_ffff, 4, 0);
     let wide_answer = wide.answer;
-    say(b"write of width 4 below the base", wide_answer.reply());
+    say(out, b"write of width 4 below the base", wide_answer.reply())
 }
 
 // A write whose reply is told.
-fn tell(chip: EmulatedIoApic, value: u64) -> EmulatedIoApic {
+fn tell<W: Write>(out: &mut W, chip: EmulatedIoApic, value: u64) -> io::Result<EmulatedIoApic> {
     let writing = chip.handle_write(IOWIN, 4, value);
     let answer = writing.answer;
-    say(b"write", answer.reply());
-    writing.chip
+    say(out, b"write", answer.reply())?;
+    Ok(writing.chip)
 }
 
 // A threaded handler: the guest masks the entry, ends the interrupt, and unmasks the entry when its thread has run. The device still holds
 // its line, so that the unmasking sends (82093AA: Remote IRR is read-only, and a level that is up is delivered once it isn't masked). Then the
 // same with the end after the unmasking.
-fn threaded() {
+fn threaded<W: Write>(out: &mut W) -> io::Result<()> {
     let made = EmulatedIoApic::new_default();
-    let chip = raise(write(select(made, 0x14), 0x8030), 2);
-    let chip = tell(chip, 0x18030);
-    read(chip);
-    let chip = eoi(chip, 0x30);
-    let chip = tell(chip, 0x8030);
-    read(chip);
-    let chip = tell(chip, 0x18030);
-    let chip = tell(chip, 0x8030);
-    let chip = eoi(chip, 0x30);
-    let chip = lower(chip, 2);
-    eoi(chip, 0x30);
+    let chip = raise(out, write(select(made, 0x14), 0x8030), 2)?;
+    let chip = tell(out, chip, 0x18030)?;
+    read(out, chip)?;
+    let chip = eoi(out, chip, 0x30)?;
+    let chip = tell(out, chip, 0x8030)?;
+    read(out, chip)?;
+    let chip = tell(out, chip, 0x18030)?;
+    let chip = tell(out, chip, 0x8030)?;
+    let chip = eoi(out, chip, 0x30)?;
+    let chip = lower(out, chip, 2)?;
+    eoi(out, chip, 0x30)?;
+    Ok(())
 }
 
-fn main() {
-    reply_text::print_text(b"example 1\n");
-    example_1();
-    reply_text::print_text(b"example 2\n");
-    example_2();
-    reply_text::print_text(b"example 3\n");
-    example_3();
-    reply_text::print_text(b"example 4\n");
-    example_4();
-    reply_text::print_text(b"example 5\n");
-    example_5();
-    reply_text::print_text(b"example 6\n");
-    example_6();
-    reply_text::print_text(b"version 0x20, a threaded handler\n");
-    threaded();
+fn main(rt: HostRuntime) -> io::Result<()> {
+    let mut out = io::writer(&rt);
+    reply_text::print_text(&mut out, b"example 1\n")?;
+    example_1(&mut out)?;
+    reply_text::print_text(&mut out, b"example 2\n")?;
+    example_2(&mut out)?;
+    reply_text::print_text(&mut out, b"example 3\n")?;
+    example_3(&mut out)?;
+    reply_text::print_text(&mut out, b"example 4\n")?;
+    example_4(&mut out)?;
+    reply_text::print_text(&mut out, b"example 5\n")?;
+    example_5(&mut out)?;
+    reply_text::print_text(&mut out, b"example 6\n")?;
+    example_6(&mut out)?;
+    reply_text::print_text(&mut out, b"version 0x20, a threaded handler\n")?;
+    threaded(&mut out)
 }

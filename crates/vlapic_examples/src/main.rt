@@ -3,6 +3,7 @@
 
 #![tactic(auto)]
 
+use std::io::{self, Write};
 use types::Vector;
 use vlapic::VirtualApicRegs;
 
@@ -23,53 +24,55 @@ fn write(regs: VirtualApicRegs, offset: u64, val: u64) -> VirtualApicRegs {
     next
 }
 
-fn show_read(regs: VirtualApicRegs, offset: u64) {
-    reply_text::print_reply(regs.handle_read(offset).reply());
+fn show_read<W: Write>(out: &mut W, regs: VirtualApicRegs, offset: u64) -> io::Result<()> {
+    reply_text::print_reply(out, regs.handle_read(offset).reply())
 }
 
-fn show_eoi(regs: VirtualApicRegs) -> VirtualApicRegs {
+fn show_eoi<W: Write>(out: &mut W, regs: VirtualApicRegs) -> io::Result<VirtualApicRegs> {
     let step = regs.handle_eoi();
     let answer = step.answer;
-    reply_text::print_reply(answer.reply());
+    reply_text::print_reply(out, answer.reply())?;
     let next = step.regs;
-    next
+    Ok(next)
 }
 
 // TPR written, then 0x31 accepted, level-triggered: PPR. Then an EOI.
-fn priority(tpr: u64) {
+fn priority<W: Write>(out: &mut W, tpr: u64) -> io::Result<()> {
     let regs = write(VirtualApicRegs::new(), TPR, tpr).accept_interrupt(Vector(0x31), true);
-    reply_text::print_text(b"10 PPR ");
-    show_read(regs, PPR);
-    reply_text::print_text(b"10 EOI ");
-    show_eoi(regs);
+    reply_text::print_text(out, b"10 PPR ")?;
+    show_read(out, regs, PPR)?;
+    reply_text::print_text(out, b"10 EOI ")?;
+    show_eoi(out, regs)?;
+    Ok(())
 }
 
 // 0x1f accepted, and an EOI: it is in service still.
-fn unseen() {
+fn unseen<W: Write>(out: &mut W) -> io::Result<()> {
     let regs = VirtualApicRegs::new().accept_interrupt(Vector(0x1f), false);
-    reply_text::print_text(b"11 EOI ");
-    let next = show_eoi(regs);
-    reply_text::print_text(b"11 ISR ");
-    show_read(next, ISR);
+    reply_text::print_text(out, b"11 EOI ")?;
+    let next = show_eoi(out, regs)?;
+    reply_text::print_text(out, b"11 ISR ")?;
+    show_read(out, next, ISR)
 }
 
 // A fixed interrupt with vector 15 to vCPU 0; ESR before and after it is written.
-fn illegal() {
+fn illegal<W: Write>(out: &mut W) -> io::Result<()> {
     let written = VirtualApicRegs::new().handle_write(ICR_LOW, 15, 4, 1, 1);
     let answer = written.answer;
     let regs = written.regs;
-    reply_text::print_text(b"12 ICR ");
-    reply_text::print_reply(answer.reply());
-    reply_text::print_text(b"12 ESR ");
-    show_read(regs, ESR);
+    reply_text::print_text(out, b"12 ICR ")?;
+    reply_text::print_reply(out, answer.reply())?;
+    reply_text::print_text(out, b"12 ESR ")?;
+    show_read(out, regs, ESR)?;
     let shown = write(regs, ESR, 0);
-    reply_text::print_text(b"12 ESR ");
-    show_read(shown, ESR);
+    reply_text::print_text(out, b"12 ESR ")?;
+    show_read(out, shown, ESR)
 }
 
-fn main() {
-    priority(0x2f);
-    priority(0x35);
-    unseen();
-    illegal();
+fn main(rt: HostRuntime) -> io::Result<()> {
+    let mut out = io::writer(&rt);
+    priority(&mut out, 0x2f)?;
+    priority(&mut out, 0x35)?;
+    unseen(&mut out)?;
+    illegal(&mut out)
 }

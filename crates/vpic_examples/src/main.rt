@@ -1,6 +1,7 @@
 // Examples 7, 8 and 9 of document 01 on the pair by rule 0, and 7 and 8 again on a new one, by the cascade rule (document 02, T-02 and T-14): each line is what was asked, the number, and the values.
 #![tactic(auto)]
 
+use std::io::{self, Write};
 use types::PicLine;
 use vpic::{EmulatedPic, PicClaim, PicRule};
 
@@ -12,15 +13,16 @@ const SLAVE_COMMAND: u16 = 0xa0;
 
 const SLAVE_DATA: u16 = 0xa1;
 
-fn main() {
+fn main(rt: HostRuntime) -> io::Result<()> {
+    let mut out = io::writer(&rt);
     let old = EmulatedPic::new_rule(PicRule::Latch);
-    example_7(old);
-    example_8(old);
-    example_9(old);
-    reply_text::print_text(b"by rule 1\n");
+    example_7(&mut out, old)?;
+    example_8(&mut out, old)?;
+    example_9(&mut out, old)?;
+    reply_text::print_text(&mut out, b"by rule 1\n")?;
     let new = EmulatedPic::new();
-    example_7(new);
-    example_8(new);
+    example_7(&mut out, new)?;
+    example_8(&mut out, new)
 }
 
 // A byte written to a port.
@@ -39,71 +41,78 @@ fn eoi_both(pic: EmulatedPic) -> EmulatedPic {
     write(write(pic, SLAVE_COMMAND, 0x20), MASTER_COMMAND, 0x20)
 }
 
-fn print_claim(name: &[u8], claim: PicClaim) {
-    reply_text::print_text(name);
-    reply_text::print_reply(claim.reply());
+fn print_claim<W: Write>(out: &mut W, name: &[u8], claim: PicClaim) -> io::Result<()> {
+    reply_text::print_text(out, name)?;
+    reply_text::print_reply(out, claim.reply())
 }
 
-fn claim(name: &[u8], pic: EmulatedPic, line: u8) -> EmulatedPic {
+fn claim<W: Write>(
+    out: &mut W,
+    name: &[u8],
+    pic: EmulatedPic,
+    line: u8,
+) -> io::Result<EmulatedPic> {
     let claimed = pic.claim_irq(PicLine(line));
     let after = claimed.pic;
     let answer = claimed.claim;
-    print_claim(name, answer);
-    after
+    print_claim(out, name, answer)?;
+    Ok(after)
 }
 
-fn claim_pending(name: &[u8], pic: EmulatedPic) -> EmulatedPic {
+fn claim_pending<W: Write>(out: &mut W, name: &[u8], pic: EmulatedPic) -> io::Result<EmulatedPic> {
     let claimed = pic.claim_pending_interrupt();
     let after = claimed.pic;
     let answer = claimed.claim;
-    print_claim(name, answer);
-    after
+    print_claim(out, name, answer)?;
+    Ok(after)
 }
 
-fn read(name: &[u8], pic: EmulatedPic, port: u16) {
+fn read<W: Write>(out: &mut W, name: &[u8], pic: EmulatedPic, port: u16) -> io::Result<()> {
     let seen = pic.handle_read(port, 1);
     let value = seen.value;
-    reply_text::print_text(name);
-    reply_text::print_reply(value.reply());
+    reply_text::print_text(out, name)?;
+    reply_text::print_reply(out, value.reply())
 }
 
-fn example_7(new: EmulatedPic) {
+fn example_7<W: Write>(out: &mut W, new: EmulatedPic) -> io::Result<()> {
     let mut pic = masks_0(new);
-    pic = claim(b"7 claim 12: ", pic, 12);
-    pic = claim(b"7 claim 13: ", pic, 13);
-    pic = claim(b"7 claim 14: ", pic, 14);
-    pic = claim_pending(b"7 EOIs, claim pending: ", eoi_both(pic));
-    pic = claim_pending(b"7 EOIs, claim pending: ", eoi_both(pic));
-    read(b"7 slave requests: ", pic, SLAVE_COMMAND);
+    pic = claim(out, b"7 claim 12: ", pic, 12)?;
+    pic = claim(out, b"7 claim 13: ", pic, 13)?;
+    pic = claim(out, b"7 claim 14: ", pic, 14)?;
+    pic = claim_pending(out, b"7 EOIs, claim pending: ", eoi_both(pic))?;
+    pic = claim_pending(out, b"7 EOIs, claim pending: ", eoi_both(pic))?;
+    read(out, b"7 slave requests: ", pic, SLAVE_COMMAND)
 }
 
-fn example_8(new: EmulatedPic) {
+fn example_8<W: Write>(out: &mut W, new: EmulatedPic) -> io::Result<()> {
     let claimed = masks_0(new).claim_irq(PicLine(2));
     let after = claimed.pic;
     let answer = claimed.claim;
-    print_claim(b"8 claim 2: ", answer);
+    print_claim(out, b"8 claim 2: ", answer)?;
     let PicClaim::Claimed(taken) = answer else {
-        return;
+        return Ok(());
     };
     let restored = after.restore_interrupt(taken);
     let done = restored.done;
     let pic = restored.pic;
-    reply_text::print_text(b"8 restore: ");
-    reply_text::print_reply(done.reply());
-    read(b"8 requests: ", pic, MASTER_COMMAND);
+    reply_text::print_text(out, b"8 restore: ")?;
+    reply_text::print_reply(out, done.reply())?;
+    read(out, b"8 requests: ", pic, MASTER_COMMAND)?;
     read(
+        out,
         b"8 in service: ",
         write(pic, MASTER_COMMAND, 0x0b),
         MASTER_COMMAND,
-    );
+    )
 }
 
-fn example_9(new: EmulatedPic) {
+fn example_9<W: Write>(out: &mut W, new: EmulatedPic) -> io::Result<()> {
     let mut pic = write(new, MASTER_DATA, 0xf8);
     pic = write(pic, MASTER_COMMAND, 0x11);
     pic = write(pic, MASTER_DATA, 0x20);
     pic = write(pic, MASTER_DATA, 4);
     pic = write(pic, MASTER_DATA, 1);
-    read(b"9 mask: ", pic, MASTER_DATA);
-    claim(b"9 claim 0: ", pic, 0);
+    read(out, b"9 mask: ", pic, MASTER_DATA)?;
+    claim(out, b"9 claim 0: ", pic, 0)?;
+    Ok(())
 }
