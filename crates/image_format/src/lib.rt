@@ -161,7 +161,7 @@ fn field_from(s: &[u8], at: usize, row: usize) -> Place
     read_field(s, at, s.len(), GROUPS_DEEP, row)
 }
 
-// ---- The reader keeps the lent image and its place. What takes or makes one is proved by hand.
+// ---- The reader keeps the lent image and its place
 
 #[derive(Drop)]
 pub struct Reader<'a> {
@@ -182,7 +182,7 @@ pub fn next<'a>(r: Reader<'a>, row: usize) -> Place
     field_from(r.image, r.at, row)
 }
 
-// The image's first field: a plain slice and a number, so that callers need no such proof.
+// The image's first field, of a plain slice and a number.
 pub fn first(image: &[u8], row: usize) -> Place
     ensures { result ≡ field_from image.now 0 row }
 {
