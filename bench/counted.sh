@@ -1,6 +1,6 @@
 # shellcheck shell=sh
 # Sourced by bench/vcpus and bench/waiting: what calls cost that the original hasn't, in executed x86-64 instructions, the difference between programs that make them 11 times
-# and once, a tenth. The kit compiles and links them everywhere, so that the machine code is the same; its emulator counts where it is there (Arm), else valgrind's callgrind.
+# and once, a tenth. The kit compiles and links them, so that the machine code is the same everywhere; valgrind's callgrind counts.
 #
 #     counted NAME.c ARCHIVE DEFINE..   the instructions of one time around, printed
 here=$(cd "$(dirname "$0")" && pwd)
@@ -10,7 +10,7 @@ archives=''
 [ -n "$archives" ] || archives=$("$top/tools/archives")
 work=$(mktemp -d)
 trap 'rm -rf "$work"' EXIT
-tools=${RATTLE_HOME:-$(dirname "$(dirname "$(rt doc)")")}/on/$(uname -m)/toolchain
+tools=$(dirname "$(rt doc)")/toolchain
 flags='-std=c11 -Wall -Wextra -Werror -O2'
 whole() { # NAME.c ARCHIVE DEFINE..: the instructions of a process
     source=$here/$1 archive=$archives/$2
@@ -19,14 +19,9 @@ whole() { # NAME.c ARCHIVE DEFINE..: the instructions of a process
     "$tools/bin/clang" --target=x86_64-unknown-linux-gnu $flags "$@" -fPIE -nostdinc -I "$top/tests/c/headers" -I "$top/include" -c "$source" -o "$work/o"
     "$tools/bin/ld.lld" -pie -dynamic-linker /lib64/ld-linux-x86-64.so.2 "$tools/lib/Scrt1.o" "$tools/lib/crti.o" "$tools/lib/crtbeginS.o" "$work/o" "$archive" \
         "$tools/lib/libc.so.6" "$tools/lib/libc_nonshared.a" "$tools/lib/crtendS.o" "$tools/lib/crtn.o" -o "$work/program"
-    if [ -x "$tools/bin/qemu-x86_64" ]; then
-        "$tools/bin/qemu-x86_64" -one-insn-per-tb -d exec,nochain -D "$work/log" "$tools/lib/ld-linux-x86-64.so.2" --library-path "$tools/lib" "$work/program"
-        grep -c '^Trace' "$work/log"
-    else
-        valgrind --tool=callgrind --callgrind-out-file=/dev/null "$tools/lib/ld-linux-x86-64.so.2" --library-path "$tools/lib" "$work/program" >"$work/said" 2>&1 ||
-            { cat "$work/said" >&2; return 1; }
-        sed -n 's/.*Collected : //p' "$work/said"
-    fi
+    valgrind --tool=callgrind --callgrind-out-file=/dev/null "$tools/lib/ld-linux-x86-64.so.2" --library-path "$tools/lib" "$work/program" >"$work/said" 2>&1 ||
+        { cat "$work/said" >&2; return 1; }
+    sed -n 's/.*Collected : //p' "$work/said"
 }
 counted() {
     once=$(whole "$@" -DTIMES=1)
