@@ -27,7 +27,7 @@ use Rattle.vpic.specs.declared.PicDone.TheVariants.{Done, Refused}
 use Rattle.vpic.specs.Words.{PicState, is_full, plain_view, full_view, view}
 use Rattle.vpic.specs.Pair.{is_cascade, chips, settled, latched_at, latched, StateClaim, state_claim, master_claim, slave_claim, pending_place, claim_at, claim_pending, claim_irq, restored_at, restored, restore_interrupt, Port, master_command, master_data, slave_command, slave_data, no_port, port_at, is_there, written_to, Written, written_at, is_port, master_read, slave_read, left_after, port_read, port_left, port_written, value_reply, handle_read, handle_write, claim_vector, with_claim, with_vector, claim_outcome, vector_outcome, done_outcome, value_outcome}
 use Rattle.vpic.specs.Claim.{claim_in, claim_number, numbered, with_number, master_taken, slave_taken, is_quiet, port_outcome, byte_shown, plain_shown}
-use Rattle.vpic.proofs.Laws.{settle_off, settle_on, irq_reply, irq_vector, pending_vector, quiet, unasked, restore_way, restore_done, write_not, write_settled, write_out, write_done, read_master_command, read_master_data, read_slave_command, read_slave_data}
+use Rattle.vpic.proofs.Laws.{settle_off, settle_on, claim_known, irq_reply, irq_vector, pending_vector, quiet, unasked, restore_way, restore_done, write_not, write_settled, write_out, write_done, read_master_command, read_master_data, read_slave_command, read_slave_data}
 
 -- ---- the full road
 
@@ -58,18 +58,17 @@ module _ (l : List ℕ) (b : Bool) (e : b ≡ is_cascade (plain_view l)) where
 -- a claim, settled
 module _ (p q r : PicState) (a : PicPlace) (k : PicLine) (c : PicClaim) (ea : a ≡ pending_place p) (er : r ≡ settled q) where
   pub full_claim_master : a ≡ Master k → state_claim q c ≡ master_taken p k → state_claim r c ≡ claim_pending p
-  unfolding claim_pending master_claim
+  unfolding master_claim
   full_claim_master h e =
-      ap (λ (x : PicState). state_claim x c) er ∙ ap (λ (x : StateClaim). state_claim (settled x.state) x.claim) e ∙ ap (claim_at p) (sym h ∙ ea)
+      ap (λ (x : PicState). state_claim x c) er ∙ ap (λ (x : StateClaim). state_claim (settled x.state) x.claim) e ∙ claim_known p (Master k) (sym ea ∙ h)
 
   pub full_claim_slave : a ≡ Slave k → state_claim q c ≡ slave_taken p k → state_claim r c ≡ claim_pending p
-  unfolding claim_pending slave_claim
+  unfolding slave_claim
   full_claim_slave h e =
-      ap (λ (x : PicState). state_claim x c) er ∙ ap (λ (x : StateClaim). state_claim (settled x.state) x.claim) e ∙ ap (claim_at p) (sym h ∙ ea)
+      ap (λ (x : PicState). state_claim x c) er ∙ ap (λ (x : StateClaim). state_claim (settled x.state) x.claim) e ∙ claim_known p (Slave k) (sym ea ∙ h)
 
 pub full_claim_none : (p r : PicState) (a : PicPlace) → a ≡ pending_place p → a ≡ Nowhere → r ≡ settled p → state_claim r NoClaim ≡ claim_pending p
-unfolding claim_pending
-full_claim_none p r a ea h er = ap (λ (x : PicState). state_claim x NoClaim) er ∙ ap (claim_at p) (sym h ∙ ea)
+full_claim_none p r a ea h er = ap (λ (x : PicState). state_claim x NoClaim) er ∙ claim_known p Nowhere (sym ea ∙ h)
 
 pub full_restored : (p q r : PicState) (x : PicPlace) (f g : Bool) → q ≡ restored_at p x f g → r ≡ settled q → r ≡ settled (restored_at p x f g)
 full_restored p q r x f g eq er = er ∙ ap settled eq
@@ -81,8 +80,8 @@ unfolding settled
 settled_rule p = both (λ (q : PicState). q.rule ≡ p.rule) (is_cascade p) _ _ refl refl
 
 claim_rule : (p : PicState) → (claim_pending p).state.rule ≡ p.rule
-unfolding claim_pending master_claim slave_claim
-claim_rule p = go (pending_place p)
+unfolding master_claim slave_claim
+claim_rule p = sym (ap (λ (x : StateClaim). x.state.rule) (claim_known p (pending_place p) refl)) ∙ go (pending_place p)
   where
     go : (a : PicPlace) → (claim_at p a).state.rule ≡ p.rule
     go (Master k) = settled_rule (chips p (acknowledged p.master k.0) p.slave)

@@ -272,21 +272,32 @@ takes_at p a b x e f h = h ∙ ap (taken_at p) (sym f ∙ e)
 pub takes_none : (p : PicState) (a : PicPlace) → a ≡ pending_place p → a ≡ Nowhere → state_claim p NoClaim ≡ taken_at p (pending_place p)
 takes_none p a e f = takes_at p a Nowhere (state_claim p NoClaim) e f refl
 
+-- the claim of what is pending, by its place. Here and below the place is made a variable first: to find that two sides differ in what is stuck on `pending_place p` takes the check very long
+pub claim_known : (p : PicState) (x : PicPlace) → pending_place p ≡ x → claim_at p x ≡ claim_pending p
+unfolding claim_pending
+claim_known p x e = ap (claim_at p) (sym e) ∙ known x e
+  where
+    known : (y : PicPlace) → pending_place p ≡ y → claim_at p (pending_place p) ≡ claim_pending p
+    known y f = rw f
+
 -- from a settled pair all is claimed with that
 taken_kept : (p : PicState) → settled p ≡ p → taken_at p (pending_place p) ≡ claim_pending p
 unfolding claim_pending
-taken_kept p s = go (pending_place p) refl
+taken_kept p s = known (pending_place p) refl
   where
     go : (x : PicPlace) → pending_place p ≡ x → taken_at p x ≡ claim_at p x
     go (Master k) e = master_leaves p k s e
     go (Slave k) e = refl
     go Nowhere e = cc
 
+    known : (x : PicPlace) → pending_place p ≡ x → taken_at p (pending_place p) ≡ claim_pending p
+    known x e = rw e (go x e)
+
 -- from any pair what is taken is claimed, and the pair is settled then
 pub taken_settled : (p q r : PicState) (c : PicClaim) → state_claim q c ≡ taken_at p (pending_place p) → r ≡ settled q → state_claim r c ≡ claim_pending p
-unfolding claim_pending master_claim slave_claim
+unfolding master_claim slave_claim
 taken_settled p q r c e er =
-    ap (λ (x : PicState). state_claim x c) er ∙ ap (λ (x : StateClaim). state_claim (settled x.state) x.claim) e ∙ go (pending_place p)
+    ap (λ (x : PicState). state_claim x c) er ∙ ap (λ (x : StateClaim). state_claim (settled x.state) x.claim) e ∙ go (pending_place p) ∙ claim_known p (pending_place p) refl
   where
     go : (x : PicPlace) → state_claim (settled (taken_at p x).state) (taken_at p x).claim ≡ claim_at p x
     go (Master k) = refl
@@ -327,9 +338,12 @@ module _ (p q : PicState) (l : PicLine) (a : PicPlace) (b : Bool) (ea : a ≡ pl
 
 -- where the master doesn't ask, nothing is claimed, and the pair is settled too
 module _ (p q : PicState) (m : Chip) (b : Bool) (em : m ≡ p.master) (eb : b ≡ asks m) (n : not b ≡ true) (eq : q ≡ settled p) where
+  place_unasked : pending_place p ≡ Nowhere
+  unfolding pending_irq asks
+  place_unasked = let a : asks p.master ≡ b = ap asks (sym em) ∙ sym eb in rw (a ∙ not-true b n)
+
   pub unasked : state_claim q NoClaim ≡ claim_pending p
-  unfolding claim_pending pending_irq asks
-  unasked = let a : asks p.master ≡ b = ap asks (sym em) ∙ sym eb in ap (λ (x : PicState). state_claim x NoClaim) eq ∙ rw (a ∙ not-true b n)
+  unasked = ap (λ (x : PicState). state_claim x NoClaim) eq ∙ claim_known p Nowhere place_unasked
 
 -- where nothing is requested, the master doesn't ask, and nothing is left to settle
 module _ (p : PicState) (b : Bool) (eb : b ≡ is_quiet p) (t : b ≡ true) where
