@@ -1,5 +1,4 @@
 use Rattle.board.proofs.Ways.{accept_way}
-use borrow.Author.Rules.{rules}
 use Rattle.board.proofs.accept_interrupt.Goals as goal
 
 pub returns : goal.returns

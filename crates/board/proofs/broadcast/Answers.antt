@@ -1,5 +1,4 @@
 use Rattle.board.proofs.Ways.{broadcast_way}
-use borrow.Author.Rules.{rules}
 use Rattle.board.proofs.broadcast.Goals as goal
 
 pub returns : goal.returns

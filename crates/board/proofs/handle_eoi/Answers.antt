@@ -1,5 +1,4 @@
 use Rattle.board.proofs.Ways.{eoi_told, eoi_silent}
-use borrow.Author.Rules.{rules}
 use Rattle.board.proofs.handle_eoi.Goals as goal
 
 pub returns-in-Broadcast : goal.returns-in-Broadcast

@@ -1,5 +1,4 @@
 use Rattle.board.proofs.Ways.{write_way}
-use borrow.Author.Rules.{rules}
 use Rattle.board.proofs.handle_write.Goals as goal
 
 pub returns : goal.returns

@@ -1,5 +1,4 @@
 use Rattle.board.proofs.Ways.{new_way}
-use borrow.Author.Rules.{rules}
 use Rattle.board.proofs.new.Goals as goal
 
 pub returns : goal.returns

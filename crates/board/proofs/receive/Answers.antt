@@ -1,5 +1,4 @@
 use Rattle.board.proofs.Ways.{receive_way}
-use borrow.Author.Rules.{rules}
 use Rattle.board.proofs.receive.Goals as goal
 
 pub returns : goal.returns

@@ -1,5 +1,4 @@
 use Rattle.board.proofs.Ways.{line_way}
-use borrow.Author.Rules.{rules}
 use Rattle.board.proofs.set_gsi_level.Goals as goal
 
 pub returns : goal.returns

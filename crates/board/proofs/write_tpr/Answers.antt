@@ -1,5 +1,4 @@
 use Rattle.board.proofs.Ways.{tpr_way}
-use borrow.Author.Rules.{rules}
 use Rattle.board.proofs.write_tpr.Goals as goal
 
 pub returns : goal.returns

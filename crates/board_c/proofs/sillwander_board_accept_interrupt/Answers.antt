@@ -1,5 +1,4 @@
 use Rattle.board_c.proofs.Ways.{acceptance_coded}
-use borrow.Author.Rules.{rules}
 use Rattle.board_c.proofs.sillwander_board_accept_interrupt.Goals as goal
 
 pub returns : goal.returns

@@ -1,5 +1,4 @@
 use Rattle.board_c.proofs.Ways.{receive_coded, receive_wide}
-use borrow.Author.Rules.{rules}
 use Rattle.board_c.proofs.sillwander_board_receive.Goals as goal
 
 pub returns-then-vector-gt255 : goal.returns-then-vector-gt255

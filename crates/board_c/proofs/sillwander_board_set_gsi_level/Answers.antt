@@ -1,5 +1,4 @@
 use Rattle.board_c.proofs.Ways.{level_coded}
-use borrow.Author.Rules.{rules}
 use Rattle.board_c.proofs.sillwander_board_set_gsi_level.Goals as goal
 
 pub returns : goal.returns

@@ -1,10 +1,9 @@
-use Prim.Native.Nat.{◌≤◌, ◌-◌}
-use mathlib.Core.Path.{◌≡◌, refl, sym, ◌∙◌}
+use Prim.Native.Nat.{◌-◌}
+use mathlib.Core.Path.{◌∙◌}
 use native.Mathlib.Omega.{arith}
 use borrow.Author.Rules.{rules}
-use lib.ListN.{length, length-set}
-use lib.Seq.{sets}
-use Rattle.image.specs.Words.{word_at, listed, gathered}
+use lib.ListN.{length-set}
+use Rattle.image.specs.Words.{word_at}
 use Rattle.image.proofs.Listed.{gather_start, gather_more, gather_end}
 use Rattle.image.proofs.gather.Reads as reads
 use Rattle.image.proofs.gather.Lts as lts

@@ -1,11 +1,8 @@
 use Prim.Native.Nat.{◌≤◌, ◌-◌}
-use mathlib.Core.Path.{◌≡◌, refl, sym, ◌∙◌}
-use native.Mathlib.Omega.{arith}
-use borrow.Author.Rules.{rules}
-use lib.ListN.{length, length-set}
+use mathlib.Core.Path.{◌≡◌}
+use lib.ListN.{length}
 use lib.Seq.{sets}
 use Rattle.image.specs.Words.{word_at, listed, gathered}
-use Rattle.image.proofs.Listed.{gather_start, gather_more, gather_end}
 use Rattle.image.proofs.gather.Reads as reads
 use Rattle.image.proofs.gather.Lts as lts
 use Rattle.image.proofs.word_at.Reads as word-at-reads

@@ -1,5 +1,3 @@
-use borrow.Author.Rules.{rules}
-use borrow.Author.Tests.{not-true, not-false}
 use Rattle.image.specs.Restore.{chips}
 use Rattle.image.proofs.Restoring.{back_mode, back_io, back_apic, back_pair, back_all}
 use Rattle.image.proofs.put_back.Reads as reads

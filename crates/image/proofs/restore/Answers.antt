@@ -1,5 +1,3 @@
-use borrow.Author.Rules.{rules}
-use borrow.Author.Tests.{not-true, not-false}
 use Rattle.image.specs.Restore.{chips, blank}
 use Rattle.image.proofs.Restoring.{not_read, was_read}
 use Rattle.image.proofs.restore.Reads as reads

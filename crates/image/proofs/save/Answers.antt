@@ -1,5 +1,4 @@
 use Rattle.image.proofs.Saving.{saved_short, saved_whole}
-use borrow.Author.Rules.{rules}
 use Rattle.image.proofs.save.Reads as reads
 use Rattle.image.proofs.save.Lts as lts
 use Rattle.image.proofs.gather.Reads as gather-reads

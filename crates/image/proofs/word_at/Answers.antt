@@ -1,6 +1,5 @@
 use Rattle.utils.specs.Cases.{cases}
 use Rattle.image.specs.Words.{word_at}
-use borrow.Author.Rules.{rules}
 use Rattle.image.proofs.word_at.Reads as reads
 use Rattle.image.proofs.word_at.Lts as lts
 use Rattle.image.proofs.chip_word.Reads as chip-word-reads

@@ -1,6 +1,5 @@
 use native.Mathlib.Omega.{arith}
 use Rattle.image_format.proofs.Laws.{from_past, from_within}
-use borrow.Author.Rules.{rules}
 use Rattle.image_format.proofs.field_from.Reads as reads
 use Rattle.image_format.proofs.field_from.Lts as lts
 use Rattle.image_format.proofs.read_field.Reads as read-field-reads

@@ -1,7 +1,6 @@
 use mathlib.Core.Path.{refl}
 use borrow.Author.Tests.{not-true, not-false}
 use Rattle.image_format.proofs.Laws.{unread, read_short, read_whole}
-use borrow.Author.Rules.{rules}
 use Rattle.image_format.proofs.is_read.Reads as reads
 use Rattle.image_format.proofs.is_read.Lts as lts
 use Rattle.image_format.proofs.first.Reads as first_reads

@@ -1,10 +1,7 @@
-use Prim.Native.Nat.{◌≤◌, ◌+◌, ◌-◌}
+use Prim.Native.Nat.{◌-◌}
 use mathlib.Core.Path.{◌≡◌, sym, ◌∙◌}
 use native.Mathlib.Omega.{arith}
-use borrow.Author.Tests.{lt-ltb, le-ltb}
-use lib.ListN.{drop}
-use Rattle.image_format.specs.Format.{bytes, format}
-use Rattle.image_format.specs.Image.{loaded, words_in}
+use borrow.Author.Tests.{le-ltb}
 use Rattle.image_format.proofs.Rounds.{all_bytes, row_fits, bytes_more, load_start, load_more, load_end}
 use Rattle.image_format.proofs.load.Reads as reads
 use Rattle.image_format.proofs.load.Lts as lts

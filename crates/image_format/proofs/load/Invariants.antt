@@ -1,11 +1,8 @@
 use Prim.Native.Nat.{◌≤◌, ◌+◌, ◌-◌}
-use mathlib.Core.Path.{◌≡◌, sym, ◌∙◌}
-use native.Mathlib.Omega.{arith}
-use borrow.Author.Tests.{lt-ltb, le-ltb}
+use mathlib.Core.Path.{◌≡◌}
 use lib.ListN.{drop}
 use Rattle.image_format.specs.Format.{bytes, format}
 use Rattle.image_format.specs.Image.{loaded, words_in}
-use Rattle.image_format.proofs.Rounds.{all_bytes, row_fits, bytes_more, load_start, load_more, load_end}
 use Rattle.image_format.proofs.load.Reads as reads
 use Rattle.image_format.proofs.load.Lts as lts
 use Rattle.image_format.proofs.step.Reads as step-reads

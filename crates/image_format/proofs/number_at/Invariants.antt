@@ -1,9 +1,6 @@
 use Prim.Native.Nat.{◌≤◌, ◌+◌, ◌-◌}
 use mathlib.Core.Path.{◌≡◌}
-use native.Mathlib.Omega.{arith}
-use borrow.Author.Rules.{rules}
 use Rattle.image_format.specs.Image.{number_at}
-use Rattle.image_format.proofs.Bytes.{number_start, number_more, number_fits, number_end}
 use Rattle.image_format.proofs.number_at.Reads as reads
 use Rattle.image_format.proofs.number_at.Lts as lts
 use Rattle.image_format.proofs.byte.Reads as byte-Reads

@@ -1,9 +1,5 @@
-use Rattle.image_format.specs.Format.{row_at}
 use native.Mathlib.Omega.{arith}
-use lib.ListN.{length-set}
 use Rattle.image_format.proofs.Rows.{size_small}
-use Rattle.image_format.proofs.Bytes.{header_stored}
-use borrow.Author.Rules.{rules}
 use Rattle.image_format.proofs.put_header.Reads as reads
 use Rattle.image_format.proofs.put_header.Lts as lts
 use Rattle.image_format.proofs.size.Reads as size-reads

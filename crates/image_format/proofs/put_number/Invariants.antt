@@ -1,13 +1,8 @@
-use mathlib.Core.Path.{ap, ◌∙◌, sym}
-use lib.ListN.{length-set}
 use Prim.Native.Nat.{◌≤◌, ◌+◌, ◌-◌}
-use mathlib.Core.Path.{◌≡◌, refl}
-use native.Mathlib.Omega.{arith}
-use borrow.Author.Rules.{rules}
+use mathlib.Core.Path.{◌≡◌}
 use lib.ListN.{length}
 use lib.Seq.{sets}
 use Rattle.image_format.specs.Image.{bytes_of}
-use Rattle.image_format.proofs.Bytes.{put_start, put_more, put_end}
 use Rattle.image_format.proofs.put_number.Reads as reads
 use Rattle.image_format.proofs.put_number.Lts as lts
 use Rattle.image_format.proofs.put_number.Given as goal

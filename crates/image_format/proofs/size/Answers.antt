@@ -1,6 +1,5 @@
 use Rattle.image_format.specs.Format.{format}
 use Rattle.image_format.proofs.Rows.{size_at}
-use borrow.Author.Rules.{rules}
 use Rattle.image_format.proofs.size.Reads as reads
 use Rattle.image_format.proofs.size.Lts as lts
 use Rattle.image_format.proofs.size.Goals as goal

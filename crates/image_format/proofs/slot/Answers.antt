@@ -1,6 +1,5 @@
 use Rattle.image_format.specs.Format.{format}
 use Rattle.image_format.proofs.Rows.{slot_at}
-use borrow.Author.Rules.{rules}
 use Rattle.image_format.proofs.slot.Reads as reads
 use Rattle.image_format.proofs.slot.Lts as lts
 use Rattle.image_format.proofs.slot.Goals as goal

@@ -1,7 +1,6 @@
 use mathlib.Core.Path.{refl}
 use native.Mathlib.Omega.{arith}
 use Rattle.image_format.proofs.Laws.{no_row, no_room, no_tag, no_size, all_but_one}
-use borrow.Author.Rules.{rules}
 use Rattle.image_format.proofs.stands.Reads as reads
 use Rattle.image_format.proofs.stands.Lts as lts
 use Rattle.image_format.proofs.size.Reads as size-reads

@@ -1,7 +1,5 @@
-use mathlib.Core.Path.{sym, ◌∙◌}
 use native.Mathlib.Omega.{arith}
 use Rattle.image_format.proofs.Rows.{size_small}
-use borrow.Author.Rules.{rules}
 use Rattle.image_format.proofs.step.Reads as reads
 use Rattle.image_format.proofs.step.Lts as lts
 use Rattle.image_format.proofs.is_number.Reads as is-number-reads

@@ -1,6 +1,5 @@
 use Rattle.image_format.specs.Format.{format}
 use Rattle.image_format.proofs.Rows.{tag_at}
-use borrow.Author.Rules.{rules}
 use Rattle.image_format.proofs.tag.Reads as reads
 use Rattle.image_format.proofs.tag.Lts as lts
 use Rattle.image_format.proofs.tag.Goals as goal

@@ -2,8 +2,7 @@ use Rattle.image_format.specs.Format.{row_at}
 use mathlib.Core.Path.{sym, ◌∙◌}
 use native.Mathlib.Omega.{arith}
 use Rattle.image_format.proofs.Rows.{slot_small, number_small}
-use Rattle.image_format.proofs.Rounds.{take_fits, take_number_lem, take_none}
-use borrow.Author.Rules.{rules}
+use Rattle.image_format.proofs.Rounds.{take_fits}
 use Rattle.image_format.proofs.take_field.Reads as reads
 use Rattle.image_format.proofs.take_field.Lts as lts
 use Rattle.image_format.proofs.is_number.Reads as is-number-reads

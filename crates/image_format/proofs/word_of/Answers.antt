@@ -1,9 +1,5 @@
-use Prim.Native.Nat.{ℕ}
-use mathlib.Core.Path.{ap}
 use native.Mathlib.Omega.{arith}
-use lib.ListN.{get_or}
 use Rattle.image_format.proofs.Rows.{slot_small}
-use borrow.Author.Rules.{rules}
 use Rattle.image_format.proofs.word_of.Reads as reads
 use Rattle.image_format.proofs.word_of.Lts as lts
 use Rattle.image_format.proofs.slot.Reads as slot-reads

@@ -1,11 +1,9 @@
-use Prim.Native.Nat.{◌≤◌, ◌+◌, ◌-◌}
-use mathlib.Core.Path.{◌≡◌, refl, sym, ◌∙◌}
+use Prim.Native.Nat.{◌-◌}
+use mathlib.Core.Path.{◌≡◌, refl, ◌∙◌}
 use native.Mathlib.Omega.{arith}
-use borrow.Author.Tests.{lt-ltb, le-ltb}
-use lib.ListN.{length, drop}
-use lib.Seq.{sets}
-use Rattle.image_format.specs.Format.{bytes, format, row_at}
-use Rattle.image_format.specs.Image.{field_with, written, image_of}
+use borrow.Author.Tests.{le-ltb}
+use Rattle.image_format.specs.Format.{row_at}
+use Rattle.image_format.specs.Image.{field_with}
 use Rattle.image_format.proofs.Rounds.{all_bytes, row_fits, bytes_more, write_start, write_more, write_end, same_length}
 use Rattle.image_format.proofs.write.Reads as reads
 use Rattle.image_format.proofs.write.Lts as lts

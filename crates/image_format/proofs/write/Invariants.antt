@@ -1,12 +1,9 @@
 use Prim.Native.Nat.{◌≤◌, ◌+◌, ◌-◌}
-use mathlib.Core.Path.{◌≡◌, refl, sym, ◌∙◌}
-use native.Mathlib.Omega.{arith}
-use borrow.Author.Tests.{lt-ltb, le-ltb}
+use mathlib.Core.Path.{◌≡◌}
 use lib.ListN.{length, drop}
 use lib.Seq.{sets}
-use Rattle.image_format.specs.Format.{bytes, format, row_at}
-use Rattle.image_format.specs.Image.{field_with, written, image_of}
-use Rattle.image_format.proofs.Rounds.{all_bytes, row_fits, bytes_more, write_start, write_more, write_end, same_length}
+use Rattle.image_format.specs.Format.{bytes, format}
+use Rattle.image_format.specs.Image.{written, image_of}
 use Rattle.image_format.proofs.write.Reads as reads
 use Rattle.image_format.proofs.write.Lts as lts
 use Rattle.image_format.proofs.put_field.Reads as put-field-reads

@@ -1,10 +1,9 @@
 use Rattle.std.proofs.Common.{ap, not}
-use Prim.Native.Nat.{◌≤◌, ◌-◌}
+use Prim.Native.Nat.{◌-◌}
 use mathlib.Core.Path.{◌≡◌, refl, sym, ◌∙◌}
 use mathlib.Core.Bool.{true}
 use native.Mathlib.Omega.{arith}
-use borrow.Author.Rules.{rules}
-use borrow.Author.Tests.{not-true, not-false}
+use borrow.Author.Tests.{not-false}
 use Rattle.image_rules.specs.Rules.{all, word_keeps}
 use Rattle.image_rules.proofs.Tests.{all_more, apic_word, apic_all}
 use Rattle.image_rules.proofs.apic_keeps.Reads as reads

@@ -1,11 +1,7 @@
 use Prim.Native.Nat.{◌≤◌, ◌-◌}
-use mathlib.Core.Path.{◌≡◌, refl, sym, ◌∙◌}
+use mathlib.Core.Path.{◌≡◌}
 use mathlib.Core.Bool.{true}
-use native.Mathlib.Omega.{arith}
-use borrow.Author.Rules.{rules}
-use borrow.Author.Tests.{not-true, not-false}
 use Rattle.image_rules.specs.Rules.{all, word_keeps}
-use Rattle.image_rules.proofs.Tests.{all_more, apic_word, apic_all}
 use Rattle.image_rules.proofs.apic_keeps.Reads as reads
 use Rattle.image_rules.proofs.apic_keeps.Lts as lts
 use Rattle.image_rules.proofs.ppr_keeps.Reads as ppr-keeps-reads

@@ -1,4 +1,3 @@
-use borrow.Author.Rules.{rules}
 use Rattle.image_rules.proofs.Pair.{cascade_latch, cascade_plain, cascade_full}
 use Rattle.image_rules.proofs.cascade_keeps.Reads as reads
 use Rattle.image_rules.proofs.cascade_keeps.Lts as lts

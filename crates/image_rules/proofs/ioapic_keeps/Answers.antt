@@ -1,12 +1,11 @@
 use Rattle.std.proofs.Common.{ap, not}
-use Prim.Native.Nat.{◌≤◌, ◌-◌}
+use Prim.Native.Nat.{◌-◌}
 use mathlib.Core.Path.{◌≡◌, refl, sym, ◌∙◌}
 use mathlib.Core.Bool.{true}
 use native.Mathlib.Omega.{arith}
-use borrow.Author.Rules.{rules}
-use borrow.Author.Tests.{not-true, not-false}
+use borrow.Author.Tests.{not-false}
 use Rattle.vioapic.specs.State.{view}
-use Rattle.image_rules.specs.Rules.{all, entry_keeps_at}
+use Rattle.image_rules.specs.Rules.{all}
 use Rattle.image_rules.proofs.Tests.{all_more, ioapic_version, ioapic_entry, ioapic_all}
 use Rattle.image_rules.proofs.ioapic_keeps.Reads as reads
 use Rattle.image_rules.proofs.ioapic_keeps.Lts as lts

@@ -1,6 +1,5 @@
 use mathlib.Core.Path.{refl}
 use Rattle.vlapic_words.specs.Words.{view}
-use borrow.Author.Rules.{rules}
 use Rattle.image_rules.proofs.is_x2apic.Reads as reads
 use Rattle.image_rules.proofs.is_x2apic.Lts as lts
 use Rattle.image_rules.proofs.is_x2apic.Goals as goal

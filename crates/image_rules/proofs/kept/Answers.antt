@@ -1,6 +1,5 @@
 use Rattle.utils.specs.Cases.{cases}
 use Rattle.image_rules.specs.Rules.{kept_of}
-use borrow.Author.Rules.{rules}
 use Rattle.image_rules.proofs.kept.Reads as reads
 use Rattle.image_rules.proofs.kept.Lts as lts
 use Rattle.image_rules.proofs.destination.Reads as destination-reads

@@ -1,6 +1,4 @@
 use mathlib.Core.Bool.{false}
-use borrow.Author.Rules.{rules}
-use borrow.Author.Tests.{not-true, not-false}
 use Rattle.image_rules.proofs.Pair.{pair_rule, pair_spare, pair_master, pair_slave, pair_all}
 use Rattle.image_rules.proofs.pair_keeps.Reads as reads
 use Rattle.image_rules.proofs.pair_keeps.Lts as lts

@@ -1,5 +1,4 @@
 use Rattle.image_rules.proofs.Tests.{ppr_kept}
-use borrow.Author.Rules.{rules}
 use Rattle.image_rules.proofs.ppr_keeps.Reads as reads
 use Rattle.image_rules.proofs.ppr_keeps.Lts as lts
 use Rattle.image_rules.proofs.word.Reads as word-reads

@@ -1,5 +1,4 @@
 use Rattle.planner.proofs.Leaves.{allows_below, allows_above, allows_within}
-use borrow.Author.Rules.{rules}
 use Rattle.planner.proofs.allows.Goals as goal
 
 pub returns-then-vector-lowest : goal.returns-then-vector-lowest

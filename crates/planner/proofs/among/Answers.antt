@@ -1,10 +1,6 @@
-use Prim.Native.Nat.{◌≤◌, ◌-◌}
-use mathlib.Core.Path.{◌≡◌}
-use mathlib.Core.Bool.{false}
+use Prim.Native.Nat.{◌-◌}
 use native.Mathlib.Omega.{arith}
-use borrow.Author.Rules.{rules}
-use Rattle.planner.specs.Check.{among}
-use Rattle.planner.proofs.Loops.{among_start, among_found, among_next, among_none}
+use Rattle.planner.proofs.Loops.{among_start, among_found, among_next}
 use Rattle.planner.proofs.among.Goals as goal
 
 pub loop-k-init : goal.loop-k-init

@@ -1,10 +1,7 @@
 use Prim.Native.Nat.{◌≤◌, ◌-◌}
 use mathlib.Core.Path.{◌≡◌}
 use mathlib.Core.Bool.{false}
-use native.Mathlib.Omega.{arith}
-use borrow.Author.Rules.{rules}
 use Rattle.planner.specs.Check.{among}
-use Rattle.planner.proofs.Loops.{among_start, among_found, among_next, among_none}
 use Rattle.planner.proofs.among.Given as goal
 
 abbrev pub invariant-loop-k : goal.invariant-loop-k

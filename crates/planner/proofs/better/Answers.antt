@@ -1,6 +1,5 @@
 use Rattle.std.proofs.Common.{ap, not}
 use Rattle.planner.proofs.Leaves.{better_waits_not, better_yes, better_no}
-use borrow.Author.Rules.{rules}
 use Rattle.planner.proofs.better.Goals as goal
 
 pub returns-then-not-waits : goal.returns-then-not-waits

@@ -1,12 +1,5 @@
-use Prim.Native.Nat.{◌≤◌, ◌-◌}
-use mathlib.Core.Path.{◌≡◌, refl}
-use mathlib.Core.Bool.{true}
-use native.Mathlib.Omega.{arith}
-use lib.ListN.{length}
-use Rattle.planner.specs.Lines.{every}
-use Rattle.planner.specs.Check.{line_passes}
+use Prim.Native.Nat.{◌-◌}
 use Rattle.planner.proofs.Loops.{passes_short, passes_not, passes_yes}
-use Rattle.planner.proofs.Laws.{every_next}
 use Rattle.utils.specs.Cases.{so}
 use Rattle.planner.proofs.check.Goals as goal
 

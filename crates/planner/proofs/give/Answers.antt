@@ -1,6 +1,5 @@
 use Rattle.planner.proofs.Loops.{give_none, give_line, give_past}
 use Rattle.utils.specs.Cases.{so}
-use borrow.Author.Rules.{rules}
 use Rattle.planner.proofs.give.Goals as goal
 
 pub returns-then-not-is_free : goal.returns-then-not-is_free

@@ -1,5 +1,4 @@
 use Rattle.planner.proofs.Leaves.{free_low, free_from}
-use borrow.Author.Rules.{rules}
 use Rattle.planner.proofs.is_free.Goals as goal
 
 pub returns-then-vector-lt32 : goal.returns-then-vector-lt32

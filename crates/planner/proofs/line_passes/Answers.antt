@@ -1,5 +1,4 @@
 use Rattle.planner.proofs.Leaves.{line_not_allowed, line_allowed}
-use borrow.Author.Rules.{rules}
 use Rattle.planner.proofs.line_passes.Goals as goal
 
 pub returns-then-not-allows : goal.returns-then-not-allows

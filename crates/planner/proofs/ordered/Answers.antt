@@ -1,12 +1,5 @@
-use Prim.Native.Nat.{◌≤◌, ◌-◌}
-use mathlib.Core.Path.{◌≡◌}
-use mathlib.Core.Bool.{true}
+use Prim.Native.Nat.{◌-◌}
 use native.Mathlib.Omega.{arith}
-use borrow.Author.Rules.{rules}
-use lib.ListN.{length}
-use Rattle.planner.specs.Lines.{every}
-use Rattle.planner.specs.Plan.{in_order}
-use mathlib.Core.Path.{refl}
 use Rattle.planner.proofs.Loops.{not_ordered, ordered_next, ordered_all}
 use Rattle.planner.proofs.ordered.Goals as goal
 

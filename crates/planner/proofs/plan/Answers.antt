@@ -1,6 +1,5 @@
 use Rattle.std.proofs.Common.{ap, not}
 use Rattle.planner.proofs.Loops.{plan_many, plan_short, plan_unordered, plan_none, plan_done}
-use borrow.Author.Rules.{rules}
 use Rattle.planner.proofs.plan.Goals as goal
 
 pub returns-then-lines-gt24 : goal.returns-then-lines-gt24

@@ -1,5 +1,4 @@
 use Rattle.planner.proofs.Leaves.{reach_line, reach_past}
-use borrow.Author.Rules.{rules}
 use Rattle.planner.proofs.reach.Goals as goal
 
 pub returns-then-k-ranges : goal.returns-then-k-ranges

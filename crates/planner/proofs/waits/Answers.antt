@@ -1,5 +1,4 @@
 use Rattle.planner.proofs.Leaves.{waits_given, waits_below, waits_from}
-use borrow.Author.Rules.{rules}
 use Rattle.planner.proofs.waits.Goals as goal
 
 pub returns-then-given-ne0 : goal.returns-then-given-ne0

@@ -1,11 +1,7 @@
 use Prim.Native.Nat.{◌≤◌, ◌-◌}
 use mathlib.Core.Path.{◌≡◌}
-use native.Mathlib.Omega.{arith}
-use borrow.Author.Rules.{rules}
-use lib.ListN.{length, length-set}
+use lib.ListN.{length}
 use Rattle.planner.specs.Plan.{written}
-use mathlib.Core.Path.{refl}
-use Rattle.planner.proofs.Loops.{write_next, write_all}
 use Rattle.planner.proofs.write.Given as goal
 
 abbrev pub invariant-loop-k : goal.invariant-loop-k

@@ -2,7 +2,6 @@ use Prim.Native.Nat.{ℕ}
 use lib.ListN.{get_or-eq_default}
 use Rattle.script_format.specs.Format.{number_at}
 use native.Mathlib.Omega.{arith}
-use borrow.Author.Rules.{rules}
 use Rattle.script_format.proofs.byte.Goals as goal
 
 pub returns-then-k-body : goal.returns-then-k-body

@@ -1,4 +1,3 @@
-use borrow.Author.Rules.{rules}
 use Rattle.script_format.proofs.Rows.{decoded_io, decoded_pic, decoded_apic, decoded_board}
 use Rattle.script_format.proofs.decode.Goals as goal
 

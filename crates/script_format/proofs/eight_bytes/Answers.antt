@@ -1,5 +1,4 @@
 use Rattle.script_format.proofs.Numbers.{joined}
-use borrow.Author.Rules.{rules}
 use Rattle.script_format.proofs.eight_bytes.Goals as goal
 
 pub returns : goal.returns

@@ -1,9 +1,6 @@
 use Prim.Native.Nat.{◌-◌}
-use mathlib.Core.Path.{sym, ◌∙◌}
 use native.Mathlib.Omega.{arith}
-use borrow.Author.Rules.{rules}
-use Rattle.waiting.specs.Lists.{lists_in, list_at}
-use Rattle.script_lists.proofs.Gathered.{Gathered, gathered_none, gathered_more, gathered_all, gave, gave_none, refused, waits_le}
+use Rattle.script_lists.proofs.Gathered.{gathered_more, gathered_all, gave, gave_none, refused, waits_le}
 use Rattle.script_lists.proofs.gather.Goals as goal
 
 pub loop-n-preserved : goal.loop-n-preserved

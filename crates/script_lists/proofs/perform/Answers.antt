@@ -1,4 +1,3 @@
-use borrow.Author.Rules.{rules}
 use Rattle.script_machine.proofs.Outcomes.{replied}
 use Rattle.script_lists.specs.Steps.{list_outcome}
 use Rattle.script_lists.proofs.Hosts.{on_lists_lem}

@@ -1,5 +1,4 @@
 use native.Mathlib.Omega.{arith}
-use borrow.Author.Rules.{rules}
 use Rattle.reply_text.proofs.Puts.{then_put}
 use Rattle.script_lists.proofs.put_lists.Goals as goal
 

@@ -1,6 +1,5 @@
 use native.Mathlib.Omega.{arith}
-use borrow.Author.Rules.{rules}
-use Rattle.script_states.proofs.Texts.{did_put, stopped_put}
+use Rattle.script_states.proofs.Texts.{did_put}
 use Rattle.script_lists.proofs.put_said.Goals as goal
 
 pub returns-in-Did : goal.returns-in-Did

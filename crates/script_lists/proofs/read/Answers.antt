@@ -1,4 +1,3 @@
-use borrow.Author.Rules.{rules}
 use Rattle.script_lists.proofs.Places.{length_is, ended, machines, no_header, cut_off, whole}
 use Rattle.script_lists.proofs.read.Goals as goal
 

@@ -1,5 +1,4 @@
 use mathlib.Core.Path.{refl, sym, ◌∙◌}
-use borrow.Author.Rules.{rules}
 use Rattle.script_lists.proofs.Hosts.{step_list, step_bad, step_other}
 use Rattle.script_lists.proofs.step.Goals as goal
 

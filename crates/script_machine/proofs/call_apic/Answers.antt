@@ -2,7 +2,6 @@ use mathlib.Core.Path.{refl, ap, ◌∙◌}
 use Rattle.types.specs.Reply.{outcome_of}
 use Rattle.script_machine.specs.Machine.{local_outcome}
 use Rattle.script_machine.proofs.Local.{local_by}
-use borrow.Author.Rules.{rules}
 use Rattle.script_machine.proofs.call_apic.Goals as goal
 
 pub returns-in-AcceptInterrupt : goal.returns-in-AcceptInterrupt

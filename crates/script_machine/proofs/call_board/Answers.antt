@@ -1,4 +1,3 @@
-use borrow.Author.Rules.{rules}
 use Rattle.vioapic_entry.specs.Answers.{routed_reply}
 use Rattle.vioapic.specs.Answers.{eoi_reply, written_reply}
 use Rattle.board.specs.Promise.{acceptance_reply}

@@ -3,7 +3,6 @@ use Rattle.script_machine.proofs.Outcomes.{replied}
 use mathlib.Core.Path.{ap, ◌∙◌}
 use Rattle.types.specs.Reply.{outcome_of}
 use Rattle.vioapic.specs.IoApic.{writing_outcome, handle_write}
-use borrow.Author.Rules.{rules}
 use Rattle.script_machine.proofs.call_ioapic.Goals as goal
 
 pub returns-in-HandleRead : goal.returns-in-HandleRead

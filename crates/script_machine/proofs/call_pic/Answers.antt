@@ -1,6 +1,5 @@
 use Rattle.script_machine.specs.Machine.{pic_outcome}
 use Rattle.script_machine.proofs.Outcomes.{replied}
-use borrow.Author.Rules.{rules}
 use Rattle.script_machine.proofs.call_pic.Goals as goal
 
 pub returns-in-HandleRead : goal.returns-in-HandleRead

@@ -1,5 +1,4 @@
 use Rattle.script_machine.proofs.Chips.{new_machine_lem}
-use borrow.Author.Rules.{rules}
 use Rattle.script_machine.proofs.new.Goals as goal
 
 pub returns : goal.returns

@@ -1,6 +1,5 @@
 use mathlib.Core.Path.{ap, ◌∙◌}
 use Rattle.script_machine.specs.Late.{taken, field_for}
-use borrow.Author.Rules.{rules}
 use Rattle.script_machine.proofs.next_field.Goals as goal
 
 pub returns : goal.returns

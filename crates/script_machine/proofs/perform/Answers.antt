@@ -1,7 +1,6 @@
 use Rattle.script_machine.proofs.Chips.{perform_io, perform_version, perform_pic, perform_rule, perform_local, perform_board}
 use Rattle.script_machine.proofs.Outcomes.{replied}
 use Rattle.types.specs.declared.Reply.TheVariants as reply
-use borrow.Author.Rules.{rules}
 use Rattle.script_machine.proofs.perform.Goals as goal
 
 pub returns-in-Io : goal.returns-in-Io

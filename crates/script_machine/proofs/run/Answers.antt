@@ -1,10 +1,9 @@
 use Rattle.script_machine.specs.Machine.{machine_in}
-use Rattle.script_machine.specs.Run.{step_in, run_of, ended}
-use Rattle.script_machine.proofs.Runs.{further, further_none, run_out, run_did, run_stopped}
-use borrow.Author.Rules.{rules}
+use Rattle.script_machine.specs.Run.{step_in, ended}
+use Rattle.script_machine.proofs.Runs.{run_out, run_did, run_stopped}
 use native.Mathlib.Omega.{arith}
-use mathlib.Core.Path.{◌≡◌, sym, ap, ◌∙◌}
-use Prim.Native.Nat.{ℕ, ◌+◌, ◌-◌, ◌≤◌}
+use mathlib.Core.Path.{sym, ap, ◌∙◌}
+use Prim.Native.Nat.{◌+◌, ◌-◌}
 use Rattle.script_machine.proofs.run.Goals as goal
 
 pub loop-done-preserved : goal.loop-done-preserved

@@ -1,10 +1,8 @@
 use Rattle.script_machine.specs.Machine.{machine_in}
-use Rattle.script_machine.specs.Run.{step_in, run_of, ended}
-use Rattle.script_machine.proofs.Runs.{further, further_none, run_out, run_did, run_stopped}
-use borrow.Author.Rules.{rules}
-use native.Mathlib.Omega.{arith}
-use mathlib.Core.Path.{◌≡◌, sym, ap, ◌∙◌}
-use Prim.Native.Nat.{ℕ, ◌+◌, ◌-◌, ◌≤◌}
+use Rattle.script_machine.specs.Run.{run_of}
+use Rattle.script_machine.proofs.Runs.{further}
+use mathlib.Core.Path.{◌≡◌}
+use Prim.Native.Nat.{◌-◌, ◌≤◌}
 use Rattle.script_machine.proofs.run.Given as goal
 
 abbrev pub invariant-loop-done : goal.invariant-loop-done

@@ -1,6 +1,5 @@
 use mathlib.Core.Path.{refl}
 use Rattle.script_machine.proofs.Local.{set_up_done, set_up_refused}
-use borrow.Author.Rules.{rules}
 use Rattle.script_machine.proofs.set_up.Goals as goal
 
 pub returns-then-number-eq0 : goal.returns-then-number-eq0

@@ -1,7 +1,6 @@
 use mathlib.Core.Path.{sym, ◌∙◌}
 use Rattle.script_machine.specs.Machine.{machine_in}
 use Rattle.script_machine.proofs.Steps.{step_did, step_bad, step_end}
-use borrow.Author.Rules.{rules}
 use Rattle.script_machine.proofs.step.Goals as goal
 
 pub returns-in-Good : goal.returns-in-Good

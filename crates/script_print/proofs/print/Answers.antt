@@ -1,4 +1,3 @@
-use borrow.Author.Rules.{rules}
 use Rattle.script_print.proofs.Printing.{printed_new}
 use Rattle.script_print.proofs.print.Goals as goal
 

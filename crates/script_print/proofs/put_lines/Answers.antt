@@ -1,11 +1,9 @@
 use Prim.Native.Nat.{◌-◌}
-use lib.ListN.{length}
 use native.Mathlib.Omega.{arith}
-use borrow.Author.Rules.{rules}
 use Rattle.script_machine.specs.Machine.{machine_in}
 use Rattle.script_machine.specs.Run.{step_in}
 use Rattle.script_machine.proofs.Places.{did_lies}
-use Rattle.script_print.proofs.Printing.{Printing, printing_none, printing_did, printed_stopped, ran_stopped, printed_fits}
+use Rattle.script_print.proofs.Printing.{printing_none, printing_did, printed_stopped, ran_stopped, printed_fits}
 use Rattle.script_print.proofs.put_lines.Goals as goal
 
 pub loop-tag-init : goal.loop-tag-init

@@ -1,8 +1,6 @@
 use mathlib.Core.Path.{refl}
-use native.Mathlib.Omega.{arith}
 use borrow.Author.Rules.{rules}
-use borrow.Author.Tests.{not-true, not-false}
-use Rattle.io.proofs.Counting.{prefix_len_of_le}
+use borrow.Author.Tests.{not-false}
 use Rattle.script_resume.proofs.Going.{started_as, printed_from_start, left_from_start, saved_all, saved_counts}
 use Rattle.script_resume.proofs.go_on.Goals as goal
 

@@ -1,5 +1,4 @@
 use mathlib.Core.Path.{refl}
-use borrow.Author.Rules.{rules}
 use borrow.Author.Tests.{eq-eqb, ne_eqb}
 use Rattle.script_resume.proofs.Starting.{start_new, start_took, start_refused}
 use Rattle.script_resume.proofs.start.Goals as goal

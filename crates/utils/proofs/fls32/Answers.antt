@@ -1,4 +1,4 @@
-use Rattle.std.proofs.Common.{arith, rules, eq-eqb, ne_eqb}
+use Rattle.std.proofs.Common.{arith, rules, ne_eqb}
 use Rattle.utils.proofs.Bits.{leading_highest}
 use Rattle.utils.specs.Set.{last_set32}
 use Rattle.utils.proofs.fls32.Goals as goal

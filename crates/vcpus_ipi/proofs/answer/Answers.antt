@@ -1,5 +1,4 @@
 use Rattle.vcpus_ipi.specs.Steps.{answered}
-use borrow.Author.Rules.{rules}
 use Rattle.vcpus_ipi.proofs.answer.Goals as goal
 
 pub returns-in-Nothing : goal.returns-in-Nothing

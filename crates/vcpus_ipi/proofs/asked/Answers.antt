@@ -1,5 +1,4 @@
 use Rattle.vcpus_ipi.specs.Steps.{asked}
-use borrow.Author.Rules.{rules}
 use Rattle.vcpus_ipi.proofs.asked.Goals as goal
 
 pub returns : goal.returns

@@ -1,7 +1,6 @@
 use Rattle.vcpus_ipi.specs.Ipi.{becomes}
 use Rattle.vcpus_ipi.specs.Steps.{changed_by}
 use borrow.Author.Tests.{eq-eqb, ne_eqb}
-use borrow.Author.Rules.{rules}
 use Rattle.vcpus_ipi.proofs.changed.Goals as goal
 
 pub returns-then-place-effect : goal.returns-then-place-effect

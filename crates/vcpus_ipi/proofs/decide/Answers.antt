@@ -1,5 +1,4 @@
 use Rattle.vcpus_ipi.specs.Steps.{decided}
-use borrow.Author.Rules.{rules}
 use Rattle.vcpus_ipi.proofs.decide.Goals as goal
 
 pub returns-then-is_outside : goal.returns-then-is_outside

@@ -1,6 +1,5 @@
 use Rattle.vcpus_ipi.proofs.Members.{cluster_16}
 use Rattle.utils.specs.Cases.{cases}
-use borrow.Author.Rules.{rules}
 use Rattle.vcpus_ipi.proofs.is_in_cluster16.Goals as goal
 
 pub returns-then-id-dest : goal.returns-then-id-dest

@@ -1,5 +1,4 @@
 use Rattle.vcpus_ipi.specs.Steps.{seen_by}
-use borrow.Author.Rules.{rules}
 use Rattle.vcpus_ipi.proofs.seen.Goals as goal
 
 pub returns : goal.returns

@@ -1,5 +1,4 @@
-use Rattle.vioapic.proofs.Ways.{fits_sum, range_fits, range_wide}
-use borrow.Author.Rules.{rules}
+use Rattle.vioapic.proofs.Ways.{range_fits, range_wide}
 use Rattle.vioapic.proofs.address_range.Goals as goal
 
 pub returns-then-fits : goal.returns-then-fits

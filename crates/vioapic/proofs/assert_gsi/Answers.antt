@@ -1,5 +1,4 @@
 use Rattle.vioapic.proofs.Ways.{assert_in, assert_out}
-use borrow.Author.Rules.{rules}
 use Rattle.vioapic.proofs.assert_gsi.Goals as goal
 
 pub returns-then-g-lt-ENTRIES : goal.returns-then-g-lt-ENTRIES

@@ -1,6 +1,5 @@
 use mathlib.Core.Path.{refl}
 use Rattle.vioapic.specs.State.{view}
-use borrow.Author.Rules.{rules}
 use Rattle.vioapic.proofs.base.Goals as goal
 
 pub returns : goal.returns

@@ -1,6 +1,5 @@
-use Rattle.vioapic.proofs.Entries.{irr_of, level_of, word_down, ended_up, ended_quiet, ended_deferred}
-use Rattle.vioapic.proofs.Entries.{word_down, ended_up, ended_quiet, ended_deferred}
-use borrow.Author.Rules.{rules}
+use Rattle.vioapic.proofs.Entries.{ended_up, ended_quiet, ended_deferred}
+use Rattle.vioapic.proofs.Entries.{ended_up, ended_quiet, ended_deferred}
 use Rattle.vioapic.proofs.end.Goals as goal
 
 pub returns-then-is_up : goal.returns-then-is_up

@@ -1,6 +1,5 @@
-use Rattle.vioapic.proofs.Entries.{irr_of, level_of, word_down, ended20_deferred, ended20_up, ended20_quiet}
-use Rattle.vioapic.proofs.Entries.{word_down, ended20_deferred, ended20_up, ended20_quiet}
-use borrow.Author.Rules.{rules}
+use Rattle.vioapic.proofs.Entries.{ended20_deferred, ended20_up, ended20_quiet}
+use Rattle.vioapic.proofs.Entries.{ended20_deferred, ended20_up, ended20_quiet}
 use Rattle.vioapic.proofs.end20.Goals as goal
 
 pub returns-then-is_deferred : goal.returns-then-is_deferred

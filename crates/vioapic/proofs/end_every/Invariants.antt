@@ -1,8 +1,6 @@
 use Prim.Native.Nat.{◌<◌, ◌^◌}
 use Rattle.vioapic.specs.Inside.{Keeps}
-use Rattle.vioapic.proofs.Flight.{left_index, left_bit, left_less, left_small}
-use Rattle.vioapic.proofs.Every.{LeftToDo, turns_begin, next_turn, all_turns}
-use borrow.Author.Rules.{rules}
+use Rattle.vioapic.proofs.Every.{LeftToDo}
 use Rattle.vioapic.proofs.end_every.Given as goal
 
 abbrev pub invariant-loop-left : goal.invariant-loop-left

@@ -1,5 +1,4 @@
 use Rattle.vioapic.proofs.Ways.{end_20, end_11}
-use borrow.Author.Rules.{rules}
 use Rattle.vioapic.proofs.end_of_interrupt.Goals as goal
 
 pub returns-then-is_version_20 : goal.returns-then-is_version_20

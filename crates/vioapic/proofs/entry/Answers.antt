@@ -1,5 +1,4 @@
 use Rattle.vioapic.proofs.Words.{entry_past}
-use borrow.Author.Rules.{rules}
 use Rattle.vioapic.proofs.entry.Goals as goal
 
 pub returns : goal.returns

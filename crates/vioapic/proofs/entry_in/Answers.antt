@@ -1,5 +1,4 @@
 use Rattle.vioapic.proofs.Words.{entry_is}
-use borrow.Author.Rules.{rules}
 use Rattle.vioapic.proofs.entry_in.Goals as goal
 
 pub returns : goal.returns

@@ -1,8 +1,5 @@
-use Prim.Native.Nat.{◌<◌, ◌^◌}
-use mathlib.Core.Path.{◌≡◌, ap}
 use Rattle.utils.specs.Cases.{so}
-use Rattle.vioapic.specs.State.{view}
-use Rattle.vioapic.proofs.Flight.{awaiting_in, left_index, left_bit, left_less, left_small, search_on, search_found, search_done}
+use Rattle.vioapic.proofs.Flight.{left_index, left_bit, left_less, left_small, search_on, search_found, search_done}
 use borrow.Author.Rules.{rules}
 use Rattle.vioapic.proofs.first_awaiting.Goals as goal
 

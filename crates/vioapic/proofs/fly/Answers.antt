@@ -1,5 +1,4 @@
 use Rattle.vioapic.proofs.Entries.{fly_is}
-use borrow.Author.Rules.{rules}
 use Rattle.vioapic.proofs.fly.Goals as goal
 
 pub returns : goal.returns

@@ -1,6 +1,5 @@
 use Rattle.vioapic.proofs.Entries.{ground_flying, ground_still}
 use Rattle.utils.specs.Cases.{so}
-use borrow.Author.Rules.{rules}
 use Rattle.vioapic.proofs.ground.Goals as goal
 
 pub returns-then-remote_irr : goal.returns-then-remote_irr

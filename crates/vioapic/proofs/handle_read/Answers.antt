@@ -1,5 +1,4 @@
-use Rattle.vioapic.proofs.Ways.{read_eight, read_four, read_width}
-use borrow.Author.Rules.{rules}
+use Rattle.vioapic.proofs.Ways.{read_eight, read_width}
 use Rattle.vioapic.proofs.handle_read.Goals as goal
 
 pub returns-then-width-eq8 : goal.returns-then-width-eq8

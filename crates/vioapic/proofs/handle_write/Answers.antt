@@ -1,5 +1,4 @@
-use Rattle.vioapic.proofs.Ways.{write_below, write_selects, write_served, write_width}
-use borrow.Author.Rules.{rules}
+use Rattle.vioapic.proofs.Ways.{write_selects, write_served}
 use Rattle.vioapic.proofs.handle_write.Goals as goal
 
 pub returns-then-addr-start : goal.returns-then-addr-start

@@ -1,7 +1,6 @@
 use native.Mathlib.Omega.{arith}
 use mathlib.Core.Path.{refl}
 use Rattle.vioapic.specs.State.{view}
-use borrow.Author.Rules.{rules}
 use Rattle.vioapic.proofs.in_flight.Goals as goal
 
 pub returns : goal.returns

@@ -1,6 +1,4 @@
-use Rattle.utils.specs.Cases.{so_is}
 use Rattle.vioapic.proofs.Entries.{sent_unfit, sent_edge, sent_later, sent_level}
-use borrow.Author.Rules.{rules}
 use Rattle.vioapic.proofs.interrupt_for_entry.Goals as goal
 
 pub returns-then-not-is_fit : goal.returns-then-not-is_fit

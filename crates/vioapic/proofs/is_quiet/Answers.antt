@@ -1,5 +1,4 @@
-use Rattle.vioapic.proofs.Entries.{not_quiet, quiet}
-use borrow.Author.Rules.{rules}
+use Rattle.vioapic.proofs.Entries.{quiet}
 use Rattle.vioapic.proofs.is_quiet.Goals as goal
 
 pub returns : goal.returns

@@ -1,5 +1,4 @@
 use Rattle.vioapic.proofs.Ways.{version_is}
-use borrow.Author.Rules.{rules}
 use Rattle.vioapic.proofs.is_version_20.Goals as goal
 
 pub returns : goal.returns

@@ -1,6 +1,5 @@
 use Rattle.vioapic.proofs.Entries.{laid_again, laid_edge, laid_level, laid_none, laid_still, unflown}
-use Rattle.vioapic.proofs.Ways.{entry_by_half, half_from}
-use borrow.Author.Rules.{rules}
+use Rattle.vioapic.proofs.Ways.{entry_by_half}
 use Rattle.vioapic.proofs.lay.Goals as goal
 
 pub returns-then-not-remote_irr : goal.returns-then-not-remote_irr

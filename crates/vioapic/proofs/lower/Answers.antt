@@ -1,5 +1,4 @@
 use Rattle.vioapic.proofs.Entries.{lowered, lowered_plain}
-use borrow.Author.Rules.{rules}
 use Rattle.vioapic.proofs.lower.Goals as goal
 
 pub returns-then-is_deferred : goal.returns-then-is_deferred

@@ -1,5 +1,4 @@
 use Rattle.vioapic.proofs.Ways.{new_wide, new_done}
-use borrow.Author.Rules.{rules}
 use Rattle.vioapic.proofs.new_version.Goals as goal
 
 pub returns-then-not-fits : goal.returns-then-not-fits

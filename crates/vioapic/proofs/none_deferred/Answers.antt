@@ -1,5 +1,4 @@
 use Rattle.vioapic.proofs.Entries.{none_deferred}
-use borrow.Author.Rules.{rules}
 use Rattle.vioapic.proofs.none_deferred.Goals as goal
 
 pub returns : goal.returns

@@ -1,5 +1,4 @@
-use Rattle.vioapic.proofs.Entries.{raised_again, word_up, raised_still, raised_flying}
-use borrow.Author.Rules.{rules}
+use Rattle.vioapic.proofs.Entries.{raised_again, raised_still, raised_flying}
 use Rattle.vioapic.proofs.raise.Goals as goal
 
 pub returns-then-not-remote_irr : goal.returns-then-not-remote_irr

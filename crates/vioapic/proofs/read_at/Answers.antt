@@ -1,6 +1,5 @@
 use Rattle.utils.specs.Cases.{cases}
 use Rattle.vioapic.specs.Registers.{read_at}
-use borrow.Author.Rules.{rules}
 use Rattle.vioapic.proofs.read_at.Goals as goal
 
 pub returns-then-offset-eq-IOREGSEL : goal.returns-then-offset-eq-IOREGSEL

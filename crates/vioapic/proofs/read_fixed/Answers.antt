@@ -1,6 +1,5 @@
 use Rattle.utils.specs.Cases.{cases}
 use Rattle.vioapic.specs.Registers.{read_fixed}
-use borrow.Author.Rules.{rules}
 use Rattle.vioapic.proofs.read_fixed.Goals as goal
 
 pub returns-then-selector-eq-IOAPIC_ID : goal.returns-then-selector-eq-IOAPIC_ID

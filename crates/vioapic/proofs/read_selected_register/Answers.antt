@@ -1,6 +1,4 @@
-use Rattle.utils.specs.Cases.{cases}
 use Rattle.vioapic.proofs.Ways.{read_high_word, read_low_word, read_other}
-use borrow.Author.Rules.{rules}
 use Rattle.vioapic.proofs.read_selected_register.Goals as goal
 
 pub returns-then-is_low : goal.returns-then-is_low

@@ -1,5 +1,4 @@
 use Rattle.vioapic.proofs.Ways.{read_below, read_served}
-use borrow.Author.Rules.{rules}
 use Rattle.vioapic.proofs.read_within.Goals as goal
 
 pub returns-then-addr-start : goal.returns-then-addr-start

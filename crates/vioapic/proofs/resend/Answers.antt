@@ -1,5 +1,4 @@
 use Rattle.vioapic.proofs.Entries.{resent_fit, resent_unfit}
-use borrow.Author.Rules.{rules}
 use Rattle.vioapic.proofs.resend.Goals as goal
 
 pub returns-then-is_fit : goal.returns-then-is_fit

@@ -1,5 +1,4 @@
 use Rattle.vioapic.proofs.Entries.{rest_is}
-use borrow.Author.Rules.{rules}
 use Rattle.vioapic.proofs.rest.Goals as goal
 
 pub returns : goal.returns

@@ -1,5 +1,4 @@
 use Rattle.vioapic.proofs.Ways.{at_select}
-use borrow.Author.Rules.{rules}
 use Rattle.vioapic.proofs.select.Goals as goal
 
 pub returns : goal.returns

@@ -1,5 +1,4 @@
 use Rattle.vioapic.proofs.Entries.{set_deferred_is}
-use borrow.Author.Rules.{rules}
 use Rattle.vioapic.proofs.set_deferred.Goals as goal
 
 pub returns : goal.returns

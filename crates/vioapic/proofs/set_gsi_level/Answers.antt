@@ -1,5 +1,4 @@
 use Rattle.vioapic.proofs.Ways.{level_up, level_down, level_out}
-use borrow.Author.Rules.{rules}
 use Rattle.vioapic.proofs.set_gsi_level.Goals as goal
 
 pub returns-then-asserted : goal.returns-then-asserted

@@ -1,5 +1,4 @@
 use Rattle.vioapic.proofs.Ways.{vector_in_lem, vector_out}
-use borrow.Author.Rules.{rules}
 use Rattle.vioapic.proofs.vector_for_gsi.Goals as goal
 
 pub returns-then-g-lt-ENTRIES : goal.returns-then-g-lt-ENTRIES

@@ -1,5 +1,4 @@
 use Rattle.vioapic.proofs.Ways.{version_held}
-use borrow.Author.Rules.{rules}
 use Rattle.vioapic.proofs.version.Goals as goal
 
 pub returns : goal.returns

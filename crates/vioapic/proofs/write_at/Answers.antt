@@ -1,5 +1,4 @@
 use Rattle.vioapic.proofs.Ways.{at_eoi, at_none, at_window_lem}
-use borrow.Author.Rules.{rules}
 use Rattle.vioapic.proofs.write_at.Goals as goal
 
 pub returns-then-offset-eq-IOEOI : goal.returns-then-offset-eq-IOEOI

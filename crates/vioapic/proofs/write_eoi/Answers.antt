@@ -1,5 +1,4 @@
 use Rattle.vioapic.proofs.Ways.{eoi_old, eoi_written_lem}
-use borrow.Author.Rules.{rules}
 use Rattle.vioapic.proofs.write_eoi.Goals as goal
 
 pub returns-then-not-is_version_20 : goal.returns-then-not-is_version_20

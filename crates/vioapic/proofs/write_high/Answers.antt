@@ -1,5 +1,4 @@
 use Rattle.vioapic.proofs.Entries.{write_high_is}
-use borrow.Author.Rules.{rules}
 use Rattle.vioapic.proofs.write_high.Goals as goal
 
 pub returns : goal.returns

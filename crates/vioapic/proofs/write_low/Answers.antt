@@ -1,5 +1,4 @@
-use Rattle.vioapic.proofs.Entries.{irr_low_of, low_anew_none, low_same_none, low_written_anew, low_written_masked, low_written_same, word_down}
-use borrow.Author.Rules.{rules}
+use Rattle.vioapic.proofs.Entries.{low_anew_none, low_same_none, low_written_anew, low_written_masked, low_written_same}
 use Rattle.vioapic.proofs.write_low.Goals as goal
 
 pub returns-then-not-same_low : goal.returns-then-not-same_low

@@ -1,6 +1,4 @@
-use Rattle.utils.specs.Cases.{cases}
 use Rattle.vioapic.proofs.Ways.{write_low_word20, write_low_word, write_high_word, write_other}
-use borrow.Author.Rules.{rules}
 use Rattle.vioapic.proofs.write_selected_register.Goals as goal
 
 pub returns-then-is_version_20 : goal.returns-then-is_version_20

@@ -1,5 +1,4 @@
 use Rattle.vioapic_c.proofs.Ways.{range_between, range_none}
-use borrow.Author.Rules.{rules}
 use Rattle.vioapic_c.proofs.sillwander_ioapic_address_range.Goals as goal
 
 pub returns-in-Between : goal.returns-in-Between

@@ -1,5 +1,4 @@
 use Rattle.vioapic_c.proofs.Ways.{end_wide, end_coded}
-use borrow.Author.Rules.{rules}
 use Rattle.vioapic_c.proofs.sillwander_ioapic_end_of_interrupt.Goals as goal
 
 pub returns-then-vector-ge256 : goal.returns-then-vector-ge256

@@ -1,5 +1,4 @@
 use Rattle.vioapic_c.proofs.Ways.{write_coded}
-use borrow.Author.Rules.{rules}
 use Rattle.vioapic_c.proofs.sillwander_ioapic_handle_write.Goals as goal
 
 pub returns : goal.returns

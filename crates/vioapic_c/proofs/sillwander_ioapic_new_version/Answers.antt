@@ -1,5 +1,4 @@
 use Rattle.vioapic_c.proofs.Ways.{new_unknown, new_known}
-use borrow.Author.Rules.{rules}
 use Rattle.vioapic_c.proofs.sillwander_ioapic_new_version.Goals as goal
 
 pub returns-then-not-is_version : goal.returns-then-not-is_version

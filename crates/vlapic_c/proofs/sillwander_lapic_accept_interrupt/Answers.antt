@@ -1,5 +1,4 @@
 use Rattle.vlapic_c.proofs.Ways.{accept_wide, accept_code}
-use borrow.Author.Rules.{rules}
 use Rattle.vlapic_c.proofs.sillwander_lapic_accept_interrupt.Goals as goal
 
 pub returns-then-vector-gt255 : goal.returns-then-vector-gt255

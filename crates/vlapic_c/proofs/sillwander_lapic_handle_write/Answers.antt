@@ -1,5 +1,4 @@
 use Rattle.vlapic_c.proofs.Ways.{write_wide, write_code}
-use borrow.Author.Rules.{rules}
 use Rattle.vlapic_c.proofs.sillwander_lapic_handle_write.Goals as goal
 
 pub returns-then-width-gt255 : goal.returns-then-width-gt255

@@ -1,6 +1,5 @@
 use Rattle.vlapic_icr.specs.Icr.{self_ipi}
 use borrow.Author.Tests.{lt-ltb, le-ltb}
-use borrow.Author.Rules.{rules}
 use Rattle.vlapic_icr.proofs.handle_self_ipi.Goals as goal
 
 pub returns-then-vector-lt16 : goal.returns-then-vector-lt16

@@ -1,6 +1,5 @@
 use native.Mathlib.Omega.{arith}
 use Rattle.vlapic_requests.proofs.Ways.{accept_yes, accept_no}
-use borrow.Author.Rules.{rules}
 use Rattle.vlapic_requests.proofs.accept.Goals as goal
 
 pub returns-then-prio : goal.returns-then-prio

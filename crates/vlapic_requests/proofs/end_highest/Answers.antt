@@ -1,6 +1,5 @@
 use native.Mathlib.Omega.{arith}
 use Rattle.vlapic_requests.proofs.Ways.{end_none, end_told, end_silent}
-use borrow.Author.Rules.{rules}
 use Rattle.vlapic_requests.proofs.end_highest.Goals as goal
 
 pub returns-then-vector-eq0 : goal.returns-then-vector-eq0

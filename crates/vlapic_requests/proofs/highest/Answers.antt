@@ -1,7 +1,6 @@
-use borrow.Author.Rules.{rules}
-use Prim.Native.Nat.{◌+◌, ◌-◌, ◌≤◌}
+use Prim.Native.Nat.{◌+◌, ◌-◌}
 use native.Mathlib.Omega.{arith}
-use Rattle.vlapic_requests.proofs.Search.{Above, above_8, down, empty, found_low, found, none}
+use Rattle.vlapic_requests.proofs.Search.{above_8, down, empty, found_low, found, none}
 use Rattle.vlapic_requests.proofs.highest.Goals as goal
 
 pub loop-w-init : goal.loop-w-init

@@ -1,7 +1,5 @@
-use borrow.Author.Rules.{rules}
-use Prim.Native.Nat.{◌+◌, ◌-◌, ◌≤◌}
-use native.Mathlib.Omega.{arith}
-use Rattle.vlapic_requests.proofs.Search.{Above, above_8, down, empty, found_low, found, none}
+use Prim.Native.Nat.{◌-◌, ◌≤◌}
+use Rattle.vlapic_requests.proofs.Search.{Above}
 use Rattle.vlapic_requests.proofs.highest.Given as goal
 
 abbrev pub invariant-loop-w : goal.invariant-loop-w

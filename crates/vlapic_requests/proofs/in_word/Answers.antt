@@ -1,6 +1,5 @@
 use native.Mathlib.Omega.{arith}
 use Rattle.vlapic_requests.proofs.Search.{small}
-use borrow.Author.Rules.{rules}
 use Rattle.vlapic_requests.proofs.in_word.Goals as goal
 
 pub overflow_cast-result-2 : goal.overflow_cast-result-2

@@ -1,5 +1,4 @@
 use Rattle.vlapic_requests.proofs.Ways.{receive_low, receive_legal}
-use borrow.Author.Rules.{rules}
 use Rattle.vlapic_requests.proofs.receive.Goals as goal
 
 pub returns-then-vector-lt-LOWEST : goal.returns-then-vector-lt-LOWEST

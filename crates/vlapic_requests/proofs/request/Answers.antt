@@ -1,5 +1,4 @@
 use Rattle.vlapic_requests.proofs.Ways.{request_way}
-use borrow.Author.Rules.{rules}
 use Rattle.vlapic_requests.proofs.request.Goals as goal
 
 pub returns : goal.returns

@@ -1,5 +1,4 @@
 use Rattle.vlapic_requests.proofs.Ways.{tpr_way}
-use borrow.Author.Rules.{rules}
 use Rattle.vlapic_requests.proofs.write_tpr.Goals as goal
 
 pub returns : goal.returns

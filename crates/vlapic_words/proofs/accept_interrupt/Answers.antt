@@ -1,5 +1,4 @@
 use Rattle.vlapic_words.proofs.Ways.{accept_way}
-use borrow.Author.Rules.{rules}
 use Rattle.vlapic_words.proofs.accept_interrupt.Goals as goal
 
 pub returns : goal.returns

@@ -1,7 +1,4 @@
-use mathlib.Core.Path.{refl}
-use Rattle.vlapic_words.proofs.Ways.{same}
 use Rattle.vlapic_words.specs.Words.{view}
-use borrow.Author.Rules.{rules}
 use Rattle.vlapic_words.proofs.answer.Goals as goal
 
 pub returns-in-SendIllegalVector : goal.returns-in-SendIllegalVector

@@ -1,5 +1,4 @@
-use Rattle.vlapic_words.proofs.Search.{found_7, found_6, found_5, or_last_2, found_4, found_3, found_2, found_1, found_none}
-use borrow.Author.Rules.{rules}
+use Rattle.vlapic_words.proofs.Search.{found_7, found_6, found_5, found_4, found_3, found_2, found_1, found_none}
 use Rattle.vlapic_words.proofs.find_isrv.Goals as goal
 
 pub returns-then-w7-ne0 : goal.returns-then-w7-ne0

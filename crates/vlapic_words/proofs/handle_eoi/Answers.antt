@@ -1,6 +1,5 @@
 use native.Mathlib.Omega.{arith}
 use Rattle.vlapic_words.proofs.Ways.{eoi_none, eoi_told, eoi_silent}
-use borrow.Author.Rules.{rules}
 use Rattle.vlapic_words.proofs.handle_eoi.Goals as goal
 
 pub returns-then-vector-eq0 : goal.returns-then-vector-eq0

@@ -1,5 +1,4 @@
-use borrow.Author.Rules.{rules}
-use Rattle.vlapic_words.proofs.Ways.{write_range, in_range_is, write_even, write_odd}
+use Rattle.vlapic_words.proofs.Ways.{write_range, in_range_is, write_odd}
 use Rattle.vlapic_words.proofs.handle_write.Goals as goal
 
 pub returns-then-is_out_of_range : goal.returns-then-is_out_of_range

@@ -1,5 +1,4 @@
 use Rattle.vlapic_words.proofs.Ways.{new_way}
-use borrow.Author.Rules.{rules}
 use Rattle.vlapic_words.proofs.new.Goals as goal
 
 pub returns : goal.returns

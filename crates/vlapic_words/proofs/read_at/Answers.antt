@@ -4,7 +4,6 @@ use Rattle.vlapic.specs.Registers.{handle_read}
 use Rattle.vlapic.proofs.Offsets.{onto, apart}
 use Rattle.vlapic_words.specs.Words.{view}
 use Rattle.vlapic_words.proofs.Ways.{read_keys, from_13, read_vectors, read_none}
-use borrow.Author.Rules.{rules}
 use Rattle.vlapic_words.proofs.read_at.Goals as goal
 
 pub returns-in-2 : goal.returns-in-2

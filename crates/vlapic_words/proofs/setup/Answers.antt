@@ -1,5 +1,4 @@
 use Rattle.vlapic_words.proofs.Ways.{setup_out, setup_in}
-use borrow.Author.Rules.{rules}
 use Rattle.vlapic_words.proofs.setup.Goals as goal
 
 pub returns-then-is_out_of_range : goal.returns-then-is_out_of_range

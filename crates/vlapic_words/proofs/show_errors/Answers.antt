@@ -1,5 +1,4 @@
 use Rattle.vlapic_words.proofs.Ways.{errors_way}
-use borrow.Author.Rules.{rules}
 use Rattle.vlapic_words.proofs.show_errors.Goals as goal
 
 pub returns : goal.returns

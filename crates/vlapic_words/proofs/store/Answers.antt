@@ -1,5 +1,4 @@
 use Rattle.vlapic_words.proofs.Ways.{store_way}
-use borrow.Author.Rules.{rules}
 use Rattle.vlapic_words.proofs.store.Goals as goal
 
 pub returns : goal.returns

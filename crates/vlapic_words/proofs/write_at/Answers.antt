@@ -1,4 +1,3 @@
-use borrow.Author.Rules.{rules}
 use Rattle.vlapic_words.proofs.Ways.{at_eoi, at_icr, at_self, at_rest}
 use Rattle.vlapic_words.proofs.write_at.Goals as goal
 

@@ -1,5 +1,4 @@
 use Rattle.vlapic_words.proofs.Ways.{write_eoi_none, write_eoi_some}
-use borrow.Author.Rules.{rules}
 use Rattle.vlapic_words.proofs.write_eoi.Goals as goal
 
 pub returns-then-vector-eq0 : goal.returns-then-vector-eq0

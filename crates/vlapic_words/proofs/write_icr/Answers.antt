@@ -1,6 +1,5 @@
 use native.Mathlib.Omega.{arith}
 use Rattle.vlapic_words.proofs.Ways.{icr_way}
-use borrow.Author.Rules.{rules}
 use Rattle.vlapic_words.proofs.write_icr.Goals as goal
 
 pub returns : goal.returns

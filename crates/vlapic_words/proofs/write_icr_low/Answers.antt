@@ -1,5 +1,4 @@
 use Rattle.vlapic_words.proofs.Ways.{icr_in, icr_out}
-use borrow.Author.Rules.{rules}
 use Rattle.vlapic_words.proofs.write_icr_low.Goals as goal
 
 pub returns-then-is_icr_width : goal.returns-then-is_icr_width

@@ -3,7 +3,6 @@ use mathlib.Core.Path.{refl}
 use Rattle.vlapic.specs.Registers.{stored, write_stored}
 use Rattle.vlapic.proofs.Offsets.{onto, apart}
 use Rattle.vlapic_words.proofs.Ways.{same, store_keys, store_none}
-use borrow.Author.Rules.{rules}
 use Rattle.vlapic_words.proofs.write_register.Goals as goal
 
 pub returns-in-2 : goal.returns-in-2

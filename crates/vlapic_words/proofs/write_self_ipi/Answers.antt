@@ -1,5 +1,4 @@
 use Rattle.vlapic_words.proofs.Ways.{self_in, self_out}
-use borrow.Author.Rules.{rules}
 use Rattle.vlapic_words.proofs.write_self_ipi.Goals as goal
 
 pub returns-then-is_x2apic : goal.returns-then-is_x2apic

@@ -1,5 +1,4 @@
 use Rattle.vpic.proofs.Full.{irq_plain, irq_full}
-use borrow.Author.Rules.{rules}
 use Rattle.vpic.proofs.claim_irq.Goals as goal
 
 pub returns-then-is_full : goal.returns-then-is_full

@@ -1,6 +1,4 @@
-use Rattle.vpic.proofs.Laws.{pending_reply_lem}
 use Rattle.vpic.proofs.Full.{quiet_reply}
-use borrow.Author.Rules.{rules}
 use Rattle.vpic.proofs.claim_pending_interrupt.Goals as goal
 
 pub returns-then-is_quiet : goal.returns-then-is_quiet

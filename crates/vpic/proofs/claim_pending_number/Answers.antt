@@ -1,5 +1,4 @@
-use Rattle.vpic.proofs.Full.{quiet_number, claim_numbered}
-use borrow.Author.Rules.{rules}
+use Rattle.vpic.proofs.Full.{quiet_number}
 use Rattle.vpic.proofs.claim_pending_number.Goals as goal
 
 pub returns-then-is_quiet : goal.returns-then-is_quiet

@@ -1,5 +1,4 @@
 use mathlib.Core.Path.{refl}
-use Rattle.vpic.proofs.Laws.{place_known}
 use Rattle.vpic.proofs.Full.{full_claim_master, full_claim_slave, full_claim_none}
 use borrow.Author.Rules.{rules}
 use Rattle.vpic.proofs.full_claim_pending.Goals as goal

@@ -1,6 +1,5 @@
-use Rattle.vpic.proofs.Laws.{latch_master, latch_slave, latch_nowhere}
+use Rattle.vpic.proofs.Laws.{latch_master, latch_slave}
 use Rattle.vpic_chip.proofs.Full.{full_pulsed}
-use borrow.Author.Rules.{rules}
 use Rattle.vpic.proofs.full_latch.Goals as goal
 
 pub returns-in-Master : goal.returns-in-Master

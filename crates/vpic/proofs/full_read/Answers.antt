@@ -1,5 +1,4 @@
 use Rattle.vpic.proofs.Laws.{full_master_command, full_master_data, full_slave_command, full_slave_data, full_no_port, full_status}
-use borrow.Author.Rules.{rules}
 use Rattle.vpic.proofs.full_read.Goals as goal
 
 pub returns-then-port : goal.returns-then-port

@@ -1,5 +1,4 @@
 use Rattle.vpic.proofs.Laws.{read_unpolled_master, read_polled_master}
-use borrow.Author.Rules.{rules}
 use Rattle.vpic.proofs.full_read_master.Goals as goal
 
 pub returns-then-not-poll : goal.returns-then-not-poll

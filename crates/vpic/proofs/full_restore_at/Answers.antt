@@ -1,6 +1,5 @@
-use Rattle.vpic.proofs.Laws.{back_master, back_slave, back_nowhere}
+use Rattle.vpic.proofs.Laws.{back_master, back_slave}
 use Rattle.vpic_chip.proofs.Full.{full_back}
-use borrow.Author.Rules.{rules}
 use Rattle.vpic.proofs.full_restore_at.Goals as goal
 
 pub returns-in-Master : goal.returns-in-Master

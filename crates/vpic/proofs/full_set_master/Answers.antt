@@ -1,6 +1,5 @@
 use native.Mathlib.Omega.{arith}
 use Rattle.vpic.proofs.Full.{full_master_set}
-use borrow.Author.Rules.{rules}
 use Rattle.vpic.proofs.full_set_master.Goals as goal
 
 pub returns : goal.returns

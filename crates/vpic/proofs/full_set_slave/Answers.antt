@@ -1,6 +1,5 @@
 use native.Mathlib.Omega.{arith}
 use Rattle.vpic.proofs.Full.{full_slave_set}
-use borrow.Author.Rules.{rules}
 use Rattle.vpic.proofs.full_set_slave.Goals as goal
 
 pub returns : goal.returns

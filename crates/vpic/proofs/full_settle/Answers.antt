@@ -1,6 +1,5 @@
 use Rattle.vpic.proofs.Full.{full_settle_off, full_settle_on}
 use Rattle.vpic_chip.proofs.Full.{full_driven}
-use borrow.Author.Rules.{rules}
 use Rattle.vpic.proofs.full_settle.Goals as goal
 
 pub returns-then-not-is_cascade : goal.returns-then-not-is_cascade

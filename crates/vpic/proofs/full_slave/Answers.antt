@@ -1,6 +1,5 @@
 use mathlib.Core.Path.{refl}
 use Rattle.vpic.specs.Words.{full_view}
-use borrow.Author.Rules.{rules}
 use Rattle.vpic.proofs.full_slave.Goals as goal
 
 pub returns : goal.returns

@@ -1,6 +1,5 @@
 use Rattle.vpic.proofs.Laws.{write_master_command, write_master_data, write_slave_command, write_slave_data, write_none}
 use Rattle.vpic_chip.proofs.Full.{placed_command, placed_data}
-use borrow.Author.Rules.{rules}
 use Rattle.vpic.proofs.full_write_at.Goals as goal
 
 pub returns-then-port : goal.returns-then-port

@@ -1,6 +1,4 @@
-use Rattle.utils.specs.Cases.{cases}
 use Rattle.vpic.proofs.Full.{read_full, read_plain}
-use borrow.Author.Rules.{rules}
 use Rattle.vpic.proofs.handle_read.Goals as goal
 
 pub returns-then-is_full : goal.returns-then-is_full

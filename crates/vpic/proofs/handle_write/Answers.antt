@@ -1,6 +1,4 @@
-use Rattle.utils.specs.Cases.{cases}
-use Rattle.vpic.proofs.Full.{write_unknown, write_cut, write_full, write_plain, write_plain_out}
-use borrow.Author.Rules.{rules}
+use Rattle.vpic.proofs.Full.{write_cut, write_full, write_plain, write_plain_out}
 use Rattle.vpic.proofs.handle_write.Goals as goal
 
 pub returns-then-value-ge256 : goal.returns-then-value-ge256

@@ -1,6 +1,5 @@
 use mathlib.Core.Path.{refl}
 use Rattle.vpic.specs.Words.{view}
-use borrow.Author.Rules.{rules}
 use Rattle.vpic.proofs.is_full.Goals as goal
 
 pub returns : goal.returns

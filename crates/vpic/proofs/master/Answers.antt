@@ -1,6 +1,5 @@
 use mathlib.Core.Path.{refl}
 use Rattle.vpic.specs.Words.{plain_view}
-use borrow.Author.Rules.{rules}
 use Rattle.vpic.proofs.master.Goals as goal
 
 pub returns : goal.returns

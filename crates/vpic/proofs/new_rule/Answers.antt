@@ -1,5 +1,4 @@
 use Rattle.vpic.proofs.Laws.{new_done}
-use borrow.Author.Rules.{rules}
 use Rattle.vpic.proofs.new_rule.Goals as goal
 
 pub returns : goal.returns

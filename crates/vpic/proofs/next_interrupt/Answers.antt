@@ -1,6 +1,4 @@
-use Rattle.vpic.proofs.Laws.{pending_vector}
 use Rattle.vpic.proofs.Full.{quiet_vector, unasked_vector, next_plain}
-use borrow.Author.Rules.{rules}
 use Rattle.vpic.proofs.next_interrupt.Goals as goal
 
 pub returns-then-is_quiet : goal.returns-then-is_quiet

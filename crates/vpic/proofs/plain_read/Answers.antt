@@ -1,6 +1,5 @@
 use Rattle.vpic_chip.proofs.Packing.{plain}
-use Rattle.vpic.proofs.Full.{shown_full, shown_master_command, shown_master_data, shown_slave_command, shown_slave_data, shown_nowhere}
-use borrow.Author.Rules.{rules}
+use Rattle.vpic.proofs.Full.{shown_master_command, shown_master_data, shown_slave_command, shown_slave_data, shown_nowhere}
 use Rattle.vpic.proofs.plain_read.Goals as goal
 
 pub returns-then-port : goal.returns-then-port

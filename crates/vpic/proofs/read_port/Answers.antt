@@ -2,7 +2,6 @@ use Rattle.vpic_chip.proofs.Packing.{plain}
 use Rattle.utils.specs.Cases.{cases}
 use Rattle.vpic.specs.Pair.{port_read}
 use Rattle.vpic.proofs.Laws.{read_master_command, read_master_data, read_slave_command, read_slave_data}
-use borrow.Author.Rules.{rules}
 use Rattle.vpic.proofs.read_port.Goals as goal
 
 pub returns-then-port : goal.returns-then-port

@@ -1,6 +1,4 @@
-use Rattle.vpic.proofs.Laws.{restore_out}
 use Rattle.vpic.proofs.Full.{restore_full_low, restore_full, restore_plain}
-use borrow.Author.Rules.{rules}
 use Rattle.vpic.proofs.restore_interrupt.Goals as goal
 
 pub returns-then-irq-lt8 : goal.returns-then-irq-lt8

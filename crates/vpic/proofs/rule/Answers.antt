@@ -1,5 +1,4 @@
 use Rattle.vpic.specs.Words.{plain_view}
-use borrow.Author.Rules.{rules}
 use Rattle.vpic.proofs.rule.Goals as goal
 
 pub returns : goal.returns

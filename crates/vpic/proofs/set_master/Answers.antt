@@ -1,6 +1,5 @@
 use native.Mathlib.Omega.{arith}
 use Rattle.vpic.proofs.Laws.{master_set}
-use borrow.Author.Rules.{rules}
 use Rattle.vpic.proofs.set_master.Goals as goal
 
 pub returns : goal.returns

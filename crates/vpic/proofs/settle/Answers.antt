@@ -1,5 +1,4 @@
 use Rattle.vpic.proofs.Laws.{settle_off, settle_none, settle_on}
-use borrow.Author.Rules.{rules}
 use Rattle.vpic.proofs.settle.Goals as goal
 
 pub returns-then-not-is_cascade : goal.returns-then-not-is_cascade

@@ -1,5 +1,4 @@
 use Rattle.vpic.proofs.Laws.{write_master_command, write_master_data, write_slave_command, write_slave_data, write_none}
-use borrow.Author.Rules.{rules}
 use Rattle.vpic.proofs.write_at.Goals as goal
 
 pub returns-then-port : goal.returns-then-port

@@ -1,5 +1,4 @@
-use Rattle.vpic_c.proofs.Laws.{byte_code, shown_code}
-use borrow.Author.Rules.{rules}
+use Rattle.vpic_c.proofs.Laws.{shown_code}
 use Rattle.vpic_c.proofs.sillwander_pic_handle_read.Goals as goal
 
 pub returns : goal.returns

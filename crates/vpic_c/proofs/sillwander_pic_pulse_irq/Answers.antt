@@ -1,5 +1,4 @@
 use Rattle.vpic_c.proofs.Laws.{pulse_code}
-use borrow.Author.Rules.{rules}
 use Rattle.vpic_c.proofs.sillwander_pic_pulse_irq.Goals as goal
 
 pub returns : goal.returns

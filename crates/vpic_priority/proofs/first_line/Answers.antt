@@ -2,7 +2,6 @@ use mathlib.Core.Path.{◌∙◌}
 use Prim.Native.Nat.{◌%◌}
 use native.Mathlib.Omega.{arith}
 use Rattle.utils.specs.Set.{bit}
-use borrow.Author.Rules.{rules}
 use Rattle.vpic_priority.proofs.Entries.{entries}
 use Rattle.vpic_priority.proofs.Ring.{by_remainder}
 use Rattle.vpic_priority.proofs.First.{entry_ruled}

@@ -1,5 +1,4 @@
 use Rattle.vpic_priority.specs.Ring.{above}
-use borrow.Author.Rules.{rules}
 use Rattle.vpic_priority.proofs.is_above.Goals as goal
 
 pub returns : goal.returns

@@ -1,5 +1,4 @@
 use Rattle.waiting.proofs.Ring.{none_cancelled, oldest_cancelled}
-use borrow.Author.Rules.{rules}
 use Rattle.waiting.proofs.cancel_in.Goals as goal
 
 pub returns-then-k-n : goal.returns-then-k-n

@@ -1,6 +1,4 @@
-use Rattle.waiting.specs.Steps.{Closing}
-use Rattle.waiting.proofs.Ring.{closing_starts, closing_again, closing_ends}
-use borrow.Author.Rules.{rules}
+use Rattle.waiting.proofs.Ring.{closing_again}
 use Rattle.waiting.proofs.close.Goals as goal
 
 pub loop-left-preserved : goal.loop-left-preserved

@@ -1,6 +1,4 @@
 use Rattle.waiting.specs.Steps.{Closing}
-use Rattle.waiting.proofs.Ring.{closing_starts, closing_again, closing_ends}
-use borrow.Author.Rules.{rules}
 use Rattle.waiting.proofs.close.Given as goal
 
 abbrev pub invariant-loop-left : goal.invariant-loop-left

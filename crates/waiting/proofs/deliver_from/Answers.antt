@@ -1,5 +1,4 @@
 use Rattle.waiting.proofs.Ring.{none_delivered, oldest_delivered}
-use borrow.Author.Rules.{rules}
 use Rattle.waiting.proofs.deliver_from.Goals as goal
 
 pub returns-then-n-eq0 : goal.returns-then-n-eq0

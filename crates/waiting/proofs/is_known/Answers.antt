@@ -1,5 +1,4 @@
 use Rattle.waiting.proofs.Lists.{is_known}
-use borrow.Author.Rules.{rules}
 use Rattle.waiting.proofs.is_known.Goals as goal
 
 pub returns : goal.returns

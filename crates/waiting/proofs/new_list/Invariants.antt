@@ -1,7 +1,5 @@
 use Prim.Native.Nat.{◌-◌}
 use Rattle.waiting.specs.Steps.{Cleared}
-use Rattle.waiting.proofs.Ring.{clearing_starts, clearing_again, clearing_ends}
-use borrow.Author.Rules.{rules}
 use Rattle.waiting.proofs.new_list.Given as goal
 
 abbrev pub invariant-loop-k : goal.invariant-loop-k

@@ -1,5 +1,4 @@
 use Rattle.waiting.proofs.Ring.{none_seen, seen}
-use borrow.Author.Rules.{rules}
 use Rattle.waiting.proofs.peek_at.Goals as goal
 
 pub returns-then-k-n : goal.returns-then-k-n

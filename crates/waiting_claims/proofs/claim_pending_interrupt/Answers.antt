@@ -1,7 +1,5 @@
 use Rattle.std.proofs.Common.{ap, not}
 use Rattle.waiting_claims.proofs.Handed.{for_unknown, for_known}
-use Rattle.utils.specs.Cases.{so}
-use borrow.Author.Rules.{rules}
 use Rattle.waiting_claims.proofs.claim_pending_interrupt.Goals as goal
 
 pub returns-then-not-is_known : goal.returns-then-not-is_known

@@ -1,4 +1,4 @@
-use Rattle.waiting_claims.proofs.Handed.{hand_nothing, hand_done, hand_back}
+use Rattle.waiting_claims.proofs.Handed.{hand_done, hand_back}
 use borrow.Author.Rules.{rules}
 use Rattle.waiting_claims.proofs.hand.Goals as goal
 

@@ -1,5 +1,4 @@
 use Rattle.planner.proofs.Leaves.{confined_below, confined_from}
-use borrow.Author.Rules.{rules}
 use Rattle.planner.proofs.shortage.confined.Goals as goal
 
 pub returns-then-lowest-from : goal.returns-then-lowest-from

@@ -1,12 +1,7 @@
 use Rattle.planner.proofs.Loops.{counted_small}
-use Prim.Native.Nat.{◌≤◌, ◌-◌}
-use mathlib.Core.Path.{◌≡◌, refl}
+use Prim.Native.Nat.{◌-◌}
 use native.Mathlib.Omega.{arith}
-use borrow.Author.Rules.{rules}
-use lib.ListN.{length}
-use Rattle.planner.specs.Lines.{count}
 use Rattle.planner.specs.Shortage.{confined}
-use Rattle.planner.proofs.Loops.{counted, counted_all}
 use Rattle.planner.proofs.shortage.count_confined.Goals as goal
 
 pub overflow_add-n : goal.overflow_add-n

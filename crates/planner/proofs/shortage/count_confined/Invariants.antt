@@ -1,12 +1,8 @@
-use Rattle.planner.proofs.Loops.{counted_small}
 use Prim.Native.Nat.{◌≤◌, ◌-◌}
-use mathlib.Core.Path.{◌≡◌, refl}
-use native.Mathlib.Omega.{arith}
-use borrow.Author.Rules.{rules}
+use mathlib.Core.Path.{◌≡◌}
 use lib.ListN.{length}
 use Rattle.planner.specs.Lines.{count}
 use Rattle.planner.specs.Shortage.{confined}
-use Rattle.planner.proofs.Loops.{counted, counted_all}
 use Rattle.planner.proofs.shortage.count_confined.Given as goal
 
 abbrev pub invariant-loop-k : goal.invariant-loop-k

@@ -1,11 +1,8 @@
 use Rattle.planner.proofs.Loops.{counted_small}
-use Prim.Native.Nat.{◌≤◌, ◌-◌}
-use mathlib.Core.Path.{◌≡◌, refl}
+use Prim.Native.Nat.{◌-◌}
 use native.Mathlib.Omega.{arith}
-use borrow.Author.Rules.{rules}
-use Rattle.planner.specs.Lines.{count}
 use Rattle.planner.specs.Shortage.{free_within}
-use Rattle.planner.proofs.Loops.{counted, counted_all}
+use Rattle.planner.proofs.Loops.{counted_all}
 use Rattle.planner.proofs.shortage.count_free.Goals as goal
 
 pub overflow_add-n : goal.overflow_add-n

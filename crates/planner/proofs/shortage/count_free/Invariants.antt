@@ -1,11 +1,7 @@
-use Rattle.planner.proofs.Loops.{counted_small}
 use Prim.Native.Nat.{◌≤◌, ◌-◌}
-use mathlib.Core.Path.{◌≡◌, refl}
-use native.Mathlib.Omega.{arith}
-use borrow.Author.Rules.{rules}
+use mathlib.Core.Path.{◌≡◌}
 use Rattle.planner.specs.Lines.{count}
 use Rattle.planner.specs.Shortage.{free_within}
-use Rattle.planner.proofs.Loops.{counted, counted_all}
 use Rattle.planner.proofs.shortage.count_free.Given as goal
 
 abbrev pub invariant-loop-vector : goal.invariant-loop-vector

@@ -1,5 +1,4 @@
 use Rattle.planner.proofs.Leaves.{crowded_is}
-use borrow.Author.Rules.{rules}
 use Rattle.planner.proofs.shortage.crowded.Goals as goal
 
 pub returns : goal.returns

@@ -1,5 +1,4 @@
 use Rattle.planner.proofs.Leaves.{within_below, within_above, within_free}
-use borrow.Author.Rules.{rules}
 use Rattle.planner.proofs.shortage.free_within.Goals as goal
 
 pub returns-then-vector-from : goal.returns-then-vector-from

@@ -1,13 +1,8 @@
-use mathlib.Core.Path.{sym, ◌∙◌}
 use Prim.Native.Nat.{◌≤◌, ◌-◌}
-use mathlib.Core.Path.{◌≡◌, refl}
-use mathlib.Core.Logic.{⊎_elim}
-use native.Mathlib.Omega.{arith}
-use borrow.Author.Rules.{rules}
+use mathlib.Core.Path.{◌≡◌}
 use lib.ListN.{length}
 use Rattle.utils.specs.Set.{set_of}
 use Rattle.planner.specs.Shortage.{confined}
-use Rattle.planner.proofs.Loops.{lines_with, lines_without, lines_all}
 use Rattle.planner.proofs.shortage.lines_confined.Given as goal
 
 abbrev pub invariant-loop-k : goal.invariant-loop-k

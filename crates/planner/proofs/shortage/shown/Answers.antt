@@ -1,5 +1,4 @@
 use Rattle.planner.proofs.Loops.{shown_is}
-use borrow.Author.Rules.{rules}
 use Rattle.planner.proofs.shortage.shown.Goals as goal
 
 pub returns : goal.returns

@@ -1,11 +1,6 @@
-use Prim.Native.Nat.{ℕ, ◌≤◌, ◌<◌, ◌-◌}
-use mathlib.Core.Path.{◌≡◌}
-use mathlib.Core.Bool.{false}
+use Prim.Native.Nat.{◌-◌}
 use native.Mathlib.Omega.{arith}
-use borrow.Author.Rules.{rules}
 use borrow.Author.Count.{below_more}
-use lib.ListN.{length}
-use Rattle.planner.specs.Shortage.{starts_at}
 use Rattle.planner.proofs.Loops.{start_found, start_none}
 use Rattle.planner.proofs.Leaves.{starts_at_lem, starts_not}
 use Rattle.planner.proofs.shortage.start_line.Goals as goal

@@ -1,5 +1,4 @@
 use Rattle.script_format.proofs.Places.{ended, no_header, cut_off, whole}
-use borrow.Author.Rules.{rules}
 use Rattle.script_format.proofs.Cursor.read.Goals as goal
 
 pub returns-then-script-at : goal.returns-then-script-at

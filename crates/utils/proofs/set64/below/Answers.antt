@@ -1,5 +1,4 @@
-use Rattle.std.proofs.Common.{◌^◌, sym, lt_of_lt_of_le, mod-eq_of_lt, pow_pos, pow_mono, rules}
-use Rattle.utils.proofs.Bits.{one_shl}
+use Rattle.std.proofs.Common.{◌^◌, sym, lt_of_lt_of_le, mod-eq_of_lt, pow_mono, rules}
 use Rattle.utils.proofs.set64.below.Goals as goal
 
 pub returns : goal.returns

@@ -1,5 +1,4 @@
 use Rattle.utils.proofs.Lowest.{under_lowest_in}
-use Rattle.std.proofs.Common.{rules}
 use Rattle.utils.proofs.set8.below_lowest.Goals as goal
 
 pub returns : goal.returns

@@ -1,5 +1,4 @@
 use Rattle.utils.proofs.Bits.{set_bit}
-use Rattle.std.proofs.Common.{rules}
 use Rattle.utils.proofs.set8.with.Goals as goal
 
 pub returns : goal.returns

@@ -1,5 +1,4 @@
 use Rattle.utils.proofs.Lowest.{lowest_off}
-use Rattle.std.proofs.Common.{rules}
 use Rattle.utils.proofs.set8.without_lowest.Goals as goal
 
 pub returns : goal.returns

@@ -2,7 +2,6 @@ use mathlib.Core.Path.{sym, ◌∙◌}
 use Rattle.vcpus_ipi.proofs.Destinations.{or_true}
 use Rattle.utils.proofs.Bools.{or_false}
 use Rattle.vcpus_ipi.specs.Ipi.{is_hit}
-use borrow.Author.Rules.{rules}
 use Rattle.vcpus_ipi.proofs.Command.is_hit.Goals as goal
 
 pub returns-then-asks_active : goal.returns-then-asks_active

@@ -1,6 +1,5 @@
 use Rattle.vcpus_ipi.specs.Steps.{seen_by}
 use Rattle.utils.specs.Cases.{cases}
-use borrow.Author.Rules.{rules}
 use Rattle.vcpus_ipi.proofs.Plan.mask_with.Goals as goal
 
 pub returns-then-is_hit : goal.returns-then-is_hit

@@ -1,6 +1,5 @@
 use Rattle.vcpus_ipi.proofs.Destinations.{own_matched}
 use mathlib.Core.Path.{refl, ◌∙◌}
-use borrow.Author.Rules.{rules}
 use Rattle.vcpus_ipi.proofs.Vcpu.is_logical_target.Goals as goal
 
 pub returns : goal.returns

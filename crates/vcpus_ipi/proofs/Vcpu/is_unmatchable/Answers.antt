@@ -1,6 +1,5 @@
 use borrow.Author.Tests.{eq-eqb, ne_eqb}
 use Rattle.vcpus_ipi.specs.Ipi.{is_unmatchable}
-use borrow.Author.Rules.{rules}
 use Rattle.vcpus_ipi.proofs.Vcpu.is_unmatchable.Goals as goal
 
 pub returns-then-regs : goal.returns-then-regs

@@ -1,6 +1,5 @@
 use Rattle.vcpus_ipi.specs.Ipi.{received}
 use borrow.Author.Tests.{eq-eqb, ne_eqb}
-use borrow.Author.Rules.{rules}
 use Rattle.vcpus_ipi.proofs.Vcpu.received.Goals as goal
 
 pub returns-then-kind-eq0 : goal.returns-then-kind-eq0

@@ -1,5 +1,4 @@
 use Rattle.vlapic_requests.specs.Requests.{request}
-use borrow.Author.Rules.{rules}
 use Rattle.vcpus_ipi.proofs.Vcpu.requested.Goals as goal
 
 pub returns : goal.returns

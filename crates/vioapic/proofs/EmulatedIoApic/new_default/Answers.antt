@@ -1,5 +1,4 @@
 use Rattle.vioapic.proofs.Ways.{new_default_lem}
-use borrow.Author.Rules.{rules}
 use Rattle.vioapic.proofs.EmulatedIoApic.new_default.Goals as goal
 
 pub returns : goal.returns

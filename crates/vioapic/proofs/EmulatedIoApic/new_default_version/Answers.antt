@@ -1,5 +1,4 @@
 use Rattle.vioapic.proofs.Ways.{new_default_words, new_default_of}
-use borrow.Author.Rules.{rules}
 use Rattle.vioapic.proofs.EmulatedIoApic.new_default_version.Goals as goal
 
 pub returns : goal.returns

@@ -1,5 +1,4 @@
 use Rattle.vioapic.proofs.Ways.{new_value}
-use borrow.Author.Rules.{rules}
 use Rattle.vioapic.proofs.EmulatedIoApic.new_version.Goals as goal
 
 pub returns : goal.returns

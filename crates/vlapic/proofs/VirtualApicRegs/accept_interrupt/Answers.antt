@@ -1,5 +1,4 @@
 use Rattle.vlapic.specs.Priority.{accept_interrupt}
-use borrow.Author.Rules.{rules}
 use Rattle.vlapic.proofs.VirtualApicRegs.accept_interrupt.Goals as goal
 
 pub returns-then-level_triggered : goal.returns-then-level_triggered

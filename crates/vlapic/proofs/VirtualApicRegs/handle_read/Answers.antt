@@ -1,6 +1,5 @@
 use Rattle.utils.specs.Cases.{cases}
 use Rattle.vlapic.specs.Registers.{handle_read}
-use borrow.Author.Rules.{rules}
 use Rattle.vlapic.proofs.VirtualApicRegs.handle_read.Goals as goal
 
 pub returns-then-is_eight_from : goal.returns-then-is_eight_from

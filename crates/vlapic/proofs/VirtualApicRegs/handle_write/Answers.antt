@@ -1,7 +1,6 @@
 use Rattle.vlapic.proofs.Range.{own_range}
 use borrow.Author.Tests.{ne_eqb}
 use Rattle.vlapic.specs.Calls.{handle_write}
-use borrow.Author.Rules.{rules}
 use Rattle.vlapic.proofs.VirtualApicRegs.handle_write.Goals as goal
 
 pub returns-then-is_out_of_range : goal.returns-then-is_out_of_range

@@ -1,6 +1,5 @@
 use borrow.Author.Tests.{eq-eqb, ne_eqb}
 use Rattle.vlapic.specs.Priority.{handle_eoi}
-use borrow.Author.Rules.{rules}
 use Rattle.vlapic.proofs.VirtualApicRegs.process_eoi.Goals as goal
 
 pub returns-then-vector-eq0 : goal.returns-then-vector-eq0

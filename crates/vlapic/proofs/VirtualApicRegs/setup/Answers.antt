@@ -4,7 +4,6 @@ use Rattle.vlapic.specs.Regs.{start}
 use Rattle.vlapic.specs.Answers.{done}
 use Rattle.vlapic.proofs.Range.{id_kept_lem}
 use Rattle.vlapic.specs.Calls.{setup}
-use borrow.Author.Rules.{rules}
 use Rattle.vlapic.proofs.VirtualApicRegs.setup.Goals as goal
 
 pub returns-then-is_out_of_range : goal.returns-then-is_out_of_range

@@ -1,5 +1,4 @@
 use Rattle.vlapic.specs.Priority.{update_ppr}
-use borrow.Author.Rules.{rules}
 use Rattle.vlapic.proofs.VirtualApicRegs.update_ppr.Goals as goal
 
 pub returns : goal.returns

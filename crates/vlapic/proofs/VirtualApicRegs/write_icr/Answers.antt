@@ -1,5 +1,4 @@
 use Rattle.vlapic.specs.Calls.{write_icr}
-use borrow.Author.Rules.{rules}
 use Rattle.vlapic.proofs.VirtualApicRegs.write_icr.Goals as goal
 
 pub returns : goal.returns

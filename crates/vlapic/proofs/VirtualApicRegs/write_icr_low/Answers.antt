@@ -1,5 +1,4 @@
 use Rattle.vlapic.specs.Calls.{write_icr_low}
-use borrow.Author.Rules.{rules}
 use Rattle.vlapic.proofs.VirtualApicRegs.write_icr_low.Goals as goal
 
 pub returns-then-is_icr_width : goal.returns-then-is_icr_width

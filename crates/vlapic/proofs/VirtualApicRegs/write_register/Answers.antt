@@ -1,6 +1,5 @@
 use borrow.Author.Tests.{ne_eqb}
 use Rattle.vlapic.specs.Registers.{stored, write_stored}
-use borrow.Author.Rules.{rules}
 use Rattle.vlapic.proofs.VirtualApicRegs.write_register.Goals as goal
 
 pub returns-in-32 : goal.returns-in-32

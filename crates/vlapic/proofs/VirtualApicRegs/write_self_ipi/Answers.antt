@@ -1,6 +1,5 @@
 use Rattle.utils.specs.Cases.{cond_yes, cond_no}
 use Rattle.vlapic.specs.Calls.{write_self_ipi}
-use borrow.Author.Rules.{rules}
 use Rattle.vlapic.proofs.VirtualApicRegs.write_self_ipi.Goals as goal
 
 pub returns-then-self : goal.returns-then-self

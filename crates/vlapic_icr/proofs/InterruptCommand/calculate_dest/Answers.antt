@@ -1,6 +1,5 @@
 use Rattle.vlapic_icr.specs.Icr.{calculate_dest}
 use borrow.Author.Tests.{ne_eqb}
-use borrow.Author.Rules.{rules}
 use Rattle.vlapic_icr.proofs.InterruptCommand.calculate_dest.Goals as goal
 
 pub returns-in-1 : goal.returns-in-1

@@ -1,5 +1,4 @@
 use Rattle.vlapic_icr.specs.Icr.{dest_no_shorthand}
-use borrow.Author.Rules.{rules}
 use Rattle.vlapic_icr.proofs.InterruptCommand.calculate_dest_no_shorthand.Goals as goal
 
 pub returns-then-is_broadcast : goal.returns-then-is_broadcast

@@ -1,5 +1,4 @@
 use Rattle.vlapic_icr.specs.Icr.{command}
-use borrow.Author.Rules.{rules}
 use Rattle.vlapic_icr.proofs.InterruptCommand.carry_out.Goals as goal
 
 pub returns-then-is_reserved_mode : goal.returns-then-is_reserved_mode

@@ -1,6 +1,5 @@
 use Rattle.vlapic_icr.specs.Icr.{dest_field_matched}
 use borrow.Author.Tests.{eq-eqb, ne_eqb}
-use borrow.Author.Rules.{rules}
 use Rattle.vlapic_icr.proofs.InterruptCommand.is_dest_field_matched.Goals as goal
 
 pub returns-then-self : goal.returns-then-self

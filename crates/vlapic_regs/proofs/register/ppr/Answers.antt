@@ -7,7 +7,6 @@ use native.Mathlib.Omega.{arith}
 use Rattle.utils.specs.Vectors.{class_of}
 use borrow.Author.Tests.{le-leb, lt-leb}
 use Rattle.vlapic_regs.specs.Register.{priority}
-use borrow.Author.Rules.{rules}
 use Rattle.vlapic_regs.proofs.register.ppr.Goals as goal
 
 pub returns-then-tpr-class : goal.returns-then-tpr-class

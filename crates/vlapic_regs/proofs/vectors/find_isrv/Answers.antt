@@ -1,8 +1,8 @@
-use Prim.Native.Nat.{◌+◌, ◌-◌, ◌*◌, ◌≤◌}
+use Prim.Native.Nat.{◌-◌}
 use native.Mathlib.Omega.{arith}
 use borrow.Author.Rules.{rules}
 use borrow.Author.Tests.{eq-eqb, ne_eqb}
-use Rattle.vlapic_regs.proofs.Highest.{Left, start, moved, passed, found, empty, ended}
+use Rattle.vlapic_regs.proofs.Highest.{start, passed, found, empty}
 use Rattle.vlapic_regs.proofs.vectors.find_isrv.Goals as goal
 
 pub search-init : goal.search-init

@@ -1,8 +1,5 @@
 use Prim.Native.Nat.{◌+◌, ◌-◌, ◌*◌, ◌≤◌}
-use native.Mathlib.Omega.{arith}
-use borrow.Author.Rules.{rules}
-use borrow.Author.Tests.{eq-eqb, ne_eqb}
-use Rattle.vlapic_regs.proofs.Highest.{Left, start, moved, passed, found, empty, ended}
+use Rattle.vlapic_regs.proofs.Highest.{Left}
 use Rattle.vlapic_regs.proofs.vectors.find_isrv.Given as goal
 
 abbrev pub invariant-loop-bit : goal.invariant-loop-bit

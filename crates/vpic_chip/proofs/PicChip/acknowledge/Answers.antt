@@ -1,4 +1,3 @@
-use borrow.Author.Rules.{rules}
 use Rattle.vpic_chip.proofs.Laws.{ack_none, ack_done}
 use Rattle.vpic_chip.proofs.PicChip.acknowledge.Goals as goal
 

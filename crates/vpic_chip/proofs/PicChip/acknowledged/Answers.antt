@@ -1,6 +1,5 @@
 use Rattle.vpic_chip.proofs.Packing.{plain}
 use Rattle.vpic_chip.proofs.Laws.{taken_way, served_way}
-use borrow.Author.Rules.{rules}
 use Rattle.vpic_chip.proofs.PicChip.acknowledged.Goals as goal
 
 pub returns-then-auto_eoi : goal.returns-then-auto_eoi

@@ -1,6 +1,5 @@
 use Rattle.vpic_chip.proofs.Packing.{plain}
 use Rattle.vpic_chip.proofs.Laws.{asks_way}
-use borrow.Author.Rules.{rules}
 use Rattle.vpic_chip.proofs.PicChip.asks.Goals as goal
 
 pub returns : goal.returns

@@ -1,5 +1,4 @@
 use Rattle.vpic_chip.proofs.Full.{blocking_open, blocking_all}
-use borrow.Author.Rules.{rules}
 use Rattle.vpic_chip.proofs.PicChip.blocking.Goals as goal
 
 pub returns-then-special_mask : goal.returns-then-special_mask

@@ -1,5 +1,4 @@
 use Rattle.vpic_chip.proofs.Full.{line_other, line_slave, line_plain, line_nested}
-use borrow.Author.Rules.{rules}
 use Rattle.vpic_chip.proofs.PicChip.blocking_line.Goals as goal
 
 pub returns-then-line-ne-CASCADE_IRQ : goal.returns-then-line-ne-CASCADE_IRQ

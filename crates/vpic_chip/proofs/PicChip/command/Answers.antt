@@ -1,7 +1,6 @@
 use Rattle.utils.specs.Cases.{cases}
 use Rattle.vpic_chip.specs.Chip.{commanded}
 use Rattle.vpic_chip.proofs.Laws.{commanded_eoi}
-use borrow.Author.Rules.{rules}
 use Rattle.vpic_chip.proofs.PicChip.command.Goals as goal
 
 pub returns-then-value-eq32 : goal.returns-then-value-eq32

@@ -1,5 +1,4 @@
 use Rattle.vpic_chip.proofs.Laws.{fed_icw2, fed_icw3, fed_icw4, fed_ocw1, fed_ready}
-use borrow.Author.Rules.{rules}
 use Rattle.vpic_chip.proofs.PicChip.data.Goals as goal
 
 pub returns-then-is_ready : goal.returns-then-is_ready

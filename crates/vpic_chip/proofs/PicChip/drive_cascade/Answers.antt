@@ -1,4 +1,3 @@
-use borrow.Author.Rules.{rules}
 use Rattle.vpic_chip.proofs.Laws.{driven_up, driven_down}
 use Rattle.vpic_chip.proofs.PicChip.drive_cascade.Goals as goal
 

@@ -1,6 +1,5 @@
 use Rattle.vpic_chip.proofs.Packing.{less_fits}
 use Rattle.vpic_chip.proofs.Laws.{ended_le, ended_less}
-use borrow.Author.Rules.{rules}
 use Rattle.vpic_chip.proofs.PicChip.end_highest.Goals as goal
 
 pub overflow_sub-ended : goal.overflow_sub-ended

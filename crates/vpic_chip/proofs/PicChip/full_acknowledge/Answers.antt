@@ -1,5 +1,4 @@
 use Rattle.vpic_chip.proofs.Laws.{ack_none, ack_done}
-use borrow.Author.Rules.{rules}
 use Rattle.vpic_chip.proofs.PicChip.full_acknowledge.Goals as goal
 
 pub returns-then-irq-ge8 : goal.returns-then-irq-ge8

@@ -1,5 +1,4 @@
 use Rattle.vpic_chip.proofs.Full.{full_served, full_turned, full_taken}
-use borrow.Author.Rules.{rules}
 use Rattle.vpic_chip.proofs.PicChip.full_acknowledged.Goals as goal
 
 pub returns-then-not-auto_eoi : goal.returns-then-not-auto_eoi

@@ -1,5 +1,4 @@
 use Rattle.vpic_chip.proofs.Full.{full_asked}
-use borrow.Author.Rules.{rules}
 use Rattle.vpic_chip.proofs.PicChip.full_asks.Goals as goal
 
 pub returns : goal.returns

@@ -1,6 +1,5 @@
 use Rattle.utils.specs.Cases.{cases}
 use Rattle.vpic_chip.specs.Chip.{commanded}
-use borrow.Author.Rules.{rules}
 use Rattle.vpic_chip.proofs.PicChip.full_command.Goals as goal
 
 pub returns-then-value-eq1 : goal.returns-then-value-eq1

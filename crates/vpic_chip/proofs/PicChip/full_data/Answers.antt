@@ -1,6 +1,5 @@
 use Rattle.vpic_chip.proofs.Laws.{fed_icw4}
 use Rattle.vpic_chip.proofs.Full.{full_fed}
-use borrow.Author.Rules.{rules}
 use Rattle.vpic_chip.proofs.PicChip.full_data.Goals as goal
 
 pub returns-then-init_step-eq3 : goal.returns-then-init_step-eq3

@@ -1,5 +1,4 @@
 use Rattle.vpic_chip.proofs.Full.{eoi_none, eoi_some}
-use borrow.Author.Rules.{rules}
 use Rattle.vpic_chip.proofs.PicChip.full_end_highest.Goals as goal
 
 pub returns-then-irq-ge8 : goal.returns-then-irq-ge8

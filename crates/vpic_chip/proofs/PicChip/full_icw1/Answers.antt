@@ -1,5 +1,4 @@
 use Rattle.vpic_chip.proofs.Packing.{full_icw1_put}
-use borrow.Author.Rules.{rules}
 use Rattle.vpic_chip.proofs.PicChip.full_icw1.Goals as goal
 
 pub returns : goal.returns

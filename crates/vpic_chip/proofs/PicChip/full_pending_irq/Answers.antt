@@ -1,5 +1,4 @@
 use Rattle.vpic_chip.proofs.Full.{full_irq_none, full_irq_some}
-use borrow.Author.Rules.{rules}
 use Rattle.vpic_chip.proofs.PicChip.full_pending_irq.Goals as goal
 
 pub returns-then-irq-ge8 : goal.returns-then-irq-ge8

@@ -1,5 +1,4 @@
 use Rattle.vpic_chip.proofs.Full.{full_empty, full_some, full_none}
-use borrow.Author.Rules.{rules}
 use Rattle.vpic_chip.proofs.PicChip.full_pending_line.Goals as goal
 
 pub returns-then-open-eq0 : goal.returns-then-open-eq0

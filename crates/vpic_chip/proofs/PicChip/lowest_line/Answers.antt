@@ -1,5 +1,4 @@
 use Rattle.vpic_chip.proofs.Packing.{lowest_line_read}
-use borrow.Author.Rules.{rules}
 use Rattle.vpic_chip.proofs.PicChip.lowest_line.Goals as goal
 
 pub returns : goal.returns

@@ -1,6 +1,5 @@
 use mathlib.Core.Path.{refl}
 use Rattle.vpic_chip.specs.Registers.{chip_in}
-use borrow.Author.Rules.{rules}
 use Rattle.vpic_chip.proofs.PicChip.mask.Goals as goal
 
 pub returns : goal.returns

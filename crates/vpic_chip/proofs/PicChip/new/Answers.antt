@@ -1,5 +1,4 @@
 use Rattle.vpic_chip.proofs.Packing.{new_put}
-use borrow.Author.Rules.{rules}
 use Rattle.vpic_chip.proofs.PicChip.new.Goals as goal
 
 pub returns : goal.returns

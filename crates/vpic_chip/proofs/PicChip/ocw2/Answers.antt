@@ -1,6 +1,5 @@
 use Rattle.vpic_chip.proofs.Packing.{plain}
 use Rattle.vpic_chip.proofs.Laws.{ocw2_none, ocw2_specific, ocw2_plain}
-use borrow.Author.Rules.{rules}
 use Rattle.vpic_chip.proofs.PicChip.ocw2.Goals as goal
 
 pub returns-then-value-ne1 : goal.returns-then-value-ne1

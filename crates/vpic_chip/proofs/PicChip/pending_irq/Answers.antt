@@ -1,5 +1,4 @@
 use Rattle.vpic_chip.proofs.Packing.{plain}
-use borrow.Author.Rules.{rules}
 use Rattle.vpic_chip.proofs.Laws.{pending_none, pending_some}
 use Rattle.vpic_chip.proofs.PicChip.pending_irq.Goals as goal
 

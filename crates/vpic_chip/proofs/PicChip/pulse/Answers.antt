@@ -1,6 +1,5 @@
 use Rattle.utils.specs.Cases.{cases}
 use Rattle.vpic_chip.specs.Chip.{pulsed}
-use borrow.Author.Rules.{rules}
 use Rattle.vpic_chip.proofs.PicChip.pulse.Goals as goal
 
 pub returns-then-irq-ge8 : goal.returns-then-irq-ge8

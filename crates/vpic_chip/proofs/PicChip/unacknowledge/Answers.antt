@@ -1,4 +1,3 @@
-use borrow.Author.Rules.{rules}
 use Rattle.vpic_chip.proofs.Laws.{back_requested, back_outside, back_ended}
 use Rattle.vpic_chip.proofs.PicChip.unacknowledge.Goals as goal
 

@@ -1,5 +1,4 @@
 use Rattle.vpic_chip.proofs.Packing.{unrequested_put}
-use borrow.Author.Rules.{rules}
 use Rattle.vpic_chip.proofs.PicChip.unrequested.Goals as goal
 
 pub returns : goal.returns

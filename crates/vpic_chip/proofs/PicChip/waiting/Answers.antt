@@ -1,6 +1,5 @@
 use Rattle.vpic_chip.proofs.Packing.{plain}
 use Rattle.vpic_chip.proofs.Laws.{waiting_way}
-use borrow.Author.Rules.{rules}
 use Rattle.vpic_chip.proofs.PicChip.waiting.Goals as goal
 
 pub returns : goal.returns

@@ -1,5 +1,4 @@
 use Rattle.vpic_chip.proofs.Packing.{rotation_put}
-use borrow.Author.Rules.{rules}
 use Rattle.vpic_chip.proofs.PicChip.with_auto_rotation.Goals as goal
 
 pub returns : goal.returns

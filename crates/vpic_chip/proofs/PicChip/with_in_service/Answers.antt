@@ -1,5 +1,4 @@
 use Rattle.vpic_chip.proofs.Packing.{service_put}
-use borrow.Author.Rules.{rules}
 use Rattle.vpic_chip.proofs.PicChip.with_in_service.Goals as goal
 
 pub returns : goal.returns

@@ -1,5 +1,4 @@
 use Rattle.vpic_chip.proofs.Packing.{step_put}
-use borrow.Author.Rules.{rules}
 use Rattle.vpic_chip.proofs.PicChip.with_init_step.Goals as goal
 
 pub returns : goal.returns

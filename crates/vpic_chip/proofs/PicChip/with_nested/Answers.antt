@@ -1,5 +1,4 @@
 use Rattle.vpic_chip.proofs.Packing.{nested_put}
-use borrow.Author.Rules.{rules}
 use Rattle.vpic_chip.proofs.PicChip.with_nested.Goals as goal
 
 pub returns : goal.returns

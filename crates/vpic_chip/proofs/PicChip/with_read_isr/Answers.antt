@@ -1,5 +1,4 @@
 use Rattle.vpic_chip.proofs.Packing.{read_put}
-use borrow.Author.Rules.{rules}
 use Rattle.vpic_chip.proofs.PicChip.with_read_isr.Goals as goal
 
 pub returns : goal.returns

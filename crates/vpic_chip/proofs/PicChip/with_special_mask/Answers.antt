@@ -1,5 +1,4 @@
 use Rattle.vpic_chip.proofs.Packing.{special_put}
-use borrow.Author.Rules.{rules}
 use Rattle.vpic_chip.proofs.PicChip.with_special_mask.Goals as goal
 
 pub returns : goal.returns
