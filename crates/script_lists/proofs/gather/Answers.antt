@@ -7,10 +7,16 @@ pub loop-n-preserved : goal.loop-n-preserved
 loop-n-preserved c = gathered_more _ _ _ c.loop-n.invariant _ c.loop-n-test.true (gave _ _ _ c.peek.result c.peek.ensures _ c.in-Given.is)
 
 pub returns-in-Nothing : goal.returns-in-Nothing
-returns-in-Nothing c = gathered_all _ _ _ c.loop-n.invariant (gave_none _ _ _ c.peek.result c.peek.ensures c.in-Nothing.is)
+returns-in-Nothing c =
+    let whole = gathered_all _ _ _ c.loop-n.invariant (gave_none _ _ _ c.peek.result c.peek.ensures c.in-Nothing.is) in
+    record { vectors_after = whole.0; prefix_len = whole.1 }
 
 pub returns-in-Refused : goal.returns-in-Refused
-returns-in-Refused c = gathered_all _ _ _ c.loop-n.invariant (refused _ _ _ c.peek.result c.peek.ensures _ c.in-Refused.is)
+returns-in-Refused c =
+    let whole = gathered_all _ _ _ c.loop-n.invariant (refused _ _ _ c.peek.result c.peek.ensures _ c.in-Refused.is) in
+    record { vectors_after = whole.0; prefix_len = whole.1 }
 
 pub returns : goal.returns
-returns c = gathered_all _ _ _ c.loop-n.invariant (omega (arith, waits_le c.args.lists.now c.args.vcpu, c.loop-n-test.false))
+returns c =
+    let whole = gathered_all _ _ _ c.loop-n.invariant (omega (arith, waits_le c.args.lists.now c.args.vcpu, c.loop-n-test.false)) in
+    record { vectors_after = whole.0; prefix_len = whole.1 }
