@@ -3,33 +3,40 @@ for Rattle's, in a repository of its own, so that a test takes no time."""
 import itertools
 import os
 import pathlib
-import platform
 import shutil
 import subprocess
 
 TOP = pathlib.Path(__file__).resolve().parents[2]
 
-# The stand-in for rt: it notes what it was asked, says crates' lines as rt does, and those of their functions, and makes what was asked
-# for. The program that it makes prints the lines that stand in the file `lines`, and ends with the status in `status`.
+# The stand-in for rt: it notes what it was asked and in which crate's folder, says how far it is as rt does, and makes what was asked for.
+# The program that it makes prints the lines that stand in the file `lines`, and ends with the status in `status`; an archive holds its crate's
+# name. As rt, it runs a program that it made, whose lines go to standard output, and its own beside them to standard error.
 RT = """#!/bin/sh
-[ "$1" != doc ] || { echo "$KIT/docs/START-HERE.md"; exit 0; }
-echo "$*" >>asked
+crate=${PWD##*/} top=${PWD%/crates/*}
+echo "$crate: $*" >>"$top/asked"
+[ "$1" != run ] || exec 3>&1 1>&2
+echo "fn types::reply: proved"
+echo "crate types: modules loaded=40 checked=0"
+echo "logic=proved functions=2 sum=1"
 echo "fn utils::lowest: proved"
-echo "rt: types proved (unchanged since it was last proved)"
-echo "rt: utils proved (12 s)"
-[ ! -f broken ] || { echo "rt: $2 NOT PROVED (exit 1, 3 s)"; exit 1; }
-echo "rt: $2 proved (3 s)"
-mkdir -p target/bin target/staticlib
+echo "crate utils: modules loaded=0 checked=12"
+echo "logic=proved functions=18 sum=1"
+[ ! -f "$top/broken" ] || { echo "fn $crate::main: not proved"; echo "crate $crate: modules loaded=0 checked=3"; echo "logic=not-proved"; exit 1; }
+echo "crate $crate: modules loaded=0 checked=3"
+echo "logic=proved functions=3 target=x86_64 sum=1"
+mkdir -p out
 case $1 in
-check)
-    printf '#!/bin/sh\\ncat >/dev/null; cat "%s/lines"; exit "$(cat "%s/status")"\\n' "$PWD" "$PWD" >"target/bin/$2"
-    chmod +x "target/bin/$2"
+run)
+    printf '#!/bin/sh\\ncat >/dev/null; cat "%s/lines"; exit "$(cat "%s/status")"\\n' "$top" "$top" >"out/$crate"
+    chmod +x "out/$crate"
+    echo "rt: running out/$crate; to give it other input, run that file yourself"
+    "out/$crate" >&3
     ;;
-staticlib) : >"target/staticlib/lib$2.a" ;;
+lib) echo "$crate $3" >"out/lib$crate.a" ;;
 esac
 """
-LOADER = "#!/bin/sh\nshift 2\nexec \"$@\"\n"
-SLOW = "about four minutes on two processors"
+SLOW = "less if a part was proved before"
+ARCHIVES = ("vioapic_c", "vpic_c", "vlapic_c", "board_c", "vcpus", "waiting_c", "image_c", "planner_c")
 
 
 class Repository:
@@ -39,14 +46,15 @@ class Repository:
         for crate in ("script", "states", "lists", "plan", "pair_examples"):
             self.write(f"crates/{crate}/src/main.rt", "")
         self.write("crates/utils/src/lib.rt", "")
-        self.write("crates.txt", "vioapic_c: types io\nvpic_c: types vpic\nvlapic_c: vlapic\nboard_c: vlapic\nvcpus: vlapic\nwaiting_c: vpic\nimage_c: image\nplanner_c: planner\n")
+        for name in (*ARCHIVES, "vcpus_c"):
+            self.write(f"crates/{name}/src/lib.rt", "")
+        self.write("crates.txt", "utils:\ntypes: utils\nvcpus: types utils\nvcpus_c staticlib: vcpus types utils\n")
         for tool in ("run", "prove", "archives", "script-text", "script_fields.py", "script_words.py", "board_words.py", "board_page.py",
                      "list_words.py", "image_words.py"):
             (self.top / "tools").mkdir(exist_ok=True)
             shutil.copy(TOP / "tools" / tool, self.top / "tools")
         self.answer("")
         self.program(self.kit / "bin" / "rt", RT)
-        self.program(self.kit / "on" / platform.machine() / "toolchain" / "lib" / "ld-linux-x86-64.so.2", LOADER)
 
     def write(self, name, text):
         path = self.top / name
@@ -70,11 +78,12 @@ class Repository:
         return words
 
     def forget(self):
-        shutil.rmtree(self.top / "target", ignore_errors=True)
+        for made in (self.top / "target", *self.top.glob("crates/*/out")):
+            shutil.rmtree(made, ignore_errors=True)
 
     def tool(self, name, *words, given="", with_rt=True):
         path = f"{self.kit / 'bin'}:{os.environ['PATH']}" if with_rt else "/usr/bin:/bin"
-        env = {"PATH": path, "KIT": str(self.kit)}
+        env = {"PATH": path}
         started = [self.top / "tools" / name, *words]
         ran = subprocess.run(started, input=given, stdout=subprocess.PIPE, stderr=subprocess.PIPE, env=env, text=True, cwd="/")
         return ran.returncode, ran.stdout, ran.stderr
@@ -102,20 +111,20 @@ def check_first_run(checks, folder):
     checks.same("the first run", (status, out), (0, "13 0 -\n"))
     first, *lines = said.splitlines()
     checks.true(f"what is done first, and how long: {first!r}", first.startswith("script is proved and linked first") and SLOW in first)
-    checks.same("a line a crate", lines, ["  utils proved (12 s)", "  script proved (3 s)"])
-    checks.same("what rt was asked", there.asked(), ["check script"])
+    checks.same("a line a crate", lines, ["  utils proved, 18 functions", "  script proved, 3 functions"])
+    checks.same("what rt was asked", there.asked(), ["script: run"])
     checks.same("the second run", there.tool("run", "script"), (0, "13 0 -\n", ""))
     status, out, said = there.tool("run", "--print", "script")
     ran = subprocess.run(["sh", "-c", out], input="", stdout=subprocess.PIPE, text=True)
     checks.same("the command, as a shell reads it", (status, said, ran.stdout), (0, "", "13 0 -\n"))
     checks.same("rt wasn't asked again", there.asked(), [])
     os.utime(there.top / "crates" / "utils" / "src" / "lib.rt", (2**32, 2**32))
-    checks.same("a file has changed: status and what rt was asked", (there.tool("run", "script")[0], there.asked()), (0, ["check script"]))
+    checks.same("a file has changed: status and what rt was asked", (there.tool("run", "script")[0], there.asked()), (0, ["script: run"]))
     there.forget()
     there.write("broken", "")
     status, out, said = there.tool("run", "script")
     checks.same("a proof that fails: status and output", (status, out), (1, ""))
-    checks.true(f"what rt said last, in {said!r}", "rt: script NOT PROVED" in said)
+    checks.true(f"what rt said last, in {said!r}", "fn script::main: not proved" in said)
 
 
 def check_text(checks, folder):
@@ -124,9 +133,9 @@ def check_text(checks, folder):
     there.answer("13 0 -\n")
     status, out, said = there.tool("script-text", "run", given="claim-pending\n")
     checks.same("script-text run, for the first time", (status, out), (0, "claim-pending  # the highest request -> nothing claimed\n"))
-    checks.true(f"a line a crate, in {said!r}", said.splitlines()[1:] == ["  utils proved (12 s)", "  script proved (3 s)"])
+    checks.true(f"a line a crate, in {said!r}", said.splitlines()[1:] == ["  utils proved, 18 functions", "  script proved, 3 functions"])
     status, out, said = there.tool("script-text", "run", given="claim-pending\n")
-    checks.same("and for the second", (status, out, said, there.asked()), (0, out, "", ["check script"]))
+    checks.same("and for the second", (status, out, said, there.asked()), (0, out, "", ["script: run"]))
     there.forget()
     there.write("broken", "")
     status, out, said = there.tool("script-text", "run", given="claim-pending\n")
@@ -149,6 +158,9 @@ def check_statuses(checks, folder):
         checks.true(f"{words!r} in {said!r}", said.startswith(f"tools/run: {words}") and said.count("\n") == 1 if words else said == "")
     there.answer("12 0 -\n", 3)
     checks.same("the program's own status", there.tool("run", "script"), (3, "12 0 -\n", ""))
+    there.forget()
+    status, out, said = there.tool("run", "script")
+    checks.same("and where it is made first", (status, out, said.splitlines()[1:]), (3, "12 0 -\n", ["  utils proved, 18 functions", "  script proved, 3 functions"]))
     check_plan_statuses(checks, there)
     there.tool("run", "pair_examples")
     for lines in ("bad 14\n", "refused\n"):
@@ -182,13 +194,16 @@ def check_archives(checks, folder):
     checks.same("a word that it doesn't take", (status, out, "'all'" in said), (2, "", True))
     status, out, said = there.tool("archives")
     checks.same("tools/archives", (status, out), (0, f"{there.top}/target/staticlib\n"))
-    checks.same("what rt was asked", there.asked(),
-                ["check image io planner types vlapic vpic", "staticlib vioapic_c", "staticlib vpic_c", "staticlib vlapic_c", "staticlib board_c",
-                 "staticlib vcpus", "staticlib waiting_c", "staticlib image_c", "staticlib planner_c"])
+    crates = [{"vcpus": "vcpus_c"}.get(name, name) for name in ARCHIVES]
+    checks.same("what rt was asked", there.asked(), [f"{crate}: lib --cpu x86-64" for crate in crates])
     checks.true(f"how long it takes: {said!r}", SLOW in said.splitlines()[0])
-    checks.same("lines for crates", said.splitlines()[1:3], ["  utils proved (12 s)", "  image proved (3 s)"])
+    checks.same("lines for crates", said.splitlines()[1:3], ["  utils proved, 18 functions", "  vioapic_c proved, 3 functions"])
+    made = {path.name: path.read_text() for path in (there.top / "target" / "staticlib").iterdir()}
+    checks.same("an archive for each name, of its crate", made, {f"lib{name}.a": f"{crate} x86-64\n" for name, crate in zip(ARCHIVES, crates)})
     checks.same("the second time", (there.tool("archives"), there.asked()), ((0, f"{there.top}/target/staticlib\n", ""), []))
+    os.utime(there.top / "crates" / "utils" / "src" / "lib.rt", (2**32, 2**32))
+    checks.same("a file has changed: status and how often rt was asked", (there.tool("archives")[0], len(there.asked())), (0, len(ARCHIVES)))
     there.forget()
     there.write("broken", "")
     status, out, said = there.tool("archives")
-    checks.same("a proof that fails", (status, out, "NOT PROVED" in said, there.asked()), (1, "", True, ["check image io planner types vlapic vpic"]))
+    checks.same("a proof that fails", (status, out, "not proved" in said, there.asked()), (1, "", True, ["vioapic_c: lib --cpu x86-64"]))
