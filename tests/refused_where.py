@@ -1,83 +1,341 @@
 #!/usr/bin/env python3
-"""refused_where.py: each must-fail edit was refused at the facts that it names.
+"""refused_where.py: each must-fail edit is refused at the facts that it names.
 
-`rt ci` says that the prover refused an edit. Where it refused is in the log that it leaves below target/must-fail. An edit
-names the facts that its wrong answers break in lines
+    tests/refused_where.py [--all-checked] [--found] [CRATE..]
 
-    # refused: FUNCTION FACT       as `chip/PicChip/pulse returns-2`: the proof file below proofs/, and the need in it
-    # refused: MODULE THEOREM      as `Restore restored-at-once`: the module of proofs/ (or specs/MODULE), and the theorem
+`rt ci` says that the prover refuses an edit, and one place where. An edit names the facts that its wrong answers break in lines
 
-An edit may hold several wrong answers, and each of its facts must be refused by itself. A refusal that only shows that a proof
-file no longer fits the code ("has no `Need-..`") counts for nothing. One that only shows that a proof lost its shape (a rewriting
-step that finds nothing to rewrite) doesn't show that the fact is false: after such a fact the edit names a computed case, which is
-refused because its two sides differ,
+    # refused: FUNCTION FACT       as `chip/PicChip/pulse returns-2`: the folder below proofs/, and the goal in it
+    # refused: MODULE THEOREM      as `Restore restored_at_once`: the module of proofs/ (or specs/MODULE), and the theorem
 
-    # shown: MODULE CASE           as `Cases sent-again`
+An edit may hold several wrong answers, and each of its facts must be refused by itself. So each edit is laid over a copy of its crate, `rt
+check` runs there, and what it prints is read. A fact that isn't refused there may be one that the checker didn't come to, since it rests on
+another that is refused: then each wrong answer is laid over a copy alone, and the fact must be refused at one of them.
 
-Run it in the repository, after rt ci.
+A refusal that only shows that a proof file no longer fits the code (it names a goal that the code hasn't) counts for nothing, and neither does
+one by a name that is gone. One that only shows that a proof lost its shape (a rewriting step that finds nothing to rewrite) doesn't show that the
+fact is false: after such a fact the edit names a computed case, which is refused because its two sides differ,
+
+    # shown: MODULE CASE           as `Cases sent_again`
+
+What a check printed is kept, by the sums of all that it read, in sillwander/refused below XDG_CACHE_HOME (or ~/.cache), so that only what changed
+is tried again, from this checkout or another. To try them takes 15 to 40 seconds of a processor each. The copies begin with what `rt check`
+left in this checkout's crates/*/out; --all-checked says that `rt all check` has just run here. --found prints, for those who write an edit, every fact
+that is refused and not named. With CRATE only the edits of those crates are tried.
 """
+import concurrent.futures
 import glob
+import gzip
+import hashlib
 import os
+import pathlib
+import queue
 import re
+import shutil
+import subprocess
 import sys
+import tempfile
+import time
 
-
+TOP = pathlib.Path(__file__).resolve().parents[1]
+PARTS = ("src", "specs", "proofs")
 # What a rewriting step says that finds nothing to rewrite.
 SHAPE = re.compile(r"no occurrence|no part of the goal|is an instance of")
+# A name that the edited text hasn't any more, or a declaration that wasn't looked at.
+GONE = re.compile(r"was not admitted|has no field `|is not in scope|has no `[^`]*` that can be named")
+UNFIT = re.compile(r"error: .*module `\S+\.Goals` has no `")
+
+
+# What a check says.
 
 
 def refused(log):
-    """The (file, fact) pairs that a log has an error or an unproved note for; with each, whether only a proof's shape was lost."""
+    """The (place, fact) pairs that a check refuses or leaves unproved; with each, whether only a proof's shape was lost."""
     found = {}
     for line in log.split("\n"):
         error = re.match(r"(\S+?\.antt):\d+:\d+: error: `([^`]+)`: (.*)", line)
-        if error and "was not admitted" not in error.group(3):
-            found[place(error.group(1)), error.group(2)] = bool(SHAPE.search(error.group(3)))
-        unproved = re.match(r"fn \w+::(\S+): no proof: .*does not close (.*)", line)
+        if error and not GONE.search(error[3]):
+            key = place(error[1]), error[2]
+            found[key] = bool(SHAPE.search(error[3])) and found.get(key, True)
+        unproved = re.match(r"fn \w+::(\S+): no proof: (?:expected answers in \./(\S+\.antt); )?`search` did not prove ([^;]*)", line)
         if unproved:
-            for fact in re.findall(r"`([^`]+)`", unproved.group(2)):
-                found[unproved.group(1).replace("::", "/"), fact] = False
+            where = place(unproved[2]) if unproved[2] else unproved[1].replace("::", "/")
+            for fact in re.findall(r"`([^`]+)`", unproved[3]):
+                found[where, fact] = False
+        left = re.match(r"note: `([^`]+)` of (\S+\.antt) must prove: ", line)
+        if left:
+            found[place(left[2]), left[1]] = False
+    # Of several clauses a check may name the one that isn't proved: then what they are part of isn't either.
+    for (where, fact), shape in list(found.items()):
+        whole, clause, _ = fact.partition("-clause-")
+        if clause:
+            found[where, whole] = shape and found.get((where, whole), True)
     return found
 
 
 def place(path):
-    """proofs/chip/F/Proof.antt is chip/F, proofs/M.antt is M and specs/M.antt is specs/M."""
-    below = re.search(r"/(proofs|specs)/(.*)\.antt$", path)
+    """proofs/chip/F/Answers.antt is chip/F, proofs/M.antt is M and specs/M.antt is specs/M."""
+    below = re.search(r"(?:^|/)(proofs|specs)/(.*)\.antt$", path)
     if not below:
         return path
-    name = re.sub(r"/Proof$", "", below.group(2))
-    return name if below.group(1) == "proofs" else "specs/" + name
+    name = re.sub(r"/(Answers|Invariants|Proof)$", "", below[2])
+    return name if below[1] == "proofs" else "specs/" + name
 
 
-def faults(edit, log):
-    """What is wrong with an edit's refusals, and how many facts it names."""
-    named = re.findall(r"^# (refused|shown): (\S+) (\S+)$", open(edit, encoding="utf-8").read(), re.M)
-    wrong = [] if named else ["%s names no fact" % edit]
-    if re.search(r"error: .*has no `Need-", log):
-        wrong.append("%s: a proof file doesn't fit the edited code, which shows nothing" % edit)
-    there = refused(log)
-    for k, (kind, where, fact) in enumerate(named):
+# Edits, and the texts that they make.
+
+
+class Edit:
+    def __init__(self, path):
+        self.path, self.crate, text = path, path.split("/")[-3], read(path)
+        self.named = re.findall(r"^# (refused|shown): (\S+) (\S+)$", text, re.M)
+        self.pairs, file, old = [], None, None
+        for line in text.split("\n"):
+            if line.startswith("file: "):
+                file = line[len("file: "):].strip()
+            elif line.startswith("old: "):
+                old = line[len("old: "):]
+            elif line.startswith("new:"):
+                self.pairs.append((file, old, line[len("new:"):].removeprefix(" ")))
+
+    def texts(self, pairs):
+        """The texts of the files that these wrong answers change, or None where one doesn't apply."""
+        texts = {}
+        for file, old, new in pairs:
+            text = texts[file] if file in texts else read(TOP / "crates" / self.crate / file)
+            if text.count(old) != 1:
+                return None
+            texts[file] = text.replace(old, new)
+        return texts
+
+
+def read(path):
+    with open(path, encoding="utf-8") as file:
+        return file.read()
+
+
+def crates_below():
+    """Each crate of crates.txt, lowest first: the repository's crates that it stands on, and its line."""
+    lines = {line.split(":")[0].split()[0]: line for line in read(TOP / "crates.txt").split("\n") if ":" in line.split("#")[0]}
+    deps = {name: [dep for dep in line.split(":")[1].split() if dep in lines] for name, line in lines.items()}
+
+    def whole(name):
+        found = []
+        for dep in deps[name]:
+            found += [it for it in [*whole(dep), dep] if it not in found]
+        return found
+
+    return {name: whole(name) for name in lines}, lines
+
+
+# Checks, and what is kept of them.
+
+
+class Kept:
+    """What checks printed, each by the sum of all that it read."""
+
+    def __init__(self, kit):
+        home = pathlib.Path(os.environ.get("XDG_CACHE_HOME") or pathlib.Path.home() / ".cache")
+        self.folder, self.kit = home / "sillwander" / "refused", kit
+        self.below, self.lines = crates_below()
+        self.sums = {}
+        try:
+            self.folder.mkdir(parents=True, exist_ok=True)
+            for path in self.folder.iterdir():
+                if path.stat().st_mtime < time.time() - 90 * 86400:
+                    path.unlink()
+        except OSError as error:
+            print(f"what checks print can't be kept, so that each run tries every edit: {error}")
+
+    def sum_of(self, crate, texts=None):
+        if texts is None and crate in self.sums:
+            return self.sums[crate]
+        home, sum = TOP / "crates" / crate, hashlib.sha256(self.lines[crate].encode())
+        for part in PARTS:
+            for path in sorted(home.glob(part + "/**/*")):
+                name = str(path.relative_to(home))
+                if path.is_file():
+                    sum.update(repr((name, texts[name].encode() if texts and name in texts else path.read_bytes())).encode())
+        if texts is None:
+            self.sums[crate] = sum.hexdigest()
+        return sum.hexdigest()
+
+    def path(self, crate, texts):
+        all_read = (self.kit, crate, self.sum_of(crate, texts), [(it, self.sum_of(it)) for it in self.below[crate]])
+        return self.folder / f"{crate}-{hashlib.sha256(repr(all_read).encode()).hexdigest()}.gz"
+
+    def get(self, path):
+        try:
+            with gzip.open(path, "rt", encoding="utf-8") as file:
+                log = file.read()
+            os.utime(path)
+            return log
+        except (OSError, EOFError, UnicodeDecodeError):
+            return None
+
+    def put(self, path, log):
+        try:
+            with tempfile.NamedTemporaryFile(dir=path.parent, prefix="new-", delete=False) as file:
+                file.write(gzip.compress(log.encode()))
+            os.replace(file.name, path)
+        except OSError:
+            pass
+
+
+class Copy:
+    """A folder in which edited crates are checked, one after the other."""
+
+    def __init__(self, kept):
+        self.kept, self.folder, self.there = kept, pathlib.Path(tempfile.mkdtemp(prefix="sillwander-edits-")), set()
+        shutil.copy(TOP / "crates.txt", self.folder)
+
+    def lay(self, crate, *parts):
+        """Puts a crate there as it is in the checkout, with parts of what a check left of it."""
+        to = self.folder / "crates" / crate
+        shutil.rmtree(to, ignore_errors=True)
+        for part in (*PARTS, *parts):
+            if (TOP / "crates" / crate / part).is_dir():
+                shutil.copytree(TOP / "crates" / crate / part, to / part)
+
+    def check(self, crate, texts):
+        """What `rt check` prints of the edited crate, and its status."""
+        for below in self.kept.below[crate]:
+            if below not in self.there:
+                self.lay(below, "out/rlib")
+                self.there.add(below)
+        # rt looks at each line of crates.txt: a crate that isn't needed is there as it is, and empty of what was checked.
+        for other in set(self.kept.lines) - self.there - {crate}:
+            if not (self.folder / "crates" / other).exists():
+                self.lay(other)
+        self.there.discard(crate)
+        self.lay(crate, "out/incremental")
+        for file, text in texts.items():
+            (self.folder / "crates" / crate / file).write_text(text, encoding="utf-8")
+        ran = subprocess.run(["rt", "check", "--jobs", "1"], cwd=self.folder / "crates" / crate, stdin=subprocess.DEVNULL, stdout=subprocess.PIPE,
+                             stderr=subprocess.STDOUT, text=True, errors="replace")
+        shutil.rmtree(self.folder / "crates" / crate / "out", ignore_errors=True)
+        return ran.stdout, ran.returncode
+
+
+class Checks:
+    """Checks of edited crates, as many at once as there are processors."""
+
+    def __init__(self):
+        self.kept = Kept(subprocess.run(["rt", "version"], stdout=subprocess.PIPE, text=True, check=True).stdout.strip())
+        memory = next((int(n) for n in re.findall(r"^MemAvailable: +(\d+)", read("/proc/meminfo"), re.M)), 0)
+        self.at_once = max(1, min(len(os.sched_getaffinity(0)), memory // 2_000_000))
+        self.made, self.copies, self.free = 0, [], queue.Queue()
+
+    def known(self, crate, texts):
+        return self.kept.get(self.kept.path(crate, texts))
+
+    def log(self, crate, texts):
+        """What a check of the crate with these texts prints; the last line says how it ended."""
+        path = self.kept.path(crate, texts)
+        log = self.kept.get(path)
+        if log is not None:
+            return log
+        copy = self.free.get()
+        try:
+            said, status = copy.check(crate, texts)
+        finally:
+            self.free.put(copy)
+        self.made += 1
+        log = f"{said}\nstatus {status}"
+        # 1: refused, 3: it met a limit of its own, 0: proved. What else there may be says nothing of the edit, and isn't kept.
+        if status in (0, 1, 3):
+            self.kept.put(path, log)
+        return log
+
+    def each(self, call, given):
+        """What the call gives for each, side by side."""
+        try:
+            while len(self.copies) < self.at_once:
+                self.copies.append(Copy(self.kept))
+                self.free.put(self.copies[-1])
+            with concurrent.futures.ThreadPoolExecutor(self.at_once) as pool:
+                return list(pool.map(call, given))
+        finally:
+            for copy in self.copies:
+                shutil.rmtree(copy.folder, ignore_errors=True)
+
+
+def compiled(log):
+    """Whether the checker came to the proofs at all, and refused one."""
+    return log.endswith(("status 1", "status 3")) and not re.search(r"\berror\[[\w-]+\]", log)
+
+
+def lacking(edit, there):
+    """What the edit names and isn't refused."""
+    wrong = []
+    for k, (kind, where, fact) in enumerate(edit.named):
         if (where, fact) not in there:
-            wrong.append("%s: nothing is refused at %s %s" % (edit, where, fact))
-        elif there[where, fact] and (kind == "shown" or named[k + 1:k + 2] == [] or named[k + 1][0] != "shown"):
-            wrong.append("%s: at %s %s only a proof's shape is lost, and no computed case is shown" % (edit, where, fact))
-    return wrong, sum(kind == "refused" for kind, _, _ in named)
+            wrong.append((where, fact, f"{edit.path}: nothing is refused at {where} {fact}"))
+        elif there[where, fact] and (kind == "shown" or edit.named[k + 1:k + 2] == [] or edit.named[k + 1][0] != "shown"):
+            wrong.append((where, fact, f"{edit.path}: at {where} {fact} only a proof's shape is lost, and no computed case is shown"))
+    return wrong
+
+
+def faults(edit, checks):
+    """What is wrong with an edit's refusals, and the facts that are refused."""
+    texts = edit.texts(edit.pairs)
+    if not edit.named:
+        return [f"{edit.path} names no fact"], {}
+    if not texts:
+        return [f"{edit.path} doesn't fit the crate's text"], {}
+    log = checks.log(edit.crate, texts)
+    if not compiled(log):
+        return [f"{edit.path} isn't refused by the prover: {' / '.join(log.strip().split(chr(10))[-4:])[:400]}"], {}
+    if UNFIT.search(log):
+        return [f"{edit.path}: a proof file doesn't fit the edited code, which shows nothing"], {}
+    there = refused(log)
+    # What another refusal hides: each wrong answer alone.
+    for pair in edit.pairs if len(edit.pairs) > 1 else ():
+        if not lacking(edit, there):
+            break
+        alone = edit.texts([pair])
+        log = checks.log(edit.crate, alone) if alone else ""
+        if compiled(log) and not UNFIT.search(log):
+            for key, shape in refused(log).items():
+                there[key] = shape and there.get(key, True)
+    return [words for _, _, words in lacking(edit, there)], there
+
+
+def all_checked(at_once):
+    """Has rt check every crate here, so that the copies begin with what that kept."""
+    ran = subprocess.run(["rt", "all", "check", "--jobs", str(at_once)], cwd=TOP, stdin=subprocess.DEVNULL, stdout=subprocess.PIPE, stderr=subprocess.STDOUT,
+                         text=True, errors="replace")
+    if ran.returncode:
+        print(ran.stdout[-3000:])
+        sys.exit("refused_where.py: the crates aren't proved as they stand: rt all check")
 
 
 def main():
-    edits, facts, wrong = 0, 0, []
-    for edit in sorted(glob.glob("crates/*/must-fail/*.edit")):
-        crate, label = edit.split("/")[1], os.path.basename(edit)[:-len(".edit")]
-        path = "target/must-fail/%s/%s/.log" % (crate, label)
-        if not os.path.exists(path):
-            wrong.append("%s was not tried: no %s" % (edit, path))
-            continue
-        found, named = faults(edit, open(path, encoding="utf-8").read())
-        wrong += found
-        edits, facts = edits + 1, facts + named
+    flags = {it for it in sys.argv[1:] if it.startswith("-")}
+    names = [it for it in sys.argv[1:] if not it.startswith("-")]
+    if flags - {"--all-checked", "--found"} or any(not (TOP / "crates" / it).is_dir() for it in names):
+        print(__doc__.split("\n\n")[1], file=sys.stderr)
+        return 2
+    os.chdir(TOP)
+    checks = Checks()
+    edits = [Edit(path) for path in sorted(glob.glob("crates/*/must-fail/*.edit")) if not names or path.split("/")[1] in names]
+    texts = [(edit.crate, edit.texts(edit.pairs)) for edit in edits]
+    left = sum(changed is not None and checks.known(crate, changed) is None for crate, changed in texts)
+    if left:
+        print(f"{left} of {len(edits)} edits are tried, {checks.at_once} at once; of the others it is known what the checker says", flush=True)
+    if left and "--all-checked" not in flags:
+        all_checked(checks.at_once)
+    results = checks.each(lambda edit: faults(edit, checks), edits)
+    wrong = [line for found, _ in results for line in found]
     for line in wrong:
         print(line)
-    print("%d must-fail edits refused at the %d facts that they name" % (edits, facts) if not wrong else "%d faults" % len(wrong))
+    if "--found" in flags:
+        for edit, (_, there) in zip(edits, results):
+            for where, fact in sorted(set(there) - {it[1:] for it in edit.named}):
+                print(f"{edit.path}: {where} {fact} is refused too{', by its shape alone' if there[where, fact] else ''}")
+    facts = sum(kind == "refused" for edit in edits for kind, _, _ in edit.named)
+    said = f"{len(edits)} must-fail edits refused at the {facts} facts that they name" if not wrong else f"{len(wrong)} faults"
+    print(f"{said} ({checks.made} checks in this run)")
     return 1 if wrong or not edits else 0
 
 
