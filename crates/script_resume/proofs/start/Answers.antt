@@ -4,12 +4,16 @@ use Rattle.script_resume.proofs.Starting.{start_new, start_took, start_refused}
 use Rattle.script_resume.proofs.start.Goals as goal
 
 pub returns-then-image-eq0 : goal.returns-then-image-eq0
-returns-then-image-eq0 c = start_new c.args.image.now _ _ _ _ _ _ c.new-vm.ensures (eq-eqb _ _ c.if-image-eq0.true)
+returns-then-image-eq0 c =
+    let whole = start_new c.args.image.now _ _ _ _ _ _ c.new-vm.ensures (eq-eqb _ _ c.if-image-eq0.true) in
+    record { ok_value = whole.0; vm_after = whole.1 }
 
 pub returns-in-Restored : goal.returns-in-Restored
 returns-in-Restored c =
-    start_took c.args.image.now _ _ _ _ _ _ c.new-vm.ensures _ _ _ _ (ne_eqb _ _ c.if-image-eq0.false) c.restore.ensures _ refl c.in-Restored.is
+    let whole = start_took c.args.image.now _ _ _ _ _ _ c.new-vm.ensures _ _ _ _ (ne_eqb _ _ c.if-image-eq0.false) c.restore.ensures _ refl c.in-Restored.is in
+    record { ok_value = whole.0; vm_after = whole.1 }
 
 pub returns-in-NotRestored : goal.returns-in-NotRestored
 returns-in-NotRestored c =
-    start_refused c.args.image.now _ _ _ _ _ _ c.new-vm.ensures _ _ _ _ (ne_eqb _ _ c.if-image-eq0.false) c.restore.ensures _ c.in-NotRestored.is
+    let whole = start_refused c.args.image.now _ _ _ _ _ _ c.new-vm.ensures _ _ _ _ (ne_eqb _ _ c.if-image-eq0.false) c.restore.ensures _ c.in-NotRestored.is in
+    record { ok_value = whole.0; vm_after = whole.1 }
