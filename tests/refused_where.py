@@ -1,7 +1,7 @@
 #!/usr/bin/env python3
 """refused_where.py: each must-fail edit is refused at the facts that it names.
 
-    tests/refused_where.py [--all-checked] [--found] [CRATE..]
+    tests/refused_where.py [--all-checked] [--found] [--jobs N] [CRATE..]
 
 `rt ci` says that the prover refuses an edit, and one place where. An edit names the facts that its wrong answers break in lines
 
@@ -21,8 +21,9 @@ fact is false: after such a fact the edit names a computed case, which is refuse
 What a check printed is kept, by the sums of all that it read, in sillwander/refused below XDG_CACHE_HOME (or ~/.cache), so that only what changed
 is tried again, from this checkout or another. To try them takes 15 to 40 seconds of a processor each. The copies begin with what `rt check`
 left in this checkout's crates/*/out; --all-checked says that `rt all check` has just run here. --found prints, for those who write an edit, every fact
-that is refused and not named. With CRATE only the edits of those crates are tried.
+that is refused and not named. N checks run at once, or as many as there are processors. With CRATE only the edits of those crates are tried.
 """
+import argparse
 import concurrent.futures
 import glob
 import gzip
@@ -220,10 +221,10 @@ class Copy:
 class Checks:
     """Checks of edited crates, as many at once as there are processors."""
 
-    def __init__(self):
+    def __init__(self, jobs):
         self.kept = Kept(subprocess.run(["rt", "version"], stdout=subprocess.PIPE, text=True, check=True).stdout.strip())
         memory = next((int(n) for n in re.findall(r"^MemAvailable: +(\d+)", read("/proc/meminfo"), re.M)), 0)
-        self.at_once = max(1, min(len(os.sched_getaffinity(0)), memory // 2_000_000))
+        self.at_once = jobs or max(1, min(len(os.sched_getaffinity(0)), memory // 2_000_000))
         self.made, self.copies, self.free = 0, [], queue.Queue()
 
     def known(self, crate, texts):
@@ -311,25 +312,29 @@ def all_checked(at_once):
 
 
 def main():
-    flags = {it for it in sys.argv[1:] if it.startswith("-")}
-    names = [it for it in sys.argv[1:] if not it.startswith("-")]
-    if flags - {"--all-checked", "--found"} or any(not (TOP / "crates" / it).is_dir() for it in names):
-        print(__doc__.split("\n\n")[1], file=sys.stderr)
-        return 2
+    parser = argparse.ArgumentParser(description=__doc__.split("\n\n")[0], formatter_class=argparse.RawDescriptionHelpFormatter)
+    parser.add_argument("--all-checked", action="store_true")
+    parser.add_argument("--found", action="store_true")
+    parser.add_argument("--jobs", type=int, default=0, metavar="N")
+    parser.add_argument("crates", nargs="*", metavar="CRATE")
+    given = parser.parse_args()
     os.chdir(TOP)
-    checks = Checks()
+    for name in given.crates:
+        if not os.path.isdir(f"crates/{name}/must-fail"):
+            parser.error(f"no edits are crates/{name}/must-fail")
+    checks, names = Checks(given.jobs), given.crates
     edits = [Edit(path) for path in sorted(glob.glob("crates/*/must-fail/*.edit")) if not names or path.split("/")[1] in names]
     texts = [(edit.crate, edit.texts(edit.pairs)) for edit in edits]
     left = sum(changed is not None and checks.known(crate, changed) is None for crate, changed in texts)
     if left:
         print(f"{left} of {len(edits)} edits are tried, {checks.at_once} at once; of the others it is known what the checker says", flush=True)
-    if left and "--all-checked" not in flags:
+    if left and not given.all_checked:
         all_checked(checks.at_once)
     results = checks.each(lambda edit: faults(edit, checks), edits)
     wrong = [line for found, _ in results for line in found]
     for line in wrong:
         print(line)
-    if "--found" in flags:
+    if given.found:
         for edit, (_, there) in zip(edits, results):
             for where, fact in sorted(set(there) - {it[1:] for it in edit.named}):
                 print(f"{edit.path}: {where} {fact} is refused too{', by its shape alone' if there[where, fact] else ''}")
