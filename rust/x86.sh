@@ -5,7 +5,7 @@
 #
 # On x86-64 that is rustc. Elsewhere it is rustc where it has its standard library for x86-64, or else Debian's
 # rustc-web with the library that tools/setup-x86 put into `x86_home`; the cross linker; and the emulator of Debian's
-# qemu-user.
+# qemu-user. The kit is for x86-64 alone, so that there the archives are built elsewhere and handed over (--archives).
 x86_home=${SILLWANDER_X86:-/usr/local/lib/sillwander-x86}
 x86_rustc=rustc
 x86_target=''
