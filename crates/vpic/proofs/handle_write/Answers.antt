@@ -1,6 +1,9 @@
 use Rattle.vpic.proofs.Full.{write_cut, write_full, write_plain, write_plain_out}
 use Rattle.vpic.proofs.handle_write.Goals as goal
 
+pub returns-then-width-ne1 : goal.returns-then-width-ne1
+returns-then-width-ne1 c = search cases
+
 pub returns-then-value-ge256 : goal.returns-then-value-ge256
 returns-then-value-ge256 c = search write_cut
 
