@@ -12,8 +12,8 @@ An edit may hold several wrong answers, and each of its facts must be refused by
 check` runs there, and what it prints is read. A fact that isn't refused there may be one that the checker didn't come to, since it rests on
 another that is refused: then each wrong answer is laid over a copy alone, and the fact must be refused at one of them.
 
-A refusal that only shows that a proof file no longer fits the code (it names a goal that the code hasn't) counts for nothing, and neither does
-one by a name that is gone. One that only shows that a proof lost its shape (a rewriting step that finds nothing to rewrite) doesn't show that the
+A goal is named after the code, and a fact as the edited code has it. A refusal that only shows that a proof file no longer fits that code (it
+names a goal, or a part of what is known there, that is called otherwise now) counts for nothing. One that only shows that a proof lost its shape (a rewriting step that finds nothing to rewrite) doesn't show that the
 fact is false: after such a fact the edit names a computed case, which is refused because its two sides differ,
 
     # shown: MODULE CASE           as `Cases sent_again`
@@ -44,7 +44,6 @@ PARTS = ("src", "specs", "proofs")
 SHAPE = re.compile(r"no occurrence|no part of the goal|is an instance of")
 # A name that the edited text hasn't any more, or a declaration that wasn't looked at.
 GONE = re.compile(r"was not admitted|has no field `|is not in scope|has no `[^`]*` that can be named")
-UNFIT = re.compile(r"error: .*module `\S+\.Goals` has no `")
 
 
 # What a check says.
@@ -52,20 +51,28 @@ UNFIT = re.compile(r"error: .*module `\S+\.Goals` has no `")
 
 def refused(log):
     """The (place, fact) pairs that a check refuses or leaves unproved; with each, whether only a proof's shape was lost."""
-    found = {}
+    found, open_goals = {}, []
     for line in log.split("\n"):
         error = re.match(r"(\S+?\.antt):\d+:\d+: error: `([^`]+)`: (.*)", line)
         if error and not GONE.search(error[3]):
             key = place(error[1]), error[2]
             found[key] = bool(SHAPE.search(error[3])) and found.get(key, True)
-        unproved = re.match(r"fn \w+::(\S+): no proof: (?:expected answers in \./(\S+\.antt); )?`search` did not prove ([^;]*)", line)
-        if unproved:
-            where = place(unproved[2]) if unproved[2] else unproved[1].replace("::", "/")
-            for fact in re.findall(r"`([^`]+)`", unproved[3]):
+        # A function's open goals are named in front of its line.
+        goal = re.match(r"note: (?:\./)?src/\S+:\d+:\d+: it is not proved that .*?\(`([^`]+)`\)", line)
+        if goal:
+            open_goals.append(goal[1])
+        function = re.match(r"fn \w+::(\S+): (not proved|no proof)(.*)", line)
+        if function:
+            answers = re.search(r"expected answers in \./(\S+\.antt)", function[3])
+            left = re.search(r"`search` did not prove ([^;]*)", function[3])
+            where = place(answers[1]) if answers else function[1].replace("::", "/")
+            for fact in open_goals + (re.findall(r"`([^`]+)`", left[1]) if left else []):
                 found[where, fact] = False
-        left = re.match(r"note: `([^`]+)` of (\S+\.antt) must prove: ", line)
-        if left:
-            found[place(left[2]), left[1]] = False
+        if line.startswith("fn "):
+            open_goals = []
+        goal = re.match(r"note: `([^`]+)` of (\S+\.antt) must prove: ", line)
+        if goal:
+            found[place(goal[2]), goal[1]] = False
     # Of several clauses a check may name the one that isn't proved: then what they are part of isn't either.
     for (where, fact), shape in list(found.items()):
         whole, clause, _ = fact.partition("-clause-")
@@ -287,8 +294,6 @@ def faults(edit, checks):
     log = checks.log(edit.crate, texts)
     if not compiled(log):
         return [f"{edit.path} isn't refused by the prover: {' / '.join(log.strip().split(chr(10))[-4:])[:400]}"], {}
-    if UNFIT.search(log):
-        return [f"{edit.path}: a proof file doesn't fit the edited code, which shows nothing"], {}
     there = refused(log)
     # What another refusal hides: each wrong answer alone.
     for pair in edit.pairs if len(edit.pairs) > 1 else ():
@@ -296,7 +301,7 @@ def faults(edit, checks):
             break
         alone = edit.texts([pair])
         log = checks.log(edit.crate, alone) if alone else ""
-        if compiled(log) and not UNFIT.search(log):
+        if compiled(log):
             for key, shape in refused(log).items():
                 there[key] = shape and there.get(key, True)
     return [words for _, _, words in lacking(edit, there)], there

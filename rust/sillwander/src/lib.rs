@@ -1,10 +1,6 @@
 //! The interrupt controllers of a small hypervisor, proved, behind the names of the crate that they were ported from, x86_vlapic 0.5.4.
 //!
-<<<<<<< HEAD
 //! Every call goes to a function of the archives that `tools/archives` makes, but for what this crate's README names under "Not proved". What
-=======
-//! Every call goes to a function of the archives that `rt lib` writes, but for what this crate's README names under "Not proved". What
->>>>>>> 1470645 (tools/release names rt lib and each archive's static library)
 //! the functions do is proved (docs/PROMISES.md); what this crate adds is types: numbers become addresses, widths and claims,
 //! and coded answers become `Option` and `Result`.
 //!
