@@ -13,8 +13,9 @@ check` runs there, and what it prints is read. A fact that isn't refused there m
 another that is refused: then each wrong answer is laid over a copy alone, and the fact must be refused at one of them.
 
 A goal is named after the code, and a fact as the edited code has it. A refusal that only shows that a proof file no longer fits that code (it
-names a goal, or a part of what is known there, that is called otherwise now) counts for nothing. One that only shows that a proof lost its shape (a rewriting step that finds nothing to rewrite) doesn't show that the
-fact is false: after such a fact the edit names a computed case, which is refused because its two sides differ,
+names a goal, or a part of what is known there, that is called otherwise now) counts for nothing. One that only shows that a proof lost its
+shape (a rewriting step that finds nothing to rewrite) doesn't show that the fact is false: after such a fact the edit names a computed case,
+which is refused because its two sides differ,
 
     # shown: MODULE CASE           as `Cases sent_again`
 
