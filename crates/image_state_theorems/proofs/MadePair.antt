@@ -20,7 +20,7 @@ use Rattle.vpic.specs.declared.PicRule.{PicRule}
 use Rattle.vpic.specs.declared.PicRule.TheVariants.{Latch, Cascade, Full}
 use Rattle.vpic.specs.Words.{PicState}
 use Rattle.vpic.specs.Pair.{StateClaim, new_state, is_rule, is_cascade, settled, latched_at, latched, master_claim, slave_claim, cascade_place, place_from, pending_place, claim_at, claim_pending, claim_irq, restored_at, restored, Port, master_command, master_data, slave_command, slave_data, no_port, port_at, is_port, master_read, slave_read, left_after, port_left, written_to, written_at, port_written}
-use Rattle.vpic_theorems.specs.Statements.{Call, claim_irq_lem, claim_pending_interrupt, pulse_irq, next_interrupt, restore_interrupt_lem, handle_read_lem, handle_write_lem, outcome}
+use Rattle.vpic_theorems.specs.Statements.{Call, call_claim_irq, claim_pending_interrupt, pulse_irq, next_interrupt, call_restore_interrupt, call_handle_read, call_handle_write, outcome}
 use Rattle.vpic_theorems.proofs.Kept.{calls_kept}
 use Rattle.vpic_theorems.proofs.Rule.{new_keeps, calls_keep}
 use Rattle.image_state_theorems.specs.Rules.{PicRules}
@@ -188,13 +188,13 @@ Leaves o = Both o.state
 
 calls_both : (p : PicState) (c : Call) → Both p → Both (outcome p c).state
 unfolding outcome restored port_written
-calls_both p (claim_irq_lem l) k = raise_both p l k
+calls_both p (call_claim_irq l) k = raise_both p l k
 calls_both p claim_pending_interrupt k = pending_both p k
 calls_both p (pulse_irq l) k = raise_both p l k
 calls_both p next_interrupt k = pending_both p k
-calls_both p (restore_interrupt_lem c) k = both Leaves (ltb c.irq.0 16) _ _ (settled_both _ (restored_both p (place_of c.irq) c.master_in_service c.slave_in_service k)) k
-calls_both p (handle_read_lem port width) k = both Leaves (eqb width 1) _ _ (left_both p port k) k
-calls_both p (handle_write_lem port width value) k =
+calls_both p (call_restore_interrupt c) k = both Leaves (ltb c.irq.0 16) _ _ (settled_both _ (restored_both p (place_of c.irq) c.master_in_service c.slave_in_service k)) k
+calls_both p (call_handle_read port width) k = both Leaves (eqb width 1) _ _ (left_both p port k) k
+calls_both p (call_handle_write port width value) k =
     both Leaves (eqb width 1) _ _ (both Leaves (is_port port) _ _ (settled_both _ (written_both p port (value % 256) k)) k) k
 
 pub pair_calls_keep : PairCallsKeep

@@ -14,11 +14,11 @@ use Rattle.script_machine.specs.Machine.{pic_outcome}
 use Rattle.script_theorems.specs.Runs.{in_time}
 
 pub pic_call : PicCall → claims.Call
-pic_call (pic.HandleRead port width) = claims.handle_read_lem port width
-pic_call (pic.HandleWrite port width value) = claims.handle_write_lem port width value
-pic_call (pic.ClaimIrq irq) = claims.claim_irq_lem irq
+pic_call (pic.HandleRead port width) = claims.call_handle_read port width
+pic_call (pic.HandleWrite port width value) = claims.call_handle_write port width value
+pic_call (pic.ClaimIrq irq) = claims.call_claim_irq irq
 pic_call pic.ClaimPendingInterrupt = claims.claim_pending_interrupt
-pic_call (pic.RestoreInterrupt claim) = claims.restore_interrupt_lem claim
+pic_call (pic.RestoreInterrupt claim) = claims.call_restore_interrupt claim
 
 pub as_call : (p : PicState) (c : PicCall) → pic_outcome p c ≡ claims.outcome p (pic_call c)
 unfolding pic_outcome claims.outcome pic_call

@@ -24,8 +24,8 @@ use Rattle.vlapic_theorems.specs.Service.{Highest, Idle, SearchFinds}
 use Rattle.vlapic_theorems.specs.Priorities.{Prioritized, Acceptances, Completions, Ends, AcceptThenEoi}
 use Rattle.vlapic_theorems.proofs.Service.{searches}
 
-in_service_lem : (s : VirtualApicRegs) → SearchFinds 32 s.isr
-in_service_lem s = searches 32 (omega arith) s.isr
+in_service_kept : (s : VirtualApicRegs) → SearchFinds 32 s.isr
+in_service_kept s = searches 32 (omega arith) s.isr
 
 -- ---- PPR
 
@@ -50,11 +50,11 @@ prioritized s e = record {
   class = λ v h. ap class_of (at v h) ∙ larger s.tpr v;
   by_tpr = λ v h l. at v h ∙ tpr_wins s.tpr v l;
   by_vector = λ v h l. at v h ∙ vector_wins s.tpr v l ∙ whole v h.vector;
-  idle = λ i. e ∙ ap (priority s.tpr) ((in_service_lem s).complete_none i) ∙ tpr_wins s.tpr 0 (omega arith);
+  idle = λ i. e ∙ ap (priority s.tpr) ((in_service_kept s).complete_none i) ∙ tpr_wins s.tpr 0 (omega arith);
 }
   where
     at : (v : ℕ) → Highest 32 s.isr v → s.ppr ≡ priority s.tpr v
-    at v h = e ∙ ap (priority s.tpr) ((in_service_lem s).complete v h)
+    at v h = e ∙ ap (priority s.tpr) ((in_service_kept s).complete v h)
 
     whole : (v : ℕ) → v < 256 → class_of v * 16 ≡ v / 16 * 16
     whole v l = omega arith
@@ -72,7 +72,7 @@ pub acceptances : Acceptances
 acceptances s vector level = prioritized (accept_interrupt s vector level).state (accept_worked s vector level)
 
 pub completions : Completions
-completions s v h = prioritized (handle_eoi s).state (eoi_worked s (λ z. omega (arith, h.from, sym ((in_service_lem s).complete v h) ∙ z)))
+completions s v h = prioritized (handle_eoi s).state (eoi_worked s (λ z. omega (arith, h.from, sym ((in_service_kept s).complete v h) ∙ z)))
 
 -- ---- one vector put in, and taken out again
 
@@ -171,7 +171,7 @@ module _ (s : VirtualApicRegs) (vector : Vector) (level : Bool) (isr8 : length s
   })
 
   found : find_isrv accepted ≡ v
-  found = (in_service_lem accepted).complete v highest
+  found = (in_service_kept accepted).complete v highest
 
   after_isr : after.state.isr ≡ without_vector accepted.isr v
   unfolding handle_eoi update_ppr
@@ -241,7 +241,7 @@ same_priority s t p q i r = go (eqb (find_isrv s) 0) refl
   where
     go : (b : Bool) → eqb (find_isrv s) 0 ≡ b → t.ppr ≡ s.ppr
     go true e =
-        let none : Idle 32 s.isr = (in_service_lem s).none (eqb-true (find_isrv s) 0 e) in
+        let none : Idle 32 s.isr = (in_service_kept s).none (eqb-true (find_isrv s) 0 e) in
         q.idle (subst (Idle 32) (sym i) none) ∙ r ∙ sym (p.idle none)
     go false e = by_class (leb (class_of u) (class_of s.tpr)) refl
       where
@@ -249,7 +249,7 @@ same_priority s t p q i r = go (eqb (find_isrv s) 0) refl
         u = find_isrv s
 
         top : Highest 32 s.isr u
-        top = (in_service_lem s).sound (eqb-false (find_isrv s) 0 e)
+        top = (in_service_kept s).sound (eqb-false (find_isrv s) 0 e)
 
         there : Highest 32 t.isr u
         there = subst (λ (words : List ℕ). Highest 32 words u) (sym i) top
@@ -267,7 +267,7 @@ accept_then_eoi s vector level a b f l h = (
   highest s vector level a b f l h,
   record {
     ended = λ u _. ap (λ (words : List ℕ). in_words words u) (isr_is s vector level a b f l h) ∙ one_ended s vector level a b f l h u (eqb u vector.0) refl;
-    in_service_lem = λ n. isr_back s vector level a b f l h n;
+    in_service_kept = λ n. isr_back s vector level a b f l h n;
     priority = λ n p.
         same_priority s (handle_eoi (accept_interrupt s vector level).state).state p
         (completions (accept_interrupt s vector level).state vector.0 (highest s vector level a b f l h))

@@ -97,19 +97,19 @@ ended_isr : (s : VirtualApicRegs) (v : ℕ) → find_isrv s ≡ v → (v ≡ 0 �
 unfolding handle_eoi update_ppr
 ended_isr s v e n = rw (e, ne_eqb v 0 n)
 
-in_service_lem : (s : VirtualApicRegs) → SearchFinds 32 s.isr
-in_service_lem s = searches 32 (omega arith) s.isr
+in_service_kept : (s : VirtualApicRegs) → SearchFinds 32 s.isr
+in_service_kept s = searches 32 (omega arith) s.isr
 
 pub eois : Eois
 unfolding handle_eoi update_ppr
 eois s = record {
   ended = λ v h u b. one v h u (eqb u v) refl;
   rest = rest (eqb (find_isrv s) 0);
-  nothing = λ i. rw ((in_service_lem s).complete_none i);
+  nothing = λ i. rw ((in_service_kept s).complete_none i);
 }
   where
     isr : (v : ℕ) → Highest 32 s.isr v → (handle_eoi s).state.isr ≡ without_vector s.isr v
-    isr v h = ended_isr s v ((in_service_lem s).complete v h) (λ z. omega (arith, h.from))
+    isr v h = ended_isr s v ((in_service_kept s).complete v h) (λ z. omega (arith, h.from))
 
     one : (v : ℕ) → Highest 32 s.isr v → (u : ℕ) → (b : Bool) → eqb u v ≡ b → in_words (handle_eoi s).state.isr u ≡ (in_words s.isr u && not b)
     one v h u true e =

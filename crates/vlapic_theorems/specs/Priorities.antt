@@ -35,7 +35,7 @@ Completions = (s : VirtualApicRegs) (v : ℕ) → Highest 32 s.isr v → Priorit
 -- and so is PPR, where it had been worked out; v's trigger bit tells how it was accepted; and v is broadcast exactly if it is level-triggered and SVR bit 12 is clear
 pub record Ends (s : VirtualApicRegs) (v : ℕ) (level : Bool) (after : Outcome VirtualApicRegs) : Type 0 where
   pub ended : (u : ℕ) → u < 256 → in_words after.state.isr u ≡ (in_words s.isr u && not (eqb u v))
-  pub in_service_lem : in_words s.isr v ≡ false → after.state.isr ≡ s.isr
+  pub in_service_kept : in_words s.isr v ≡ false → after.state.isr ≡ s.isr
   pub priority : in_words s.isr v ≡ false → Prioritized s → after.state.ppr ≡ s.ppr
   pub triggers : (u : ℕ) → u < 256 → in_words after.state.tmr u ≡ cond (eqb u v) level (in_words s.tmr u)
   pub broadcast : after.reply ≡ cond (level && not (bit s.svr 12)) (One v) Nothing

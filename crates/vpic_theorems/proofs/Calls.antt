@@ -13,7 +13,7 @@ use Rattle.vpic.specs.declared.PicClaim.TheVariants.{Claimed, Nothing as NoClaim
 use Rattle.vpic_chip.specs.Chip.{vector_reply}
 use Rattle.vpic.specs.Pair.{Port, master_command, master_data, slave_command, slave_data, no_port, port_at, read_from, left_after, port_read, port_left, value_reply, is_port, claim_reply, claim_vector, claim_irq, claim_pending, with_claim, with_vector, refused}
 use Rattle.vpic.proofs.Codes.{words_same}
-use Rattle.vpic_theorems.specs.Statements.{Call, claim_irq_lem, claim_pending_interrupt, pulse_irq, next_interrupt, restore_interrupt_lem, handle_read_lem, handle_write_lem, outcome, RefusedUnchanged, RefusedKeepsWords}
+use Rattle.vpic_theorems.specs.Statements.{Call, call_claim_irq, claim_pending_interrupt, pulse_irq, next_interrupt, call_restore_interrupt, call_handle_read, call_handle_write, outcome, RefusedUnchanged, RefusedKeepsWords}
 
 -- a claim is never refused, and neither is its vector
 claim_done : (c : PicClaim) → reply_number (claim_reply c) ≡ 0
@@ -44,13 +44,13 @@ read_refused p port = go (port_at port)
 
 pub refused_unchanged : RefusedUnchanged
 unfolding outcome
-refused_unchanged p (claim_irq_lem l) n = absurd (n (claim_done (claim_irq p l).claim))
+refused_unchanged p (call_claim_irq l) n = absurd (n (claim_done (claim_irq p l).claim))
 refused_unchanged p claim_pending_interrupt n = absurd (n (claim_done (claim_pending p).claim))
 refused_unchanged p (pulse_irq l) n = absurd (n (vector_done (claim_irq p l).claim))
 refused_unchanged p next_interrupt n = absurd (n (vector_done (claim_pending p).claim))
-refused_unchanged p (restore_interrupt_lem c) n = or_refused p OutOfRange (ltb c.irq.0 16) _ (λ m. absurd (m refl)) n
-refused_unchanged p (handle_read_lem port width) n = or_refused p Unsupported (eqb width 1) _ (read_refused p port) n
-refused_unchanged p (handle_write_lem port width value) n = or_refused p Unsupported (eqb width 1) _ (or_refused p Unsupported (is_port port) _ (λ m. absurd (m refl))) n
+refused_unchanged p (call_restore_interrupt c) n = or_refused p OutOfRange (ltb c.irq.0 16) _ (λ m. absurd (m refl)) n
+refused_unchanged p (call_handle_read port width) n = or_refused p Unsupported (eqb width 1) _ (read_refused p port) n
+refused_unchanged p (call_handle_write port width value) n = or_refused p Unsupported (eqb width 1) _ (or_refused p Unsupported (is_port port) _ (λ m. absurd (m refl))) n
 
 pub refused_keeps_words : RefusedKeepsWords
 refused_keeps_words l m c h k e n = words_same m l k h (e ∙ refused_unchanged (view l) c n)

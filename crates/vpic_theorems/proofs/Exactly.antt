@@ -23,7 +23,7 @@ use Rattle.vpic_chip.proofs.Laws.{pended, ordinary}
 use Rattle.vpic_theorems.proofs.Ordinary.{ordinary_plainly, plainly_above, plainly_counts, special_off}
 use Rattle.vpic.specs.Words.{PicState}
 use Rattle.vpic.specs.Pair.{drives, rule_in, chips, is_cascade, settled, latched, master_claim, slave_claim, cascade_place, place_from, claim_at, claim_pending, claim_irq, nothing_claimed, restored_at, restored, master_command, master_data, slave_command, slave_data, no_port, port_at, is_port, written_to, written_at, port_written}
-use Rattle.vpic_theorems.specs.Statements.{Call, claim_irq_lem, claim_pending_interrupt, pulse_irq, next_interrupt, restore_interrupt_lem, handle_read_lem, handle_write_lem, outcome}
+use Rattle.vpic_theorems.specs.Statements.{Call, call_claim_irq, claim_pending_interrupt, pulse_irq, next_interrupt, call_restore_interrupt, call_handle_read, call_handle_write, outcome}
 use Rattle.vpic_theorems.specs.Rotation.{is_ordinary, plain_chip, by_rule_one, sets_nested, writes_mode, is_mode_call, commands_slave, AsCascadeExactly}
 use Rattle.vpic_theorems.proofs.Settled.{settled_cascade}
 use Rattle.vpic_theorems.proofs.Plain.{nested_pair_lem, left_alike, plain_asks, Nested, latched_nested, latched_alike, place_alike, restore_alike, restore_cascade, write_alike, write_cascade}
@@ -283,15 +283,15 @@ exact_cond false x y u v h k = k
 
 call_exact : (p : PicState) (c : Call) → Nested p → is_polled p.master ≡ false → is_polled p.slave ≡ false → is_mode_call p c ≡ false → commands_slave c ≡ false → by_rule_one (outcome p c).state ≡ (outcome (by_rule_one p) c).state
 unfolding outcome restored port_written
-call_exact p (claim_irq_lem l) n x y m e = raise_exact p l n
+call_exact p (call_claim_irq l) n x y m e = raise_exact p l n
 call_exact p claim_pending_interrupt n x y m e = claim_exact p n
 call_exact p (pulse_irq l) n x y m e = raise_exact p l n
 call_exact p next_interrupt n x y m e = claim_exact p n
-call_exact p (restore_interrupt_lem c) n x y m e = exact_cond (ltb c.irq.0 16) _ _ _ _ (restore_exact p (place_of c.irq) c.master_in_service c.slave_in_service n) refl
-call_exact p (handle_read_lem port width) n x y m e =
+call_exact p (call_restore_interrupt c) n x y m e = exact_cond (ltb c.irq.0 16) _ _ _ _ (restore_exact p (place_of c.irq) c.master_in_service c.slave_in_service n) refl
+call_exact p (call_handle_read port width) n x y m e =
     let l = left_alike p port x y in
     exact_cond (eqb width 1) _ _ _ _ (ap by_rule_one l.0 ∙ sym l.1) refl
-call_exact p (handle_write_lem port width value) n x y m e = exact_cond (eqb width 1) _ _ _ _ (exact_cond (is_port port) _ _ _ _ (write_exact p port (value % 256) n m e) refl) refl
+call_exact p (call_handle_write port width value) n x y m e = exact_cond (eqb width 1) _ _ _ _ (exact_cond (is_port port) _ _ _ _ (write_exact p port (value % 256) n m e) refl) refl
 
 pub as_cascade_exactly : AsCascadeExactly
 as_cascade_exactly p c h m e = call_exact p c (nested_pair_lem p h) h.«master-poll» h.«slave-poll» m e

@@ -16,7 +16,7 @@ use Rattle.vpic_chip.specs.Registers.{Chip, with_poll, chip_in, full_in, placed}
 use Rattle.vpic_chip.specs.Chip.{cascade_irq, first_of, blocks, asks, is_polled, polled, commanded, fed, pulsed, driven, acknowledged, unacknowledged}
 use Rattle.vpic.specs.Words.{PicState, chip_by, view}
 use Rattle.vpic.specs.Pair.{StateClaim, is_cascade, settled, latched_at, latched, master_claim, slave_claim, pending_place, claim_at, claim_pending, claim_irq, restored_at, restored, Port, master_command, master_data, slave_command, slave_data, no_port, port_at, is_port, master_read, slave_read, left_after, port_left, written_to, written_at, port_written}
-use Rattle.vpic_theorems.specs.Statements.{Call, claim_irq_lem, claim_pending_interrupt, pulse_irq, next_interrupt, restore_interrupt_lem, handle_read_lem, handle_write_lem, outcome, spare_from, CallsKeepRest}
+use Rattle.vpic_theorems.specs.Statements.{Call, call_claim_irq, claim_pending_interrupt, pulse_irq, next_interrupt, call_restore_interrupt, call_handle_read, call_handle_write, outcome, spare_from, CallsKeepRest}
 
 -- ---- one chip
 
@@ -124,13 +124,13 @@ Leaves p o = Stays p o.state
 
 pub calls_kept : (p : PicState) (c : Call) → Stays p (outcome p c).state
 unfolding outcome restored port_written
-calls_kept p (claim_irq_lem l) = raise_stays p l
+calls_kept p (call_claim_irq l) = raise_stays p l
 calls_kept p claim_pending_interrupt = claim_stays p
 calls_kept p (pulse_irq l) = raise_stays p l
 calls_kept p next_interrupt = claim_stays p
-calls_kept p (restore_interrupt_lem c) = both (Leaves p) (ltb c.irq.0 16) _ _ (settled_stays p _ (restored_stays p (place_of c.irq) c.master_in_service c.slave_in_service)) (same p)
-calls_kept p (handle_read_lem port width) = both (Leaves p) (eqb width 1) _ _ (left_stays p port) (same p)
-calls_kept p (handle_write_lem port width value) =
+calls_kept p (call_restore_interrupt c) = both (Leaves p) (ltb c.irq.0 16) _ _ (settled_stays p _ (restored_stays p (place_of c.irq) c.master_in_service c.slave_in_service)) (same p)
+calls_kept p (call_handle_read port width) = both (Leaves p) (eqb width 1) _ _ (left_stays p port) (same p)
+calls_kept p (call_handle_write port width value) =
     both (Leaves p) (eqb width 1) _ _ (both (Leaves p) (is_port port) _ _ (settled_stays p _ (written_stays p port (value % 256))) (same p)) (same p)
 
 -- where the words of a chip begin to stand for nothing

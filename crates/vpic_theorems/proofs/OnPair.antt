@@ -22,8 +22,8 @@ use Rattle.types.specs.declared.Refusal.TheVariants.{OutOfRange, Unsupported}
 use Rattle.vpic.specs.declared.PicInterruptClaim.{PicInterruptClaim}
 use Rattle.vpic.specs.Words.{PicState}
 use Rattle.vpic.specs.Pair.{StateClaim, nothing_claimed, Port, master_command, master_data, slave_command, slave_data, no_port, port_at, is_there, chips, is_cascade, settled, latched_at, latched, master_claim, slave_claim, cascade_place, place_from, pending_place, claim_at, claim_pending, claim_irq, restored_at, restored, left_after, port_left, written_to, written_at, port_written, drives, rule_in, port_read, value_reply, refused, restore_interrupt, handle_read, handle_write}
-use Rattle.vpic_theorems.specs.Statements.{Call, claim_irq_lem, claim_pending_interrupt, pulse_irq, next_interrupt, restore_interrupt_lem, handle_read_lem, handle_write_lem, outcome}
-use Rattle.vpic_theorems.specs.Rotation.{Event, after, lines_of, lines, within, fairly, Waits, claim_line, acknowledge, poll_read_lem, drive}
+use Rattle.vpic_theorems.specs.Statements.{Call, call_claim_irq, claim_pending_interrupt, pulse_irq, next_interrupt, call_restore_interrupt, call_handle_read, call_handle_write, outcome}
+use Rattle.vpic_theorems.specs.Rotation.{Event, after, lines_of, lines, within, fairly, Waits, claim_line, acknowledge, read_poll, drive}
 use Rattle.vpic_theorems.specs.OnPair.{drive_from, edges_at, latch_events, claim_events, irq_events, back_at, read_events, write_events, master_events, after_all, MasterIs, on_master, shown_line, polled_line, master_served, MasterServedAre, along, FairOnMaster, slave_edges, slave_claims, slave_back, slave_reads, slave_writes, slave_irq, slave_events, SlaveIs, on_slave, slave_polled, slave_served, SlaveServedAre, FairOnSlave, NestedOnPair, NestedOnSlave}
 use Rattle.vpic_theorems.proofs.Settled.{settled_cascade}
 use Rattle.vpic_theorems.proofs.Rule.{calls_keep_number}
@@ -40,7 +40,7 @@ lines_both [] m c = refl
 lines_both (e ∷ l) m c = ap (λ (x : List ℕ). lines_of c e ++ x) (lines_both l m (after c e)) ∙ sym (append_assoc (lines_of c e) (lines (after c e) l) (lines (after_all (after c e) l) m))
 
 -- the line that a poll acknowledges is the one that it shows
-poll_lines : (c : Chip) → lines_of c poll_read_lem ≡ shown_line (poll_shown c)
+poll_lines : (c : Chip) → lines_of c read_poll ≡ shown_line (poll_shown c)
 unfolding poll_shown
 poll_lines c = go (asks c)
   where
@@ -186,7 +186,7 @@ master_irq p l e = go (ltb l.0 16)
 
 -- ---- a restore, a read, a write
 
-master_restore : (p : PicState) (c : PicInterruptClaim) → is_cascade p ≡ true → MasterDoes p (restore_interrupt p c).state (master_events p (restore_interrupt_lem c)) []
+master_restore : (p : PicState) (c : PicInterruptClaim) → is_cascade p ≡ true → MasterDoes p (restore_interrupt p c).state (master_events p (call_restore_interrupt c)) []
 unfolding restored
 master_restore p c e = go (ltb c.irq.0 16) (place_of c.irq)
   where
@@ -203,12 +203,12 @@ master_restore p c e = go (ltb c.irq.0 16) (place_of c.irq)
 driven_by : (q : PicState) → is_cascade q ≡ true → (settled q).master ≡ driven q.master 2 (asks q.slave)
 driven_by q e = rw (settled_cascade q e)
 
-master_read_lem : (p : PicState) (port width : ℕ) → is_cascade p ≡ true → MasterDoes p (handle_read p port width).state (master_events p (handle_read_lem port width)) (master_served p (handle_read_lem port width))
+master_read_lem : (p : PicState) (port width : ℕ) → is_cascade p ≡ true → MasterDoes p (handle_read p port width).state (master_events p (call_handle_read port width)) (master_served p (call_handle_read port width))
 unfolding port_left
 master_read_lem p port width e = go (eqb width 1) (port_at port)
   where
-    at_master : (b : Bool) → MasterDoes p (cond b (settled (chips p (polled p.master) p.slave)) p) (cond b (poll_read_lem ∷ drive_from p ∷ []) []) (cond b (shown_line (poll_shown p.master)) [])
-    at_master true = record { state = driven_by (chips p (polled p.master) p.slave) e; lines = append-nil (lines_of p.master poll_read_lem) ∙ poll_lines p.master }
+    at_master : (b : Bool) → MasterDoes p (cond b (settled (chips p (polled p.master) p.slave)) p) (cond b (read_poll ∷ drive_from p ∷ []) []) (cond b (shown_line (poll_shown p.master)) [])
+    at_master true = record { state = driven_by (chips p (polled p.master) p.slave) e; lines = append-nil (lines_of p.master read_poll) ∙ poll_lines p.master }
     at_master false = record { state = refl; lines = refl }
 
     at_slave : (b : Bool) → MasterDoes p (cond b (settled (chips p p.master (polled p.slave))) p)
@@ -228,7 +228,7 @@ master_read_lem p port width e = go (eqb width 1) (port_at port)
     go true a = at_port a
     go false a = record { state = refl; lines = refl }
 
-master_write : (p : PicState) (port width value : ℕ) → is_cascade p ≡ true → MasterDoes p (handle_write p port width value).state (master_events p (handle_write_lem port width value)) []
+master_write : (p : PicState) (port width value : ℕ) → is_cascade p ≡ true → MasterDoes p (handle_write p port width value).state (master_events p (call_handle_write port width value)) []
 unfolding port_written written_at
 master_write p port width value e = go (eqb width 1) (port_at port)
   where
@@ -248,13 +248,13 @@ master_write p port width value e = go (eqb width 1) (port_at port)
 
 master_does : (p : PicState) (c : Call) → is_cascade p ≡ true → MasterDoes p (outcome p c).state (master_events p c) (master_served p c)
 unfolding outcome
-master_does p (claim_irq_lem l) e = master_irq p l e
+master_does p (call_claim_irq l) e = master_irq p l e
 master_does p claim_pending_interrupt e = master_claims p e
 master_does p (pulse_irq l) e = master_irq p l e
 master_does p next_interrupt e = master_claims p e
-master_does p (restore_interrupt_lem c) e = master_restore p c e
-master_does p (handle_read_lem port width) e = master_read_lem p port width e
-master_does p (handle_write_lem port width value) e = master_write p port width value e
+master_does p (call_restore_interrupt c) e = master_restore p c e
+master_does p (call_handle_read port width) e = master_read_lem p port width e
+master_does p (call_handle_write port width value) e = master_write p port width value e
 
 pub master_is : MasterIs
 master_is p c e = (master_does p c e).state
@@ -342,7 +342,7 @@ slave_irq_lem p l = go (ltb l.0 16)
     go true = then (λ q. q.slave) p (latched p l) _ (slave_edges (place_of l)) (slave_claims (pending_place (latched p l))) [] _ (slave_latched p l) (slave_claims_lem (latched p l))
     go false = record { state = refl; lines = refl }
 
-slave_restore : (p : PicState) (c : PicInterruptClaim) → SlaveDoes p (restore_interrupt p c).state (slave_events p (restore_interrupt_lem c)) []
+slave_restore : (p : PicState) (c : PicInterruptClaim) → SlaveDoes p (restore_interrupt p c).state (slave_events p (call_restore_interrupt c)) []
 unfolding restored
 slave_restore p c = go (ltb c.irq.0 16) (place_of c.irq)
   where
@@ -356,7 +356,7 @@ slave_restore p c = go (ltb c.irq.0 16) (place_of c.irq)
     go true Nowhere = record { state = settled_slave p; lines = refl }
     go false a = record { state = refl; lines = refl }
 
-slave_read_lem : (p : PicState) (port width : ℕ) → SlaveDoes p (handle_read p port width).state (slave_events p (handle_read_lem port width)) (slave_served p (handle_read_lem port width))
+slave_read_lem : (p : PicState) (port width : ℕ) → SlaveDoes p (handle_read p port width).state (slave_events p (call_handle_read port width)) (slave_served p (call_handle_read port width))
 unfolding port_left
 slave_read_lem p port width = go (eqb width 1) (port_at port)
   where
@@ -364,8 +364,8 @@ slave_read_lem p port width = go (eqb width 1) (port_at port)
     at_master true = record { state = settled_slave (chips p (polled p.master) p.slave); lines = refl }
     at_master false = record { state = refl; lines = refl }
 
-    at_slave : (b : Bool) → SlaveDoes p (cond b (settled (chips p p.master (polled p.slave))) p) (cond b (poll_read_lem ∷ []) []) (cond b (shown_line (poll_shown p.slave)) [])
-    at_slave true = record { state = settled_slave (chips p p.master (polled p.slave)); lines = append-nil (lines_of p.slave poll_read_lem) ∙ poll_lines p.slave }
+    at_slave : (b : Bool) → SlaveDoes p (cond b (settled (chips p p.master (polled p.slave))) p) (cond b (read_poll ∷ []) []) (cond b (shown_line (poll_shown p.slave)) [])
+    at_slave true = record { state = settled_slave (chips p p.master (polled p.slave)); lines = append-nil (lines_of p.slave read_poll) ∙ poll_lines p.slave }
     at_slave false = record { state = refl; lines = refl }
 
     at_port : (a : Port) → SlaveDoes p (left_after p a) (slave_reads p a) (slave_polled p a)
@@ -380,7 +380,7 @@ slave_read_lem p port width = go (eqb width 1) (port_at port)
     go true a = at_port a
     go false a = record { state = refl; lines = refl }
 
-slave_write : (p : PicState) (port width value : ℕ) → SlaveDoes p (handle_write p port width value).state (slave_events p (handle_write_lem port width value)) []
+slave_write : (p : PicState) (port width value : ℕ) → SlaveDoes p (handle_write p port width value).state (slave_events p (call_handle_write port width value)) []
 unfolding port_written written_at
 slave_write p port width value = go (eqb width 1) (port_at port)
   where
@@ -398,13 +398,13 @@ slave_write p port width value = go (eqb width 1) (port_at port)
 
 slave_does : (p : PicState) (c : Call) → SlaveDoes p (outcome p c).state (slave_events p c) (slave_served p c)
 unfolding outcome
-slave_does p (claim_irq_lem l) = slave_irq_lem p l
+slave_does p (call_claim_irq l) = slave_irq_lem p l
 slave_does p claim_pending_interrupt = slave_claims_lem p
 slave_does p (pulse_irq l) = slave_irq_lem p l
 slave_does p next_interrupt = slave_claims_lem p
-slave_does p (restore_interrupt_lem c) = slave_restore p c
-slave_does p (handle_read_lem port width) = slave_read_lem p port width
-slave_does p (handle_write_lem port width value) = slave_write p port width value
+slave_does p (call_restore_interrupt c) = slave_restore p c
+slave_does p (call_handle_read port width) = slave_read_lem p port width
+slave_does p (call_handle_write port width value) = slave_write p port width value
 
 pub slave_is : SlaveIs
 slave_is p c = (slave_does p c).state

@@ -28,7 +28,7 @@ use Rattle.vpic.specs.declared.PicValue.TheVariants.{Value}
 use Rattle.vpic.specs.Pair.{claim_reply, claim_vector, value_reply, new_state, drives, rule_in, StateClaim, chips, is_cascade, settled, latched_at, latched, master_claim, slave_claim, cascade_place, place_from, pending_place, claim_at, claim_pending, claim_irq, nothing_claimed, restored_at, restored, refused, Port, master_command, master_data, slave_command, slave_data, no_port, port_at, is_port, read_from, left_after, port_read, port_left, written_to, written_at, port_written}
 use Rattle.vpic_theorems.proofs.Settled.{settled_cascade}
 use Rattle.vpic_theorems.proofs.Turns.{raise_becomes}
-use Rattle.vpic_theorems.specs.Statements.{Call, claim_irq_lem, claim_pending_interrupt, pulse_irq, next_interrupt, restore_interrupt_lem, handle_read_lem, handle_write_lem, outcome}
+use Rattle.vpic_theorems.specs.Statements.{Call, call_claim_irq, claim_pending_interrupt, pulse_irq, next_interrupt, call_restore_interrupt, call_handle_read, call_handle_write, outcome}
 use Rattle.vpic_theorems.specs.Rotation.{is_ordinary, plain_chip, by_rule_one, but_two, Alike, Ordinary, chooses_mode, writes_mode, is_mode_call, AsCascade, RequestTwoTurned, ModesNeeded}
 
 plain_cond : (b : Bool) (x y u v : Chip) → plain_chip x ≡ u → plain_chip y ≡ v → plain_chip (cond b x y) ≡ cond b u v
@@ -278,21 +278,21 @@ refused_alike p why = record { reply = refl; state = refl; exact = λ l o. refl 
 
 call_alike : (p : PicState) (c : Call) → Nested p → is_polled p.master ≡ false → is_polled p.slave ≡ false → is_mode_call p c ≡ false → Alike (outcome p c) (outcome (by_rule_one p) c)
 unfolding outcome restored port_written
-call_alike p (claim_irq_lem l) h x y m = let a = raise_alike p l h in record { reply = ap claim_reply a.claim; state = a.state.0; exact = a.state.1 }
+call_alike p (call_claim_irq l) h x y m = let a = raise_alike p l h in record { reply = ap claim_reply a.claim; state = a.state.0; exact = a.state.1 }
 call_alike p claim_pending_interrupt h x y m = let a = claim_alike p h in record { reply = ap claim_reply a.claim; state = a.state.0; exact = a.state.1 }
 call_alike p (pulse_irq l) h x y m = let a = raise_alike p l h in record { reply = ap (λ (x : PicClaim). vector_reply (claim_vector x)) a.claim; state = a.state.0; exact = a.state.1 }
 call_alike p next_interrupt h x y m = let a = claim_alike p h in record { reply = ap (λ (x : PicClaim). vector_reply (claim_vector x)) a.claim; state = a.state.0; exact = a.state.1 }
-call_alike p (restore_interrupt_lem c) h x y m =
+call_alike p (call_restore_interrupt c) h x y m =
     alike_cond (ltb c.irq.0 16) _ _ _ _
     (done _ _
     (settled_as (restored_at p (place_of c.irq) c.master_in_service c.slave_in_service) (restored_at (by_rule_one p) (place_of c.irq) c.master_in_service c.slave_in_service)
     (restore_cascade p (place_of c.irq) c.master_in_service c.slave_in_service ∙ h.cascade)
     (restore_alike p (place_of c.irq) c.master_in_service c.slave_in_service)))
     (refused_alike p OutOfRange)
-call_alike p (handle_read_lem port width) h x y m =
+call_alike p (call_handle_read port width) h x y m =
     let l = left_alike p port x y in
     alike_cond (eqb width 1) _ _ _ _ (rw (l.0, l.1) (record { reply = ap value_reply (read_alike p port x y); state = refl; exact = λ l o. refl })) (refused_alike p Unsupported)
-call_alike p (handle_write_lem port width value) h x y m =
+call_alike p (call_handle_write port width value) h x y m =
     alike_cond (eqb width 1) _ _ _ _
     (alike_cond (is_port port) _ _ _ _
     (done _ _

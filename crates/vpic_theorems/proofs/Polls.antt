@@ -17,7 +17,7 @@ use Rattle.vpic_chip.specs.Registers.{Chip}
 use Rattle.vpic_chip.specs.Chip.{cascade_irq, first_of, blocks, is_polled, polled, icw1, ocw2, ocw3, commanded, fed, pulsed, driven, acknowledged, unacknowledged}
 use Rattle.vpic.specs.Words.{PicState}
 use Rattle.vpic.specs.Pair.{StateClaim, is_cascade, settled, latched_at, latched, master_claim, slave_claim, pending_place, claim_at, claim_pending, claim_irq, restored_at, restored, port_at, is_port, master_read, slave_read, left_after, port_read, port_left, written_at, port_written, value_reply, refused}
-use Rattle.vpic_theorems.specs.Statements.{Call, claim_irq_lem, claim_pending_interrupt, pulse_irq, next_interrupt, restore_interrupt_lem, handle_read_lem, handle_write_lem, outcome}
+use Rattle.vpic_theorems.specs.Statements.{Call, call_claim_irq, claim_pending_interrupt, pulse_irq, next_interrupt, call_restore_interrupt, call_handle_read, call_handle_write, outcome}
 use Rattle.vpic_theorems.specs.Modes.{is_poll_command, PollsAfter, CallsKeepFull, is_at_port, SamePolls, ClaimsLeavePolls}
 use Rattle.vpic_theorems.proofs.Kept.{calls_kept}
 
@@ -115,16 +115,16 @@ restored_same p Nowhere m s = (refl, refl)
 
 off_port : (p : PicState) (c : Call) → is_at_port c ≡ false → SamePolls p (outcome p c).state
 unfolding outcome restored
-off_port p (claim_irq_lem l) e = raise_same p l
+off_port p (call_claim_irq l) e = raise_same p l
 off_port p claim_pending_interrupt e = claim_same p
 off_port p (pulse_irq l) e = raise_same p l
 off_port p next_interrupt e = claim_same p
-off_port p (restore_interrupt_lem c) e =
+off_port p (call_restore_interrupt c) e =
     both (λ (o : Outcome PicState). SamePolls p o.state) (ltb c.irq.0 16) _ _
     (settled_same p _ (restored_same p (place_of c.irq) c.master_in_service c.slave_in_service))
     (refl, refl)
-off_port p (handle_read_lem port width) e = never refl e
-off_port p (handle_write_lem port width value) e = never refl e
+off_port p (call_handle_read port width) e = never refl e
+off_port p (call_handle_write port width value) e = never refl e
 
 pub claims_leave_polls : ClaimsLeavePolls
 claims_leave_polls = off_port
@@ -194,19 +194,19 @@ write_after p v port =
 -- every call; a width other than a byte is refused
 pub polls_after : PollsAfter
 unfolding outcome port_left
-polls_after p (claim_irq_lem l) = off_left p (claim_irq_lem l) refl
+polls_after p (call_claim_irq l) = off_left p (call_claim_irq l) refl
 polls_after p claim_pending_interrupt = off_left p claim_pending_interrupt refl
 polls_after p (pulse_irq l) = off_left p (pulse_irq l) refl
 polls_after p next_interrupt = off_left p next_interrupt refl
-polls_after p (restore_interrupt_lem c) = off_left p (restore_interrupt_lem c) refl
-polls_after p (handle_read_lem port width) = go (eqb width 1)
+polls_after p (call_restore_interrupt c) = off_left p (call_restore_interrupt c) refl
+polls_after p (call_handle_read port width) = go (eqb width 1)
   where
     go : (b : Bool)
         → Left p (cond b (record { state = port_left p port; reply = value_reply (port_read p port) }) (refused p Unsupported)).state
         false (b && (eqb port 0x20 || eqb port 0x21)) false (b && (eqb port 0xa0 || eqb port 0xa1))
     go true = read_after p port
     go false = unchanged p
-polls_after p (handle_write_lem port width value) = go (eqb width 1)
+polls_after p (call_handle_write port width value) = go (eqb width 1)
   where
     v : ℕ
     v = value % 256

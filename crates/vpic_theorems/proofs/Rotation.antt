@@ -15,7 +15,7 @@ use Rattle.vpic_chip.specs.Registers.{Chip, with_poll}
 use Rattle.vpic_priority.specs.Ring.{rank, first_rank, first_by}
 use Rattle.vpic_priority.proofs.Ring.{rank_lt}
 use Rattle.vpic_chip.specs.Chip.{lowest_by, turned, specific_eoi, non_specific_eoi, auto_rotated, icw1, ocw3, counts, pending_line, asks, acknowledged, pulsed, driven, unacknowledged, polled, commanded, fed}
-use Rattle.vpic_theorems.specs.Rotation.{Event, raise, drive, acknowledge, poll_read_lem, take_back, command, data_write, after, lines_of, lines, within, keeps_turns, is_ordinary, fairly, turns, raises, rounds, FairRounds, LastIsEighth, Needed, Waits, Fair, FairInEight}
+use Rattle.vpic_theorems.specs.Rotation.{Event, raise, drive, acknowledge, read_poll, take_back, command, data_write, after, lines_of, lines, within, keeps_turns, is_ordinary, fairly, turns, raises, rounds, FairRounds, LastIsEighth, Needed, Waits, Fair, FairInEight}
 use Rattle.vpic_theorems.proofs.Ring.{rank_turn, AllBefore, before, before_le, before_none, all_with, before_with, all_turn, before_turn, all_ended, before_ended}
 use Rattle.vpic_theorems.proofs.Ordinary.{ordinary_ended, ordinary_plainly, idle_plainly}
 use Rattle.vpic_theorems.proofs.Turns.{Becomes, becomes_same, ack_idle, eoi_taken, taken_still, raise_becomes, raise_keeps, ack_turns, ack_serves, fed_keeps, Next, next, asks_for, highest_in_service, rotating_eoi, eoi_highest, turned_not, top_in, top_first}
@@ -185,9 +185,9 @@ module _ (n : ℕ) (nlow : n < 8) where
       let o = and_true (is_ordinary c) ((not (bit c.mask n) && turns c) && (within n 1 (lines_of c acknowledge) || fairly n (after c acknowledge) l)) f in
       let k = and_true (not (bit c.mask n) && turns c) (within n 1 (lines_of c acknowledge) || fairly n (after c acknowledge) l) o.1 in
       acknowledges n nlow c l (λ e. e) (λ e d s. s) w o.0 (λ e. served_by l e) k.0 b (asks c) refl k.1 h q
-  served_by (poll_read_lem ∷ l) c b w f h q =
-      let o = and_true (is_ordinary c) ((not (bit c.mask n) && turns c) && (within n 1 (lines_of c poll_read_lem) || fairly n (after c poll_read_lem) l)) f in
-      let k = and_true (not (bit c.mask n) && turns c) (within n 1 (lines_of c poll_read_lem) || fairly n (after c poll_read_lem) l) o.1 in
+  served_by (read_poll ∷ l) c b w f h q =
+      let o = and_true (is_ordinary c) ((not (bit c.mask n) && turns c) && (within n 1 (lines_of c read_poll) || fairly n (after c read_poll) l)) f in
+      let k = and_true (not (bit c.mask n) && turns c) (within n 1 (lines_of c read_poll) || fairly n (after c read_poll) l) o.1 in
       acknowledges n nlow c l (λ e. with_poll e false) (unpolled_step n c) w o.0 (λ e. served_by l e) k.0 b (asks c) refl k.1 h q
 
 -- nothing in service: nothing stands before n

@@ -24,7 +24,7 @@ use Rattle.vpic.specs.declared.PicRule.TheVariants.{Latch, Cascade, Full}
 use Rattle.vpic.specs.Words.{PicState}
 use Rattle.vpic_chip.specs.Chip.{lowest_by, first_of, is_above_all, blocks_line, is_polled, polled, opened, commanded, fed, pulsed, asks, cascade_irq, driven, counts, pending_line, Highest, pending_irq, acknowledged, unacknowledged}
 use Rattle.vpic.specs.Pair.{chips, Keeps, new_state, settled, latched_at, latched, master_claim, slave_claim, pending_place, claim_at, claim_pending, claim_irq, nothing_claimed, restored_at, restored, Port, master_command, master_data, slave_command, slave_data, no_port, port_at, master_read, slave_read, left_after, port_left, is_port, written_at, port_written, port_read, value_reply, refused}
-use Rattle.vpic_theorems.specs.Statements.{Call, claim_irq_lem, claim_pending_interrupt, pulse_irq, next_interrupt, restore_interrupt_lem, handle_read_lem, handle_write_lem, outcome}
+use Rattle.vpic_theorems.specs.Statements.{Call, call_claim_irq, claim_pending_interrupt, pulse_irq, next_interrupt, call_restore_interrupt, call_handle_read, call_handle_write, outcome}
 use Rattle.vpic_theorems.specs.Rule.{AsksIfCounts, CountsIfAsks, run, NewHasRule, NewKeeps, CallsKeep, CallsKeepNumber, RunsKeep, CallsSettle, ReadsUnchanged, polled_at, LineTwoLatchesNothing, Clear, SlaveHeard, UnkeptNotRestored}
 use Rattle.vpic_theorems.proofs.Settled.{settled_cascade, driven_with}
 use Rattle.vpic.proofs.Settled.{settled_keeps, settled_kept}
@@ -127,14 +127,14 @@ or_kept P p why false o h k = k
 
 pub calls_keep : CallsKeep
 unfolding outcome restored port_written
-calls_keep p (claim_irq_lem l) keeps = raise_keeps p l keeps
+calls_keep p (call_claim_irq l) keeps = raise_keeps p l keeps
 calls_keep p claim_pending_interrupt keeps = claim_keeps p
 calls_keep p (pulse_irq l) keeps = raise_keeps p l keeps
 calls_keep p next_interrupt keeps = claim_keeps p
-calls_keep p (restore_interrupt_lem c) keeps =
+calls_keep p (call_restore_interrupt c) keeps =
     or_kept Keeps p OutOfRange (ltb c.irq.0 16) _ (settled_keeps (restored_at p (place_of c.irq) c.master_in_service c.slave_in_service)) keeps
-calls_keep p (handle_read_lem port width) keeps = or_kept Keeps p Unsupported (eqb width 1) _ (read_keeps p port keeps) keeps
-calls_keep p (handle_write_lem port width value) keeps =
+calls_keep p (call_handle_read port width) keeps = or_kept Keeps p Unsupported (eqb width 1) _ (read_keeps p port keeps) keeps
+calls_keep p (call_handle_write port width value) keeps =
     or_kept Keeps p Unsupported (eqb width 1) _ (or_kept Keeps p Unsupported (is_port port) _ (settled_keeps (written_at p port (value % 256))) keeps) keeps
 
 -- whatever the pair was, where the call isn't refused
@@ -149,14 +149,14 @@ or_settled p why false o r h n = absurd (r n)
 
 pub calls_settle : CallsSettle
 unfolding outcome restored port_written port_left
-calls_settle p (claim_irq_lem l) s n = raise_settles p l s
+calls_settle p (call_claim_irq l) s n = raise_settles p l s
 calls_settle p claim_pending_interrupt s n = claim_keeps p
 calls_settle p (pulse_irq l) s n = raise_settles p l s
 calls_settle p next_interrupt s n = claim_keeps p
-calls_settle p (restore_interrupt_lem c) s n =
+calls_settle p (call_restore_interrupt c) s n =
     or_settled p OutOfRange (ltb c.irq.0 16) _ (λ z. omega arith) (λ d. settled_keeps (restored_at p (place_of c.irq) c.master_in_service c.slave_in_service)) n
-calls_settle p (handle_read_lem port width) s n = or_settled p Unsupported (eqb width 1) _ (λ z. omega arith) (λ d. read_settles p (port_at port) s) n
-calls_settle p (handle_write_lem port width value) s n =
+calls_settle p (call_handle_read port width) s n = or_settled p Unsupported (eqb width 1) _ (λ z. omega arith) (λ d. read_settles p (port_at port) s) n
+calls_settle p (call_handle_write port width value) s n =
     or_settled p Unsupported (eqb width 1) _ (λ z. omega arith) (or_settled p Unsupported (is_port port) _ (λ z. omega arith) (λ d. settled_keeps (written_at p port (value % 256)))) n
 
 -- and the rule's number stays

@@ -9,7 +9,7 @@ use Rattle.vpic.specs.declared.PicClaim.TheVariants.{Claimed, Nothing as NoClaim
 use Rattle.vpic.specs.Words.{PicState}
 use Rattle.vpic.specs.Pair.{chips, settled, claim_pending, restore_interrupt, handle_read, port_written}
 use Rattle.vpic.specs.Departures.{pair}
-use Rattle.vpic_theorems.specs.Statements.{Call, claim_irq_lem, claim_pending_interrupt, pulse_irq, next_interrupt, restore_interrupt_lem, handle_read_lem, handle_write_lem, outcome}
+use Rattle.vpic_theorems.specs.Statements.{Call, call_claim_irq, claim_pending_interrupt, pulse_irq, next_interrupt, call_restore_interrupt, call_handle_read, call_handle_write, outcome}
 use Rattle.vpic_theorems.specs.Rotation.{full_chip, full_at, shown_at}
 
 -- ---- poll
@@ -66,23 +66,23 @@ is_poll_command v = not (bit v 4) && bit v 3 && bit v 2
 
 -- of the chip whose command port is `at` and whose data port is the next one: that command, written there, begins a poll
 abbrev pub begins_poll : ℕ → Call → Bool
-begins_poll at (claim_irq_lem l) = false
+begins_poll at (call_claim_irq l) = false
 begins_poll at claim_pending_interrupt = false
 begins_poll at (pulse_irq l) = false
 begins_poll at next_interrupt = false
-begins_poll at (restore_interrupt_lem c) = false
-begins_poll at (handle_read_lem port width) = false
-begins_poll at (handle_write_lem port width value) = eqb width 1 && eqb port at && is_poll_command (value % 256)
+begins_poll at (call_restore_interrupt c) = false
+begins_poll at (call_handle_read port width) = false
+begins_poll at (call_handle_write port width value) = eqb width 1 && eqb port at && is_poll_command (value % 256)
 
 -- a read of either port ends it, and so does ICW1 (bit 4) at the command port. A read or a write of another width than a byte is refused, and does neither
 abbrev pub ends_poll : ℕ → Call → Bool
-ends_poll at (claim_irq_lem l) = false
+ends_poll at (call_claim_irq l) = false
 ends_poll at claim_pending_interrupt = false
 ends_poll at (pulse_irq l) = false
 ends_poll at next_interrupt = false
-ends_poll at (restore_interrupt_lem c) = false
-ends_poll at (handle_read_lem port width) = eqb width 1 && (eqb port at || eqb port (at + 1))
-ends_poll at (handle_write_lem port width value) = eqb width 1 && eqb port at && bit (value % 256) 4
+ends_poll at (call_restore_interrupt c) = false
+ends_poll at (call_handle_read port width) = eqb width 1 && (eqb port at || eqb port (at + 1))
+ends_poll at (call_handle_write port width value) = eqb width 1 && eqb port at && bit (value % 256) 4
 
 -- after a call a poll waits exactly if the call begins one and the chip is of the full profile, or if one waited and the call doesn't end it
 abbrev pub poll_after : Chip → ℕ → Call → Bool
@@ -101,13 +101,13 @@ CallsKeepFull = (p : PicState) (c : Call) → ((outcome p c).state.master.full �
 
 -- so, by PollsAfter alone, the calls at no port, those that claim, raise and restore, leave both chips' polls as they were
 abbrev pub is_at_port : Call → Bool
-is_at_port (claim_irq_lem l) = false
+is_at_port (call_claim_irq l) = false
 is_at_port claim_pending_interrupt = false
 is_at_port (pulse_irq l) = false
 is_at_port next_interrupt = false
-is_at_port (restore_interrupt_lem c) = false
-is_at_port (handle_read_lem port width) = true
-is_at_port (handle_write_lem port width value) = true
+is_at_port (call_restore_interrupt c) = false
+is_at_port (call_handle_read port width) = true
+is_at_port (call_handle_write port width value) = true
 
 abbrev pub SamePolls : PicState → PicState → Type 0
 SamePolls p q = (is_polled q.master ≡ is_polled p.master) × (is_polled q.slave ≡ is_polled p.slave)

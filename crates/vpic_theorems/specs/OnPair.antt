@@ -11,8 +11,8 @@ use Rattle.vpic_chip.specs.Chip.{cascade_irq, lowest_by, asks, is_polled, poll_s
 use Rattle.vpic.specs.Words.{PicState}
 use Rattle.vpic.specs.Pair.{Port, master_command, master_data, slave_command, slave_data, no_port, port_at, is_cascade, latched, pending_place, claim_pending, restored, slave_read, written_to}
 use Rattle.vpic.specs.Departures.{line, pair}
-use Rattle.vpic_theorems.specs.Statements.{Call, claim_irq_lem, claim_pending_interrupt, pulse_irq, next_interrupt, restore_interrupt_lem, handle_read_lem, handle_write_lem, outcome}
-use Rattle.vpic_theorems.specs.Rotation.{Event, raise, drive, acknowledge, poll_read_lem, take_back, command, data_write, after, lines, within, fairly, Waits, full_at, claim_line, claimed_by, claims}
+use Rattle.vpic_theorems.specs.Statements.{Call, call_claim_irq, claim_pending_interrupt, pulse_irq, next_interrupt, call_restore_interrupt, call_handle_read, call_handle_write, outcome}
+use Rattle.vpic_theorems.specs.Rotation.{Event, raise, drive, acknowledge, read_poll, take_back, command, data_write, after, lines, within, fairly, Waits, full_at, claim_line, claimed_by, claims}
 
 -- ---- what a call does to the master, event by event
 
@@ -42,8 +42,8 @@ back_at Nowhere f = []
 
 -- a read of the slave where a poll waits there may take its request away
 abbrev pub read_events : PicState → Port → List Event
-read_events p master_command = cond (is_polled p.master) (poll_read_lem ∷ drive_from p ∷ []) []
-read_events p master_data = cond (is_polled p.master) (poll_read_lem ∷ drive_from p ∷ []) []
+read_events p master_command = cond (is_polled p.master) (read_poll ∷ drive_from p ∷ []) []
+read_events p master_data = cond (is_polled p.master) (read_poll ∷ drive_from p ∷ []) []
 read_events p slave_command = cond (is_polled p.slave) (drive_from (slave_read p) ∷ []) []
 read_events p slave_data = cond (is_polled p.slave) (drive_from (slave_read p) ∷ []) []
 read_events p no_port = []
@@ -56,13 +56,13 @@ write_events p slave_data byte = drive_from (written_to p slave_data byte) ∷ [
 write_events p no_port byte = []
 
 abbrev pub master_events : PicState → Call → List Event
-master_events p (claim_irq_lem l) = irq_events p l
+master_events p (call_claim_irq l) = irq_events p l
 master_events p claim_pending_interrupt = claim_events p
 master_events p (pulse_irq l) = irq_events p l
 master_events p next_interrupt = claim_events p
-master_events p (restore_interrupt_lem c) = cond (ltb c.irq.0 16) (back_at (place_of c.irq) c.master_in_service ++ drive_from (restored p c) ∷ []) []
-master_events p (handle_read_lem port width) = cond (eqb width 1) (read_events p (port_at port)) []
-master_events p (handle_write_lem port width value) = cond (eqb width 1) (write_events p (port_at port) (value % 256)) []
+master_events p (call_restore_interrupt c) = cond (ltb c.irq.0 16) (back_at (place_of c.irq) c.master_in_service ++ drive_from (restored p c) ∷ []) []
+master_events p (call_handle_read port width) = cond (eqb width 1) (read_events p (port_at port)) []
+master_events p (call_handle_write port width value) = cond (eqb width 1) (write_events p (port_at port) (value % 256)) []
 
 abbrev pub after_all : Chip → List Event → Chip
 after_all c [] = c
@@ -91,13 +91,13 @@ polled_line p slave_data = []
 polled_line p no_port = []
 
 abbrev pub master_served : PicState → Call → List ℕ
-master_served p (claim_irq_lem l) = on_master (claim_line (claimed_by p (claim_irq_lem l)))
+master_served p (call_claim_irq l) = on_master (claim_line (claimed_by p (call_claim_irq l)))
 master_served p claim_pending_interrupt = on_master (claim_line (claimed_by p claim_pending_interrupt))
 master_served p (pulse_irq l) = on_master (claim_line (claimed_by p (pulse_irq l)))
 master_served p next_interrupt = on_master (claim_line (claimed_by p next_interrupt))
-master_served p (restore_interrupt_lem c) = []
-master_served p (handle_read_lem port width) = cond (eqb width 1) (polled_line p (port_at port)) []
-master_served p (handle_write_lem port width value) = []
+master_served p (call_restore_interrupt c) = []
+master_served p (call_handle_read port width) = cond (eqb width 1) (polled_line p (port_at port)) []
+master_served p (call_handle_write port width value) = []
 
 abbrev pub MasterServedAre : Type 0
 MasterServedAre = (p : PicState) (c : Call) → is_cascade p ≡ true → lines p.master (master_events p c) ≡ master_served p c
@@ -136,8 +136,8 @@ slave_back Nowhere f = []
 abbrev pub slave_reads : PicState → Port → List Event
 slave_reads p master_command = []
 slave_reads p master_data = []
-slave_reads p slave_command = cond (is_polled p.slave) (poll_read_lem ∷ []) []
-slave_reads p slave_data = cond (is_polled p.slave) (poll_read_lem ∷ []) []
+slave_reads p slave_command = cond (is_polled p.slave) (read_poll ∷ []) []
+slave_reads p slave_data = cond (is_polled p.slave) (read_poll ∷ []) []
 slave_reads p no_port = []
 
 abbrev pub slave_writes : Port → ℕ → List Event
@@ -151,13 +151,13 @@ abbrev pub slave_irq : PicState → PicLine → List Event
 slave_irq p l = cond (ltb l.0 16) (slave_edges (place_of l) ++ slave_claims (pending_place (latched p l))) []
 
 abbrev pub slave_events : PicState → Call → List Event
-slave_events p (claim_irq_lem l) = slave_irq p l
+slave_events p (call_claim_irq l) = slave_irq p l
 slave_events p claim_pending_interrupt = slave_claims (pending_place p)
 slave_events p (pulse_irq l) = slave_irq p l
 slave_events p next_interrupt = slave_claims (pending_place p)
-slave_events p (restore_interrupt_lem c) = cond (ltb c.irq.0 16) (slave_back (place_of c.irq) c.slave_in_service) []
-slave_events p (handle_read_lem port width) = cond (eqb width 1) (slave_reads p (port_at port)) []
-slave_events p (handle_write_lem port width value) = cond (eqb width 1) (slave_writes (port_at port) (value % 256)) []
+slave_events p (call_restore_interrupt c) = cond (ltb c.irq.0 16) (slave_back (place_of c.irq) c.slave_in_service) []
+slave_events p (call_handle_read port width) = cond (eqb width 1) (slave_reads p (port_at port)) []
+slave_events p (call_handle_write port width value) = cond (eqb width 1) (slave_writes (port_at port) (value % 256)) []
 
 abbrev pub SlaveIs : Type 0
 SlaveIs = (p : PicState) (c : Call) → (outcome p c).state.slave ≡ after_all p.slave (slave_events p c)
@@ -175,13 +175,13 @@ slave_polled p slave_data = cond (is_polled p.slave) (shown_line (poll_shown p.s
 slave_polled p no_port = []
 
 abbrev pub slave_served : PicState → Call → List ℕ
-slave_served p (claim_irq_lem l) = on_slave (claim_line (claimed_by p (claim_irq_lem l)))
+slave_served p (call_claim_irq l) = on_slave (claim_line (claimed_by p (call_claim_irq l)))
 slave_served p claim_pending_interrupt = on_slave (claim_line (claimed_by p claim_pending_interrupt))
 slave_served p (pulse_irq l) = on_slave (claim_line (claimed_by p (pulse_irq l)))
 slave_served p next_interrupt = on_slave (claim_line (claimed_by p next_interrupt))
-slave_served p (restore_interrupt_lem c) = []
-slave_served p (handle_read_lem port width) = cond (eqb width 1) (slave_polled p (port_at port)) []
-slave_served p (handle_write_lem port width value) = []
+slave_served p (call_restore_interrupt c) = []
+slave_served p (call_handle_read port width) = cond (eqb width 1) (slave_polled p (port_at port)) []
+slave_served p (call_handle_write port width value) = []
 
 abbrev pub SlaveServedAre : Type 0
 SlaveServedAre = (p : PicState) (c : Call) → lines p.slave (slave_events p c) ≡ slave_served p c
@@ -200,8 +200,8 @@ three_waits = pair 2 (placed true (full_at 8 0 0 false)) (full_at 0 0 0 false)
 
 abbrev pub nested_calls : List Call
 nested_calls =
-    claim_irq_lem (line 1) ∷ claim_irq_lem (line 0) ∷ claim_irq_lem (line 9) ∷ handle_write_lem 0x20 1 0xa0 ∷ handle_write_lem 0x20 1 0xa0 ∷ claim_pending_interrupt
-    ∷ handle_write_lem 0xa0 1 0xa0 ∷ handle_write_lem 0x20 1 0xa0 ∷ handle_write_lem 0x20 1 0x0c ∷ handle_read_lem 0x20 1 ∷ []
+    call_claim_irq (line 1) ∷ call_claim_irq (line 0) ∷ call_claim_irq (line 9) ∷ call_handle_write 0x20 1 0xa0 ∷ call_handle_write 0x20 1 0xa0 ∷ claim_pending_interrupt
+    ∷ call_handle_write 0xa0 1 0xa0 ∷ call_handle_write 0x20 1 0xa0 ∷ call_handle_write 0x20 1 0x0c ∷ call_handle_read 0x20 1 ∷ []
 
 pub record NestedOnPair : Type 0 where
   pub waits : Waits three_waits.master 3
@@ -216,8 +216,8 @@ three_on_slave = pair 2 (placed true (full_at 4 0 0 false)) (full_at 8 0 0 false
 
 abbrev pub slave_calls : List Call
 slave_calls =
-    claim_irq_lem (line 9) ∷ handle_write_lem 0x20 1 0xa0 ∷ claim_irq_lem (line 8) ∷ handle_write_lem 0xa0 1 0xa0 ∷ handle_write_lem 0xa0 1 0xa0 ∷ handle_write_lem 0x20 1 0xa0
-    ∷ handle_write_lem 0xa0 1 0x0c ∷ handle_read_lem 0xa0 1 ∷ []
+    call_claim_irq (line 9) ∷ call_handle_write 0x20 1 0xa0 ∷ call_claim_irq (line 8) ∷ call_handle_write 0xa0 1 0xa0 ∷ call_handle_write 0xa0 1 0xa0 ∷ call_handle_write 0x20 1 0xa0
+    ∷ call_handle_write 0xa0 1 0x0c ∷ call_handle_read 0xa0 1 ∷ []
 
 pub record NestedOnSlave : Type 0 where
   pub waits : Waits three_on_slave.slave 3

@@ -17,7 +17,7 @@ use Rattle.vpic.specs.declared.PicClaim.TheVariants.{Claimed, Nothing as NoClaim
 use Rattle.vpic.specs.Words.{PicState}
 use Rattle.vpic.specs.Pair.{Port, master_command, master_data, slave_command, slave_data, no_port, port_at, handle_read, chips, is_cascade, Keeps, new_state, settled, latched, claim_irq, claim_pending, port_written, restore_interrupt, claim_reply}
 use Rattle.vpic.specs.Departures.{at, line, pair, open', writes, claimed_vector, seventh}
-use Rattle.vpic_theorems.specs.Statements.{Call, claim_irq_lem, claim_pending_interrupt, pulse_irq, next_interrupt, restore_interrupt_lem, handle_read_lem, handle_write_lem, outcome}
+use Rattle.vpic_theorems.specs.Statements.{Call, call_claim_irq, claim_pending_interrupt, pulse_irq, next_interrupt, call_restore_interrupt, call_handle_read, call_handle_write, outcome}
 use Rattle.vpic_theorems.specs.Rule.{run}
 
 -- ---- what happens to one chip
@@ -26,7 +26,7 @@ pub data Event : Type 0 where
   raise : PicLine → Event
   drive : PicLine → Bool → Event  -- by a level, as the slave's output drives the master's line 2 after each call on the pair
   acknowledge : Event  -- of the first line that counts; where none does, nothing
-  poll_read_lem : Event  -- a read while a poll waits: the same
+  read_poll : Event  -- a read while a poll waits: the same
   take_back : PicLine → Bool → Event  -- an acknowledgement that couldn't be published
   command : ℕ → Event
   data_write : ℕ → Event
@@ -35,7 +35,7 @@ abbrev pub after : Chip → Event → Chip
 after c (raise l) = pulsed c l
 after c (drive l up) = driven c l.0 up
 after c acknowledge = cond (asks c) (acknowledged c (pending_line c)) c
-after c poll_read_lem = polled c
+after c read_poll = polled c
 after c (take_back l f) = unacknowledged c l f
 after c (command v) = commanded c v
 after c (data_write v) = fed c v
@@ -45,7 +45,7 @@ abbrev pub lines_of : Chip → Event → List ℕ
 lines_of c (raise l) = []
 lines_of c (drive l up) = []
 lines_of c acknowledge = cond (asks c) (pending_line c ∷ []) []
-lines_of c poll_read_lem = cond (asks c) (pending_line c ∷ []) []
+lines_of c read_poll = cond (asks c) (pending_line c ∷ []) []
 lines_of c (take_back l f) = []
 lines_of c (command v) = []
 lines_of c (data_write v) = []
@@ -80,7 +80,7 @@ abbrev pub lets : ℕ → Chip → Event → Bool
 lets n c (raise l) = true
 lets n c (drive l up) = up || not (eqb n l.0)
 lets n c acknowledge = not (bit c.mask n) && turns c
-lets n c poll_read_lem = not (bit c.mask n) && turns c
+lets n c read_poll = not (bit c.mask n) && turns c
 lets n c (take_back l f) = false
 lets n c (command v) = keeps_turns v
 lets n c (data_write v) = true
@@ -159,10 +159,10 @@ pub record Needed : Type 0 where
   pub «specific-rotation» : starves (full_at 3 0 0 false) (command 0xa0 ∷ command 0xe7 ∷ [])
   -- automatic EOI mode without rotation
   pub «auto-eoi» : starves (full_at 3 0 0 true) []
-  pub «auto-eoi-polled» : lines (full_at 3 0 0 true) (often 8 (poll_read_lem ∷ edge 0 ∷ [])) ≡ often 8 (0 ∷ [])
+  pub «auto-eoi-polled» : lines (full_at 3 0 0 true) (often 8 (read_poll ∷ edge 0 ∷ [])) ≡ often 8 (0 ∷ [])
   pub «taken_back» : starves (full_at 3 0 0 false) (take_back (line 0) true ∷ [])
   pub masked : starves (full_at 3 2 0 false) (command 0xa0 ∷ [])
-  pub «masked-polled» : lines (full_at 3 2 0 false) (often 8 (poll_read_lem ∷ command 0xa0 ∷ edge 0 ∷ [])) ≡ often 8 (0 ∷ [])
+  pub «masked-polled» : lines (full_at 3 2 0 false) (often 8 (read_poll ∷ command 0xa0 ∷ edge 0 ∷ [])) ≡ often 8 (0 ∷ [])
   -- line 1 driven by a level, and let down after the acknowledgement
   pub «driven_down» : starves (full_at 3 0 0 false) (command 0xa0 ∷ drive (line 1) false ∷ [])
   -- a chip that isn't of the full profile
@@ -192,12 +192,12 @@ pub data Round : Type 0 where
   waiting : Round
 
 abbrev pub claim_call : Round → Call
-claim_call (edge_on l) = claim_irq_lem l
+claim_call (edge_on l) = call_claim_irq l
 claim_call waiting = claim_pending_interrupt
 
 abbrev pub rounds_with : ℕ → ℕ → List Round → List Call
 rounds_with s m [] = []
-rounds_with s m (r ∷ rs) = claim_call r ∷ handle_write_lem 0xa0 1 s ∷ handle_write_lem 0x20 1 m ∷ rounds_with s m rs
+rounds_with s m (r ∷ rs) = claim_call r ∷ call_handle_write 0xa0 1 s ∷ call_handle_write 0x20 1 m ∷ rounds_with s m rs
 
 abbrev pub pair_rounds : List Round → List Call
 pair_rounds r = rounds_with 0xa0 0xa0 r
@@ -217,13 +217,13 @@ claim_line (Claimed c) = c.irq.0 ∷ []
 claim_line NoClaim = []
 
 abbrev pub claimed_by : PicState → Call → PicClaim
-claimed_by p (claim_irq_lem l) = (claim_irq p l).claim
+claimed_by p (call_claim_irq l) = (claim_irq p l).claim
 claimed_by p claim_pending_interrupt = (claim_pending p).claim
 claimed_by p (pulse_irq l) = (claim_irq p l).claim
 claimed_by p next_interrupt = (claim_pending p).claim
-claimed_by p (restore_interrupt_lem c) = NoClaim
-claimed_by p (handle_read_lem port width) = NoClaim
-claimed_by p (handle_write_lem port width value) = NoClaim
+claimed_by p (call_restore_interrupt c) = NoClaim
+claimed_by p (call_handle_read port width) = NoClaim
+claimed_by p (call_handle_write port width value) = NoClaim
 
 abbrev pub claims : PicState → List Call → List ℕ
 claims p [] = []
@@ -303,7 +303,7 @@ starves_nine p s = claims p (rounds_with s 0xa0 (often 11 (on 8 ∷ []))) ≡ of
 
 -- the same where other calls come between the claims
 abbrev pub starves_eight_by : List Call → Type 0
-starves_eight_by l = claims (pair 2 (full_at 4 0 0 false) (full_at 1 0 0 false)) (often 8 (claim_irq_lem (line 0) ∷ l)) ≡ often 8 (0 ∷ [])
+starves_eight_by l = claims (pair 2 (full_at 4 0 0 false) (full_at 1 0 0 false)) (often 8 (call_claim_irq (line 0) ∷ l)) ≡ often 8 (0 ∷ [])
 
 abbrev pub line_zero : PicInterruptClaim
 line_zero = record { vector = record { 0 = 0 }; irq = record { 0 = 0 }; master_in_service = true; slave_in_service = false }
@@ -314,13 +314,13 @@ pub record NeededOnPair : Type 0 where
   pub «master-eoi» : starves_eight (pair 2 (full_at 4 0 0 false) (full_at 1 0 0 false)) 0x20
   pub «slave-eoi» : starves_nine (pair 2 (full_at 4 0 0 false) (full_at 3 0 0 false)) 0x20
   -- other calls than a round's: a claim that is restored; line 7 made lowest after each EOI, by set priority and by a specific EOI with rotation
-  pub restored : starves_eight_by (restore_interrupt_lem line_zero ∷ [])
-  pub «set-priority» : starves_eight_by (handle_write_lem 0x20 1 0xa0 ∷ handle_write_lem 0x20 1 0xc7 ∷ [])
-  pub «specific-rotation» : starves_eight_by (handle_write_lem 0x20 1 0xa0 ∷ handle_write_lem 0x20 1 0xe7 ∷ [])
+  pub restored : starves_eight_by (call_restore_interrupt line_zero ∷ [])
+  pub «set-priority» : starves_eight_by (call_handle_write 0x20 1 0xa0 ∷ call_handle_write 0x20 1 0xc7 ∷ [])
+  pub «specific-rotation» : starves_eight_by (call_handle_write 0x20 1 0xa0 ∷ call_handle_write 0x20 1 0xe7 ∷ [])
   -- line 2 of the master, when the slave's output falls: its line 0 waits, its lines 1 and 5 are in service, and the rotating EOI of line 1 puts line 0 below line 5. Line 8 would be
   -- the third claim at the latest
   pub output :
-      claims (pair 2 (full_at 4 0 0 false) (full_at 1 0 0x22 false)) (claim_irq_lem (line 0) ∷ handle_write_lem 0xa0 1 0xa0 ∷ often 2 (handle_write_lem 0x20 1 0xa0 ∷ claim_irq_lem (line 0) ∷ []))
+      claims (pair 2 (full_at 4 0 0 false) (full_at 1 0 0x22 false)) (call_claim_irq (line 0) ∷ call_handle_write 0xa0 1 0xa0 ∷ often 2 (call_handle_write 0x20 1 0xa0 ∷ call_claim_irq (line 0) ∷ []))
       ≡ often 3 (0 ∷ [])
   -- automatic EOI mode without rotation
   pub «master_turns» : starves_eight (pair 2 (full_at 4 0 0 true) (full_at 1 0 0 false)) 0xa0
@@ -441,26 +441,26 @@ writes_mode p slave_data byte = sets_nested p.slave byte
 writes_mode p no_port byte = false
 
 abbrev pub is_mode_call : PicState → Call → Bool
-is_mode_call p (claim_irq_lem l) = false
+is_mode_call p (call_claim_irq l) = false
 is_mode_call p claim_pending_interrupt = false
 is_mode_call p (pulse_irq l) = false
 is_mode_call p next_interrupt = false
-is_mode_call p (restore_interrupt_lem c) = false
-is_mode_call p (handle_read_lem port width) = false
-is_mode_call p (handle_write_lem port width value) = writes_mode p (port_at port) (value % 256)
+is_mode_call p (call_restore_interrupt c) = false
+is_mode_call p (call_handle_read port width) = false
+is_mode_call p (call_handle_write port width value) = writes_mode p (port_at port) (value % 256)
 
 abbrev pub AsCascade : Type 0
 AsCascade = (p : PicState) (c : Call) → Ordinary p → is_mode_call p c ≡ false → Alike (outcome p c) (outcome (by_rule_one p) c)
 
 -- and that request too after every call but a write to the slave's command port: no other call turns the slave's priorities so that another set of its requests counts
 abbrev pub commands_slave : Call → Bool
-commands_slave (claim_irq_lem l) = false
+commands_slave (call_claim_irq l) = false
 commands_slave claim_pending_interrupt = false
 commands_slave (pulse_irq l) = false
 commands_slave next_interrupt = false
-commands_slave (restore_interrupt_lem c) = false
-commands_slave (handle_read_lem port width) = false
-commands_slave (handle_write_lem port width value) = eqb port 0xa0
+commands_slave (call_restore_interrupt c) = false
+commands_slave (call_handle_read port width) = false
+commands_slave (call_handle_write port width value) = eqb port 0xa0
 
 abbrev pub AsCascadeExactly : Type 0
 AsCascadeExactly =

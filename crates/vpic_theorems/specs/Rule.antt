@@ -13,7 +13,7 @@ use Rattle.vpic.specs.declared.PicClaim.TheVariants.{Claimed}
 use Rattle.vpic_chip.specs.Chip.{is_above, blocks_line, is_polled, asks, counts, pending_line, Highest, cascade_irq}
 use Rattle.vpic.specs.Pair.{Port, master_command, master_data, slave_command, slave_data, no_port, port_at, rule_in, new_state, is_cascade, Keeps, slave_claim, claim_pending, latched, restored, port_written, restore_interrupt, handle_read}
 use Rattle.vpic.specs.Departures.{at, line}
-use Rattle.vpic_theorems.specs.Statements.{Call, claim_irq_lem, claim_pending_interrupt, pulse_irq, next_interrupt, restore_interrupt_lem, handle_read_lem, handle_write_lem, outcome}
+use Rattle.vpic_theorems.specs.Statements.{Call, call_claim_irq, claim_pending_interrupt, pulse_irq, next_interrupt, call_restore_interrupt, call_handle_read, call_handle_write, outcome}
 
 -- ---- what the rule says
 
@@ -64,13 +64,13 @@ poll_waits p port = polled_at p (port_at port)
 -- the calls that leave it kept whatever the pair was before, where they aren't refused: all but a read without a poll, and a claim of a line that the pair hasn't, which change
 -- nothing
 abbrev pub settles : PicState → Call → Bool
-settles p (claim_irq_lem l) = ltb l.0 16
+settles p (call_claim_irq l) = ltb l.0 16
 settles p claim_pending_interrupt = true
 settles p (pulse_irq l) = ltb l.0 16
 settles p next_interrupt = true
-settles p (restore_interrupt_lem c) = true
-settles p (handle_read_lem port width) = poll_waits p port
-settles p (handle_write_lem port width value) = true
+settles p (call_restore_interrupt c) = true
+settles p (call_handle_read port width) = poll_waits p port
+settles p (call_handle_write port width value) = true
 
 abbrev pub CallsSettle : Type 0
 CallsSettle = (p : PicState) (c : Call) → settles p c ≡ true → reply_number (outcome p c).reply ≡ 0 → Keeps (outcome p c).state

@@ -15,23 +15,23 @@ use Rattle.vpic.specs.Departures.{seventh}
 
 -- every public call of the pair, with any arguments
 pub data Call : Type 0 where
-  claim_irq_lem : PicLine → Call
+  call_claim_irq : PicLine → Call
   claim_pending_interrupt : Call
   pulse_irq : PicLine → Call
   next_interrupt : Call
-  restore_interrupt_lem : PicInterruptClaim → Call
-  handle_read_lem : ℕ → ℕ → Call  -- port, width
-  handle_write_lem : ℕ → ℕ → ℕ → Call  -- port, width, value
+  call_restore_interrupt : PicInterruptClaim → Call
+  call_handle_read : ℕ → ℕ → Call  -- port, width
+  call_handle_write : ℕ → ℕ → ℕ → Call  -- port, width, value
 
 -- what the call leaves: what its promise says
 unfoldable pub outcome : PicState → Call → Outcome PicState
-outcome p (claim_irq_lem l) = with_claim (claim_irq p l)
+outcome p (call_claim_irq l) = with_claim (claim_irq p l)
 outcome p claim_pending_interrupt = with_claim (claim_pending p)
 outcome p (pulse_irq l) = with_vector (claim_irq p l)
 outcome p next_interrupt = with_vector (claim_pending p)
-outcome p (restore_interrupt_lem c) = restore_interrupt p c
-outcome p (handle_read_lem port width) = handle_read p port width
-outcome p (handle_write_lem port width value) = handle_write p port width value
+outcome p (call_restore_interrupt c) = restore_interrupt p c
+outcome p (call_handle_read port width) = handle_read p port width
+outcome p (call_handle_write port width value) = handle_write p port width value
 
 -- a refused call hands back the pair that it was given
 abbrev pub RefusedUnchanged : Type 0

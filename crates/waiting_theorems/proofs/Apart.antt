@@ -21,7 +21,7 @@ use Rattle.waiting.specs.Waiting.{Waiting, is_full}
 use Rattle.waiting.specs.Lists as lists
 use Rattle.waiting.specs.Lists.{Lists, known_in, list_at, with_list, on_list}
 use Rattle.waiting_claims.specs.Claims.{Host, host, handed, claim_for}
-use Rattle.waiting_theorems.specs.Calls.{Call, take_in, deliver, cancel, count, peek, claim_irq_lem, claim_pending_interrupt, meanwhile, outcome, run, is_for, answers_to, only, is_claim, NoClaims}
+use Rattle.waiting_theorems.specs.Calls.{Call, take_in, deliver, cancel, count, peek, call_claim_irq, claim_pending_interrupt, meanwhile, outcome, run, is_for, answers_to, only, is_claim, NoClaims}
 use Rattle.waiting_theorems.specs.Statements.{Apart, Alike, ApartLists, SameAnswer, ApartWithPair}
 use Rattle.waiting_theorems.proofs.Steps.{on_known, on_unknown, same_id, put_same, put_other}
 
@@ -129,7 +129,7 @@ other k (deliver id) h e = on_other h.lists id k one.deliver e
 other k (cancel id v) h e = on_other h.lists id k (λ q. one.cancel q v) e
 other k (count id) h e = on_other h.lists id k one.count e
 other k (peek id n) h e = on_other h.lists id k (λ q. one.peek q n) e
-other k (claim_irq_lem id l) h e = claim_other h id k (λ p. claim_irq p l) e
+other k (call_claim_irq id l) h e = claim_other h id k (λ p. claim_irq p l) e
 other k (claim_pending_interrupt id) h e = claim_other h id k claim_pending e
 other k (meanwhile p) h e = record { known = refl; list = refl }
 
@@ -143,7 +143,7 @@ own k (deliver id) g h e n m = let a = own_list k id one.deliver g h e m in (a.r
 own k (cancel id v) g h e n m = let a = own_list k id (λ q. one.cancel q v) g h e m in (a.reply, a.same)
 own k (count id) g h e n m = let a = own_list k id one.count g h e m in (a.reply, a.same)
 own k (peek id i) g h e n m = let a = own_list k id (λ q. one.peek q i) g h e m in (a.reply, a.same)
-own k (claim_irq_lem id l) g h e n m = absurd (let z : ◌≡◌ {A = ℕ} 0 1 = cc in omega arith)
+own k (call_claim_irq id l) g h e n m = absurd (let z : ◌≡◌ {A = ℕ} 0 1 = cc in omega arith)
 own k (claim_pending_interrupt id) g h e n m = absurd (let z : ◌≡◌ {A = ℕ} 0 1 = cc in omega arith)
 own k (meanwhile p) g h e n m = absurd (let z : ◌≡◌ {A = ℕ} 0 1 = cc in omega arith)
 
@@ -193,6 +193,6 @@ apart_with_pair k (deliver id) g h e a p = let x = own_list k id one.deliver g h
 apart_with_pair k (cancel id v) g h e a p = let x = own_list k id (λ q. one.cancel q v) g h e (to k g h a) in record { reply = x.reply; list = x.same.list; pair = p }
 apart_with_pair k (count id) g h e a p = let x = own_list k id one.count g h e (to k g h a) in record { reply = x.reply; list = x.same.list; pair = p }
 apart_with_pair k (peek id n) g h e a p = let x = own_list k id (λ q. one.peek q n) g h e (to k g h a) in record { reply = x.reply; list = x.same.list; pair = p }
-apart_with_pair k (claim_irq_lem id l) g h e a p = let x = by_claim k id (λ q. claim_irq q l) g h e a p in record { reply = x.reply; list = x.list; pair = x.pair }
+apart_with_pair k (call_claim_irq id l) g h e a p = let x = by_claim k id (λ q. claim_irq q l) g h e a p in record { reply = x.reply; list = x.list; pair = x.pair }
 apart_with_pair k (claim_pending_interrupt id) g h e a p = let x = by_claim k id claim_pending g h e a p in record { reply = x.reply; list = x.list; pair = x.pair }
 apart_with_pair k (meanwhile q) g h e a p = absurd (let z : ◌≡◌ {A = ℕ} 0 1 = cc in omega arith)

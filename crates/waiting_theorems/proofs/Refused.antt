@@ -28,7 +28,7 @@ use Rattle.waiting.specs.Lists as lists
 use Rattle.waiting.specs.Lists.{Lists, known_in, list_at, with_list, on_list, lists_in, lists_from, vcpus_in}
 use Rattle.waiting.proofs.Ring.{view_few}
 use Rattle.waiting_claims.specs.Claims.{Host, host, handed, claim_for, claim_irq_for, claim_pending_for}
-use Rattle.waiting_theorems.specs.Calls.{Call, take_in, deliver, cancel, count, peek, claim_irq_lem, claim_pending_interrupt, meanwhile, outcome, finds, knows, brings, is_full_for}
+use Rattle.waiting_theorems.specs.Calls.{Call, take_in, deliver, cancel, count, peek, call_claim_irq, claim_pending_interrupt, meanwhile, outcome, finds, knows, brings, is_full_for}
 use Rattle.waiting_theorems.specs.Statements.{NumbersExactly, AtMost64, RefusedKeepsLists, UnknownKeeps, RefusedPendingRestored, RefusedIrqRestored, RefusedPendingUnchanged, RefusedIrqLatched}
 use Rattle.waiting_theorems.proofs.Steps.{on_unknown}
 
@@ -97,7 +97,7 @@ numbers_exactly h (deliver id) = on_number h.lists id one.deliver 0 (deliver_num
 numbers_exactly h (cancel id v) = on_number h.lists id (λ q. one.cancel q v) 0 (cancel_number_lem (list_at h.lists id) v)
 numbers_exactly h (count id) = on_number h.lists id one.count 0 refl
 numbers_exactly h (peek id k) = on_number h.lists id (λ q. one.peek q k) 0 (peek_number (drop k (list_at h.lists id).waiting))
-numbers_exactly h (claim_irq_lem id l) = claim_number_lem h id (λ p. claim_irq p l)
+numbers_exactly h (call_claim_irq id l) = claim_number_lem h id (λ p. claim_irq p l)
 numbers_exactly h (claim_pending_interrupt id) = claim_number_lem h id claim_pending
 numbers_exactly h (meanwhile p) = refl
 
@@ -162,7 +162,7 @@ refused_keeps_lists h (deliver id) r = on_kept h.lists id one.deliver (λ n. abs
 refused_keeps_lists h (cancel id v) r = on_kept h.lists id (λ q. one.cancel q v) (λ n. absurd (n (cancel_number_lem (list_at h.lists id) v))) r
 refused_keeps_lists h (count id) r = on_kept h.lists id one.count (λ n. refl) r
 refused_keeps_lists h (peek id k) r = on_kept h.lists id (λ q. one.peek q k) (λ n. refl) r
-refused_keeps_lists h (claim_irq_lem id l) r = claim_kept h id (λ p. claim_irq p l) r
+refused_keeps_lists h (call_claim_irq id l) r = claim_kept h id (λ p. claim_irq p l) r
 refused_keeps_lists h (claim_pending_interrupt id) r = claim_kept h id claim_pending r
 refused_keeps_lists h (meanwhile p) r = refl
 
@@ -191,7 +191,7 @@ unknown_keeps h (deliver id) e = on_gone h id one.deliver (unknown_for h (delive
 unknown_keeps h (cancel id v) e = on_gone h id (λ q. one.cancel q v) (unknown_for h (cancel id v) e)
 unknown_keeps h (count id) e = on_gone h id one.count (unknown_for h (count id) e)
 unknown_keeps h (peek id k) e = on_gone h id (λ q. one.peek q k) (unknown_for h (peek id k) e)
-unknown_keeps h (claim_irq_lem id l) e = claim_gone h id (λ p. claim_irq p l) (unknown_for h (claim_irq_lem id l) e)
+unknown_keeps h (call_claim_irq id l) e = claim_gone h id (λ p. claim_irq p l) (unknown_for h (call_claim_irq id l) e)
 unknown_keeps h (claim_pending_interrupt id) e = claim_gone h id claim_pending (unknown_for h (claim_pending_interrupt id) e)
 unknown_keeps h (meanwhile p) e = absurd (let z : ◌≡◌ {A = ℕ} 0 5 = ap reply_number e in omega arith)
 

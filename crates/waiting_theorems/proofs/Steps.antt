@@ -25,7 +25,7 @@ use Rattle.waiting.specs.Waiting.{Waiting, new_list, is_full, is_empty, among, r
 use Rattle.waiting.specs.Lists as lists
 use Rattle.waiting.specs.Lists.{Lists, known_in, list_at, with_list, on_list}
 use Rattle.waiting_claims.specs.Claims.{Host, host, handed, claim_for}
-use Rattle.waiting_theorems.specs.Calls.{Call, take_in, deliver, cancel, count, peek, claim_irq_lem, claim_pending_interrupt, meanwhile, outcome, mine, in_by, out_by, off_by, waiting_for}
+use Rattle.waiting_theorems.specs.Calls.{Call, take_in, deliver, cancel, count, peek, call_claim_irq, claim_pending_interrupt, meanwhile, outcome, mine, in_by, out_by, off_by, waiting_for}
 
 -- nothing, or one more waits behind the others, or the oldest went, or the oldest of a vector did
 pub data Stepped : List ℕ → List ℕ → List ℕ → List ℕ → List ℕ → Type 0 where
@@ -161,6 +161,6 @@ step k h (deliver id) = on_list_lem h.lists id k one.deliver (λ r. []) reply_va
 step k h (cancel id v) = on_list_lem h.lists id k (λ q. one.cancel q v) (λ r. []) (λ r. []) reply_values refl refl refl (λ q. cancel_step q v)
 step k h (count id) = on_list_lem h.lists id k one.count (λ r. []) (λ r. []) (λ r. []) refl refl refl (λ q. stays refl refl refl refl)
 step k h (peek id n) = on_list_lem h.lists id k (λ q. one.peek q n) (λ r. []) (λ r. []) (λ r. []) refl refl refl (λ q. stays refl refl refl refl)
-step k h (claim_irq_lem id l) = rw (none_mine (eqb id.0 k.0)) (claimed_step h id k (λ p. claim_irq p l))
+step k h (call_claim_irq id l) = rw (none_mine (eqb id.0 k.0)) (claimed_step h id k (λ p. claim_irq p l))
 step k h (claim_pending_interrupt id) = rw (none_mine (eqb id.0 k.0)) (claimed_step h id k claim_pending)
 step k h (meanwhile p) = stays refl refl refl refl

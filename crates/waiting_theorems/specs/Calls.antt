@@ -22,7 +22,7 @@ pub data Call : Type 0 where
   cancel : VcpuId → Vector → Call
   count : VcpuId → Call
   peek : VcpuId → ℕ → Call
-  claim_irq_lem : VcpuId → PicLine → Call
+  call_claim_irq : VcpuId → PicLine → Call
   claim_pending_interrupt : VcpuId → Call
   meanwhile : PicState → Call
 
@@ -36,7 +36,7 @@ outcome h (deliver id) = on_lists h (lists.deliver h.lists id)
 outcome h (cancel id v) = on_lists h (lists.cancel h.lists id v)
 outcome h (count id) = on_lists h (lists.count h.lists id)
 outcome h (peek id k) = on_lists h (lists.peek h.lists id k)
-outcome h (claim_irq_lem id l) = claim_irq_for h id l
+outcome h (call_claim_irq id l) = claim_irq_for h id l
 outcome h (claim_pending_interrupt id) = claim_pending_for h id
 outcome h (meanwhile p) = outcome_of (host h.lists p) Nothing
 
@@ -52,7 +52,7 @@ is_for k (deliver id) = eqb id.0 k.0
 is_for k (cancel id v) = eqb id.0 k.0
 is_for k (count id) = eqb id.0 k.0
 is_for k (peek id n) = eqb id.0 k.0
-is_for k (claim_irq_lem id l) = eqb id.0 k.0
+is_for k (call_claim_irq id l) = eqb id.0 k.0
 is_for k (claim_pending_interrupt id) = eqb id.0 k.0
 is_for k (meanwhile p) = false
 
@@ -63,7 +63,7 @@ mine k c l = cond (is_for k c) l []
 
 abbrev pub in_by : Call → Reply → List ℕ
 in_by (take_in id v) r = cond (eqb (reply_number r) 0) (v.0 ∷ []) []
-in_by (claim_irq_lem id l) r = take 1 (reply_values r)
+in_by (call_claim_irq id l) r = take 1 (reply_values r)
 in_by (claim_pending_interrupt id) r = take 1 (reply_values r)
 in_by (deliver id) r = []
 in_by (cancel id v) r = []
@@ -74,7 +74,7 @@ in_by (meanwhile p) r = []
 abbrev pub out_by : Call → Reply → List ℕ
 out_by (deliver id) r = reply_values r
 out_by (take_in id v) r = []
-out_by (claim_irq_lem id l) r = []
+out_by (call_claim_irq id l) r = []
 out_by (claim_pending_interrupt id) r = []
 out_by (cancel id v) r = []
 out_by (count id) r = []
@@ -85,7 +85,7 @@ abbrev pub off_by : Call → Reply → List ℕ
 off_by (cancel id v) r = reply_values r
 off_by (deliver id) r = []
 off_by (take_in id v) r = []
-off_by (claim_irq_lem id l) r = []
+off_by (call_claim_irq id l) r = []
 off_by (claim_pending_interrupt id) r = []
 off_by (count id) r = []
 off_by (peek id k) r = []
@@ -146,7 +146,7 @@ only k (c ∷ cs) = cond (is_for k c) (c ∷ only k cs) (only k cs)
 
 -- calls of the lists alone: no claim of the pair
 abbrev pub is_claim : Call → Bool
-is_claim (claim_irq_lem id l) = true
+is_claim (call_claim_irq id l) = true
 is_claim (claim_pending_interrupt id) = true
 is_claim (take_in id v) = false
 is_claim (deliver id) = false
@@ -173,14 +173,14 @@ knows s (deliver id) = known_in s id
 knows s (cancel id v) = known_in s id
 knows s (count id) = known_in s id
 knows s (peek id k) = known_in s id
-knows s (claim_irq_lem id l) = known_in s id
+knows s (call_claim_irq id l) = known_in s id
 knows s (claim_pending_interrupt id) = known_in s id
 knows s (meanwhile p) = true
 
 -- the call has a vector for its vCPU's list
 abbrev pub brings : PicState → Call → Bool
 brings p (take_in id v) = true
-brings p (claim_irq_lem id l) = finds (claim_irq p l).claim
+brings p (call_claim_irq id l) = finds (claim_irq p l).claim
 brings p (claim_pending_interrupt id) = finds (claim_pending p).claim
 brings p (deliver id) = false
 brings p (cancel id v) = false
@@ -191,7 +191,7 @@ brings p (meanwhile q) = false
 -- and 64 wait there
 abbrev pub is_full_for : Lists → Call → Bool
 is_full_for s (take_in id v) = leb 64 (length (list_at s id).waiting)
-is_full_for s (claim_irq_lem id l) = leb 64 (length (list_at s id).waiting)
+is_full_for s (call_claim_irq id l) = leb 64 (length (list_at s id).waiting)
 is_full_for s (claim_pending_interrupt id) = leb 64 (length (list_at s id).waiting)
 is_full_for s (deliver id) = false
 is_full_for s (cancel id v) = false

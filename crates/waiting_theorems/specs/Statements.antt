@@ -15,7 +15,7 @@ use Rattle.vpic_theorems.specs.Rotation.{with_priorities}
 use Rattle.waiting.specs.Waiting.{Waiting, new_list}
 use Rattle.waiting.specs.Lists.{Lists, known_in, list_at, lists_in}
 use Rattle.waiting_claims.specs.Claims.{Host, host, claim_irq_for, claim_pending_for}
-use Rattle.waiting_theorems.specs.Calls.{Call, claim_irq_lem, claim_pending_interrupt, outcome, run, is_for, taken, delivered, cancelled, cancellations, less, waiting_for, answers_to, only, NoClaims, knows, brings, is_full_for}
+use Rattle.waiting_theorems.specs.Calls.{Call, call_claim_irq, claim_pending_interrupt, outcome, run, is_for, taken, delivered, cancelled, cancellations, less, waiting_for, answers_to, only, NoClaims, knows, brings, is_full_for}
 
 -- ---- nothing is lost
 
@@ -132,7 +132,7 @@ abbrev pub two : Waiting → Host
 two first = host (record { lists = first ∷ new_list ∷ []; rest = [] }) (open' Cascade)
 
 abbrev pub both : List Call
-both = claim_irq_lem (vcpu 0) (line 1) ∷ claim_pending_interrupt (vcpu 1) ∷ []
+both = call_claim_irq (vcpu 0) (line 1) ∷ claim_pending_interrupt (vcpu 1) ∷ []
 
 abbrev pub NotApartByClaims : Type 0
 NotApartByClaims = (answers_to (vcpu 1) (two full_list) both ≡ Three 9 1 1 ∷ []) × (answers_to (vcpu 1) (two new_list) both ≡ Nothing ∷ [])
