@@ -1,4 +1,4 @@
-use Rattle.vpic.proofs.Full.{quiet_number}
+use Rattle.vpic.proofs.Full.{quiet_number, claim_numbered}
 use Rattle.vpic.proofs.claim_pending_number.Goals as goal
 
 pub returns-then-is_quiet : goal.returns-then-is_quiet

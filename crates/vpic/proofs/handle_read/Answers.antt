@@ -1,3 +1,4 @@
+use Rattle.utils.specs.Cases.{cases}
 use Rattle.vpic.proofs.Full.{read_full, read_plain}
 use Rattle.vpic.proofs.handle_read.Goals as goal
 

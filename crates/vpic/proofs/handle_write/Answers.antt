@@ -1,3 +1,4 @@
+use Rattle.utils.specs.Cases.{cases}
 use Rattle.vpic.proofs.Full.{write_cut, write_full, write_plain, write_plain_out}
 use Rattle.vpic.proofs.handle_write.Goals as goal
 

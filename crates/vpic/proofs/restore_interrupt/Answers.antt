@@ -1,3 +1,4 @@
+use Rattle.vpic.proofs.Laws.{restore_out}
 use Rattle.vpic.proofs.Full.{restore_full_low, restore_full, restore_plain}
 use Rattle.vpic.proofs.restore_interrupt.Goals as goal
 
