@@ -1,7 +1,4 @@
-use Prim.Native.Nat.{◌-◌, ◌≤◌}
-use lib.ListN.{length}
 use native.Mathlib.Omega.{arith}
-use borrow.Author.Rules.{rules}
 use Rattle.script_machine.specs.Machine.{machine_in}
 use Rattle.waiting.specs.Lists.{lists_in}
 use Rattle.script_lists.specs.Steps.{host_step_in}

@@ -1,5 +1,4 @@
 use Prim.Native.Nat.{◌-◌}
-use borrow.Author.Rules.{rules}
 use Rattle.script_cut.proofs.print_runs.Given as goal
 
 abbrev pub invariant-loop-k : goal.invariant-loop-k

@@ -1,7 +1,4 @@
-use Prim.Native.Nat.{◌-◌, ◌≤◌}
-use lib.ListN.{length}
 use native.Mathlib.Omega.{arith}
-use borrow.Author.Rules.{rules}
 use Rattle.script_machine.specs.Machine.{machine_in}
 use Rattle.script_machine.specs.Run.{step_in}
 use Rattle.script_machine.proofs.Places.{did_lies}
