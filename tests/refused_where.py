@@ -9,8 +9,8 @@
     # refused: MODULE THEOREM      as `Restore restored_at_once`: the module of proofs/ (or specs/MODULE), and the theorem
 
 An edit may hold several wrong answers, and each of its facts must be refused by itself. So each edit is laid over a copy of its crate, `rt
-check` runs there, and what it prints is read. A fact that isn't refused there may be one that the checker didn't come to, since it rests on
-another that is refused: then each wrong answer is laid over a copy alone, and the fact must be refused at one of them.
+check` runs there, and what it prints is read. Where the checker didn't come to a fact, since it rests on another that is refused, each wrong
+answer is laid over a copy alone, and the fact must be refused at one of them.
 
 A goal is named after the code, and a fact as the edited code has it. A refusal that only shows that a proof file no longer fits that code (it
 names a goal, or a part of what is known there, that is called otherwise now) counts for nothing. One that only shows that a proof lost its
@@ -25,6 +25,7 @@ left in this checkout's crates/*/out; --all-checked says that `rt all check` has
 that is refused and not named. N checks run at once, or as many as there are processors. With CRATE only the edits of those crates are tried.
 """
 import argparse
+import collections
 import concurrent.futures
 import glob
 import gzip
@@ -80,6 +81,19 @@ def refused(log):
         if clause:
             found[where, whole] = shape and found.get((where, whole), True)
     return found
+
+
+def hidden(log):
+    """Tells of a place and a fact whether the checker may not have come to it."""
+    unchecked, waiting = collections.defaultdict(set), set()
+    for line in log.split("\n"):
+        found = re.match(r"(\S+?\.antt):\d+:\d+: error: \d+ declarations? that depends? on .* not checked: (.*)", line)
+        if found:
+            unchecked[place(found[1])] |= {"more" if re.fullmatch(r"\d+ more", it) else it.split(" (")[0] for it in re.split(r", | and ", found[2])}
+        found = re.match(r"note: `search` has not tried the goals of (.*), which wait", line) or re.match(r"(fn \w+::\S+): no proof: it calls ", line)
+        if found:
+            waiting |= {it.partition("::")[2].replace("::", "/") for it in re.findall(r"\w+(?:::\w+)+", found[1])}
+    return lambda where, fact: where in waiting or bool(unchecked[where] & {fact, "more"})
 
 
 def place(path):
@@ -244,6 +258,7 @@ class Checks:
         log = self.kept.get(path)
         if log is not None:
             return log
+        began = [self.kept.sum_of(it, texts={}) for it in [*self.kept.below[crate], crate]]
         copy = self.free.get()
         try:
             said, status = copy.check(crate, texts)
@@ -251,7 +266,9 @@ class Checks:
             self.free.put(copy)
         self.made += 1
         log = f"{said}\nstatus {status}"
-        # 1: refused, 3: it met a limit of its own, 0: proved. What else there may be says nothing of the edit, and isn't kept.
+        # 1: refused, 3: it met a limit of its own, 0: proved. What else there may be says nothing of the edit, and isn't kept; nor is what was said of other files.
+        if [self.kept.sum_of(it, texts={}) for it in [*self.kept.below[crate], crate]] != began or began[:-1] != [self.kept.sum_of(it) for it in self.kept.below[crate]]:
+            sys.exit("refused_where.py: files have changed while this ran: run it again")
         if status in (0, 1, 3):
             self.kept.put(path, log)
         return log
@@ -297,8 +314,9 @@ def faults(edit, checks):
         return [f"{edit.path} isn't refused by the prover: {' / '.join(log.strip().split(chr(10))[-4:])[:400]}"], {}
     there = refused(log)
     # What another refusal hides: each wrong answer alone.
+    is_hidden = hidden(log)
     for pair in edit.pairs if len(edit.pairs) > 1 else ():
-        if not lacking(edit, there):
+        if not any(is_hidden(where, fact) for where, fact, _ in lacking(edit, there)):
             break
         alone = edit.texts([pair])
         log = checks.log(edit.crate, alone) if alone else ""
