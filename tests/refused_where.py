@@ -35,6 +35,7 @@ import pathlib
 import queue
 import re
 import shutil
+import signal
 import subprocess
 import sys
 import tempfile
@@ -279,8 +280,12 @@ class Checks:
             while len(self.copies) < self.at_once:
                 self.copies.append(Copy(self.kept))
                 self.free.put(self.copies[-1])
-            with concurrent.futures.ThreadPoolExecutor(self.at_once) as pool:
+            pool = concurrent.futures.ThreadPoolExecutor(self.at_once)
+            try:
                 return list(pool.map(call, given))
+            finally:
+                # Where one of them ended the whole, the others needn't begin.
+                pool.shutdown(cancel_futures=True)
         finally:
             for copy in self.copies:
                 shutil.rmtree(copy.folder, ignore_errors=True)
@@ -343,6 +348,8 @@ def main():
     parser.add_argument("crates", nargs="*", metavar="CRATE")
     given = parser.parse_args()
     os.chdir(TOP)
+    # The copies go however this ends.
+    signal.signal(signal.SIGTERM, lambda *_: sys.exit("refused_where.py: ended"))
     for name in given.crates:
         if not os.path.isdir(f"crates/{name}/must-fail"):
             parser.error(f"no edits are crates/{name}/must-fail")
