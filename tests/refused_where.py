@@ -21,7 +21,7 @@ which is refused because its two sides differ,
 
 What a check printed is kept, by the sums of all that it read, in sillwander/refused below XDG_CACHE_HOME (or ~/.cache), so that only what changed
 is tried again, from this checkout or another. To try them takes 15 to 40 seconds of a processor each. The copies begin with what `rt check`
-left in this checkout's crates/*/out; --all-checked says that `rt all check` has just run here. --found prints, for those who write an edit, every fact
+left in this checkout's crates/*/out, after one of each crate that is tried; --all-checked says that there was one. --found prints, for those who write an edit, every fact
 that is refused and not named. N checks run at once, or as many as there are processors. With CRATE only the edits of those crates are tried.
 """
 import argparse
@@ -331,13 +331,14 @@ def faults(edit, checks):
     return [words for _, _, words in lacking(edit, there)], there
 
 
-def all_checked(at_once):
-    """Has rt check every crate here, so that the copies begin with what that kept."""
-    ran = subprocess.run(["rt", "all", "check", "--jobs", str(at_once)], cwd=TOP, stdin=subprocess.DEVNULL, stdout=subprocess.PIPE, stderr=subprocess.STDOUT,
-                         text=True, errors="replace")
-    if ran.returncode:
-        print(ran.stdout[-3000:])
-        sys.exit("refused_where.py: the crates aren't proved as they stand: rt all check")
+def check_here(crates, at_once):
+    """Has rt check these crates here, so that the copies begin with what that keeps: a few by themselves, with what is below them, and else all at once."""
+    runs = [("rt", "check", f"crates/{it}") for it in crates] if len(crates) <= 8 else [("rt", "all", "check", "--jobs", str(at_once), ".")]
+    for *words, folder in runs:
+        ran = subprocess.run(words, cwd=TOP / folder, stdin=subprocess.DEVNULL, stdout=subprocess.PIPE, stderr=subprocess.STDOUT, text=True, errors="replace")
+        if ran.returncode:
+            print(ran.stdout[-3000:])
+            sys.exit(f"refused_where.py: not proved as it stands: {' '.join(words)} in {folder}")
 
 
 def main():
@@ -356,11 +357,11 @@ def main():
     checks, names = Checks(given.jobs), given.crates
     edits = [Edit(path) for path in sorted(glob.glob("crates/*/must-fail/*.edit")) if not names or path.split("/")[1] in names]
     texts = [(edit.crate, edit.texts(edit.pairs)) for edit in edits]
-    left = sum(changed is not None and checks.known(crate, changed) is None for crate, changed in texts)
+    left = [crate for crate, changed in texts if changed is not None and checks.known(crate, changed) is None]
     if left:
-        print(f"{left} of {len(edits)} edits are tried, {checks.at_once} at once; of the others it is known what the checker says", flush=True)
+        print(f"{len(left)} of {len(edits)} edits are tried, {checks.at_once} at once; of the others it is known what the checker says", flush=True)
     if left and not given.all_checked:
-        all_checked(checks.at_once)
+        check_here(sorted(set(left), key=lambda it: len(checks.kept.below[it])), checks.at_once)
     results = checks.each(lambda edit: faults(edit, checks), edits)
     wrong = [line for found, _ in results for line in found]
     for line in wrong:
