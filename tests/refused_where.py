@@ -20,9 +20,9 @@ which is refused because its two sides differ,
     # shown: MODULE CASE           as `Cases sent_again`
 
 What a check printed is kept, by the sums of all that it read, in sillwander/refused below XDG_CACHE_HOME (or ~/.cache), so that only what changed
-is tried again, from this checkout or another. To try them takes 15 to 40 seconds of a processor each. The copies begin with what `rt check`
-left in this checkout's crates/*/out, after one of each crate that is tried; --all-checked says that there was one. --found prints, for those who write an edit, every fact
-that is refused and not named. N checks run at once, or as many as there are processors. With CRATE only the edits of those crates are tried.
+is tried again, from this checkout or another. To try them takes 15 to 40 seconds of a processor each. The copies begin with what an `rt check`
+of each crate leaves in its out/, which is made first; --all-checked says that it was. --found prints, for those who write an edit, every fact that
+is refused and not named. N checks run at once, or as many as there are processors. With CRATE only the edits of those crates are tried.
 """
 import argparse
 import collections
