@@ -5,15 +5,15 @@
 
 `rt ci` says that the prover refuses an edit, and one place where. An edit names the facts that its wrong answers break in lines
 
-    # refused: FUNCTION FACT       as `chip/PicChip/pulse returns-2`: the folder below proofs/, and the goal in it
+    # refused: FUNCTION FACT       as `PicChip/poll returns`: the folder below proofs/, and the goal in it
     # refused: MODULE THEOREM      as `Restore restored_at_once`: the module of proofs/ (or specs/MODULE), and the theorem
 
 An edit may hold several wrong answers, and each of its facts must be refused by itself. So each edit is laid over a copy of its crate, `rt
 check` runs there, and what it prints is read. Where the checker didn't come to a fact, since it rests on another that is refused, each wrong
 answer is laid over a copy alone, and the fact must be refused at one of them.
 
-A goal is named after the code, and a fact as the edited code has it. A refusal that only shows that a proof file no longer fits that code (it
-names a goal, or a part of what is known there, that is called otherwise now) counts for nothing. One that only shows that a proof lost its
+A goal is named after the code, and a fact as the edited code has it. Where a proof file answers a goal that the edited code hasn't, the edit is
+faulty; a refusal by another name that is gone, or by a limit of the checker's own, counts for nothing. One that only shows that a proof lost its
 shape (a rewriting step that finds nothing to rewrite) doesn't show that the fact is false: after such a fact the edit names a computed case,
 which is refused because its two sides differ,
 
@@ -47,17 +47,33 @@ PARTS = ("src", "specs", "proofs")
 SHAPE = re.compile(r"no occurrence|no part of the goal|is an instance of")
 # A name that the edited text hasn't any more, or a declaration that wasn't looked at.
 GONE = re.compile(r"was not admitted|has no field `|is not in scope|has no `[^`]*` that can be named")
+# A proof file that answers a goal that the edited code hasn't.
+UNFIT = re.compile(r"error: .*module `\S+\.Goals` has no `")
+# A limit of the checker's own, at which it gives no verdict; and kept work of a library that couldn't be used, so that nothing is known of the edit.
+LIMIT = re.compile(r"antt ran out of (stack|the (steps|memory))|outgrew the memory limit|stopped at the step limit")
+STALE = re.compile(r"Run the lower steps again")
 
 
 # What a check says.
 
 
+def messages(log):
+    """What a check printed, each message in a line: where one is broken, what follows begins with a blank."""
+    lines = []
+    for line in log.split("\n"):
+        if line.startswith(" ") and lines:
+            lines[-1] += " " + line.strip()
+        else:
+            lines.append(line)
+    return lines
+
+
 def refused(log):
     """The (place, fact) pairs that a check refuses or leaves unproved; with each, whether only a proof's shape was lost."""
     found, open_goals = {}, []
-    for line in log.split("\n"):
+    for line in messages(log):
         error = re.match(r"(\S+?\.antt):\d+:\d+: error: `([^`]+)`: (.*)", line)
-        if error and not GONE.search(error[3]):
+        if error and not GONE.search(error[3]) and not LIMIT.search(error[3]):
             key = place(error[1]), error[2]
             found[key] = bool(SHAPE.search(error[3])) and found.get(key, True)
         # A function's open goals are named in front of its line.
@@ -270,7 +286,7 @@ class Checks:
         # 1: refused, 3: it met a limit of its own, 0: proved. What else there may be says nothing of the edit, and isn't kept; nor is what was said of other files.
         if [self.kept.sum_of(it, texts={}) for it in [*self.kept.below[crate], crate]] != began or began[:-1] != [self.kept.sum_of(it) for it in self.kept.below[crate]]:
             sys.exit("refused_where.py: files have changed while this ran: run it again")
-        if status in (0, 1, 3):
+        if status in (0, 1, 3) and not STALE.search(log):
             self.kept.put(path, log)
         return log
 
@@ -293,7 +309,7 @@ class Checks:
 
 def compiled(log):
     """Whether the checker came to the proofs at all, and refused one."""
-    return log.endswith(("status 1", "status 3")) and not re.search(r"\berror\[[\w-]+\]", log)
+    return log.endswith(("status 1", "status 3")) and not re.search(r"\berror\[[\w-]+\]", log) and not STALE.search(log)
 
 
 def lacking(edit, there):
@@ -317,6 +333,8 @@ def faults(edit, checks):
     log = checks.log(edit.crate, texts)
     if not compiled(log):
         return [f"{edit.path} isn't refused by the prover: {' / '.join(log.strip().split(chr(10))[-4:])[:400]}"], {}
+    if UNFIT.search(log):
+        return [f"{edit.path}: a proof file doesn't fit the edited code, which shows nothing"], {}
     there = refused(log)
     # What another refusal hides: each wrong answer alone.
     is_hidden = hidden(log)
@@ -327,7 +345,8 @@ def faults(edit, checks):
         log = checks.log(edit.crate, alone) if alone else ""
         if compiled(log):
             for key, shape in refused(log).items():
-                there[key] = shape and there.get(key, True)
+                if key in there or is_hidden(*key):
+                    there[key] = shape and there.get(key, True)
     return [words for _, _, words in lacking(edit, there)], there
 
 

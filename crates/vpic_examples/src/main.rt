@@ -1,4 +1,5 @@
 // Examples 7, 8 and 9 of document 01 on the pair by rule 0, and 7 and 8 again on a new one, by the cascade rule (document 02, T-02 and T-14): each line is what was asked, the number, and the values.
+
 #![tactic(auto)]
 
 use std::io::{self, Write};
