@@ -1,13 +1,12 @@
 -- What callers use of the counters' conversions. Assumes nothing.
-use Rattle.std.proofs.Common.{◌≡◌, ℕ, ◌+◌, ◌-◌, ◌%◌, ◌^◌, ◌<◌, ◌≤◌, Bool, true, false, cond, eqb, ltb, sym, refl, ap, ◌∙◌, mod-eq_of_lt, arith, ltb-false, ltb-true, le-ltb, lt-ltb, ne_eqb}
+use Rattle.std.proofs.Common.{◌≡◌, ℕ, Some, None, ◌+◌, ◌-◌, ◌^◌, ◌<◌, Bool, true, false, cond, eqb, ltb, sym, refl, ap, ◌∙◌, mod-eq_of_lt, arith, ltb-false, ltb-true, lt-ltb, ne_eqb}
 use Rattle.utils.specs.Set.{bit}
 use Rattle.utils.proofs.Laws.{bit_none}
 use Rattle.utils.proofs.Bits.{bit_power}
 use Rattle.types.specs.declared.Gsi.{Gsi}
 use Rattle.types.specs.declared.PicLine.{PicLine}
 use Rattle.types.specs.declared.VcpuId.{VcpuId}
-use Rattle.types.specs.declared.PicPlace.{PicPlace}
-use Rattle.types.specs.declared.PicPlace.TheVariants.{Master, Slave, Nowhere}
+use Rattle.types.specs.declared.PicPlace.TheVariants.{Master, Slave}
 use Rattle.types.specs.Counters.{entry_index, place_of, vcpu_mask, apic_id, vcpu_of}
 
 -- a GSI below 24 is its entry's index
@@ -15,19 +14,19 @@ pub entry_is : (g : Gsi) → g.0 < 24 → entry_index g ≡ g.0
 entry_is g h = rw (lt-ltb g.0 24 h)
 
 -- a place holds one of eight lines, and the pair's line comes back from it
-pub master_line : (l k : PicLine) → place_of l ≡ Master k → (k ≡ l) × (k.0 < 8)
+pub master_line : (l k : PicLine) → place_of l ≡ Some (Master k) → (k ≡ l) × (k.0 < 8)
 master_line l k e = go (ltb l.0 8) refl (ltb l.0 16) e
   where
-    go : (b : Bool) → ltb l.0 8 ≡ b → (d : Bool) → cond b (Master l) (cond d (Slave (record { 0 = l.0 - 8 })) Nowhere) ≡ Master k → (k ≡ l) × (k.0 < 8)
+    go : (b : Bool) → ltb l.0 8 ≡ b → (d : Bool) → cond b (Some (Master l)) (cond d (Some (Slave (record { 0 = l.0 - 8 }))) None) ≡ Some (Master k) → (k ≡ l) × (k.0 < 8)
     go true p d q = let s : k ≡ l = cc in (s, omega (arith, ltb-true l.0 8 p, ap (λ (x : PicLine). x.0) s))
     go false p true q = let z : ◌≡◌ {A = ℕ} 0 1 = cc in absurd (omega arith)
     go false p false q = let z : ◌≡◌ {A = ℕ} 0 1 = cc in absurd (omega arith)
 
-pub slave_line : (l k : PicLine) → place_of l ≡ Slave k → (l.0 ≡ k.0 + 8) × (k.0 < 8)
+pub slave_line : (l k : PicLine) → place_of l ≡ Some (Slave k) → (l.0 ≡ k.0 + 8) × (k.0 < 8)
 slave_line l k e = go (ltb l.0 8) refl (ltb l.0 16) refl e
   where
     go : (b : Bool) → ltb l.0 8 ≡ b → (d : Bool) → ltb l.0 16 ≡ d
-        → cond b (Master l) (cond d (Slave (record { 0 = l.0 - 8 })) Nowhere) ≡ Slave k → (l.0 ≡ k.0 + 8) × (k.0 < 8)
+        → cond b (Some (Master l)) (cond d (Some (Slave (record { 0 = l.0 - 8 }))) None) ≡ Some (Slave k) → (l.0 ≡ k.0 + 8) × (k.0 < 8)
     go true p d t q = let z : ◌≡◌ {A = ℕ} 0 1 = cc in absurd (omega arith)
     go false p true t q =
         let s : ◌≡◌ {A = PicLine} (record { 0 = l.0 - 8 }) k = cc in

@@ -1,10 +1,11 @@
 -- A refused call has no values, and a reply is known by its number and values. Assumes nothing.
-use Rattle.std.proofs.Common.{◌≡◌, ℕ, zero, suc, Bool, true, false, eqb, List, [], ◌∷◌, sym, refl, ap, ◌∙◌, ap₂, arith}
+use Rattle.std.proofs.Common.{◌≡◌, ℕ, zero, suc, Bool, true, false, eqb, List, [], ◌∷◌, Option, Some, None, Result, Ok, Err, sym, refl, ap, ◌∙◌, ap₂, arith}
 use Rattle.types.specs.declared.Refusal.{Refusal}
 use Rattle.types.specs.declared.Refusal.TheVariants.{Unsupported, InvalidRegister, InvalidDelivery, InvalidAddress, OutOfRange, BadField, ScriptTooLong, NoPlan, ListFull, BadImage, TooShort}
 use Rattle.types.specs.declared.Reply.{Reply}
 use Rattle.types.specs.declared.Reply.TheVariants.{Refused, Nothing, One, Two, Three}
-use Rattle.types.specs.Reply.{refusal_number, reply_number, reply_values, flag, Outcome, Kept}
+use Rattle.types.specs.declared.Vector.{Vector}
+use Rattle.types.specs.Reply.{refusal_number, reply_number, reply_values, flag, done_reply, number_reply, pair_reply, vector_reply, option_reply, result_reply, Outcome, Kept}
 
 pub refused_no_values : (r : Reply) → (reply_number r ≡ 0 → ⊥) → reply_values r ≡ []
 refused_no_values (Refused why) h = refl
@@ -100,6 +101,64 @@ flag_back false = refl
 
 pub flag_same : (a b : Bool) → flag a ≡ flag b → a ≡ b
 flag_same a b e = sym (flag_back a) ∙ ap (λ (n : ℕ). eqb n 1) e ∙ flag_back b
+
+-- an answer is known by its reply where its values are: done, a number, two numbers, a vector; nothing beside values that say something; a refusal beside values
+-- that say no refusal
+pub done_same : (a b : Unit {0}) → done_reply a ≡ done_reply b → a ≡ b
+done_same a b e = refl
+
+pub number_same : (a b : ℕ) → number_reply a ≡ number_reply b → a ≡ b
+number_same a b e = cc
+
+pub pair_same : (a b : ℕ × ℕ) → pair_reply a ≡ pair_reply b → a ≡ b
+pair_same a b e =
+    let first : a.0 ≡ b.0 = cc in
+    let second : a.1 ≡ b.1 = cc in
+    ap₂ (λ (x y : ℕ). (x, y)) first second
+
+abbrev vector_of : ℕ → Vector
+vector_of n = record { 0 = n }
+
+pub vector_same : (a b : Vector) → vector_reply a ≡ vector_reply b → a ≡ b
+vector_same a b e = ap vector_of (number_same a.0 b.0 e)
+
+pub option_reply_same : {A : Type 0} (f : A → Reply) → ((a b : A) → f a ≡ f b → a ≡ b) → ((a : A) → f a ≡ Nothing → ⊥)
+    → (a b : Option A) → option_reply f a ≡ option_reply f b → a ≡ b
+option_reply_same f same some (Some a) (Some b) e = ap Some (same a b e)
+option_reply_same f same some (Some a) None e = absurd (some a e)
+option_reply_same f same some None (Some b) e = absurd (some b (sym e))
+option_reply_same f same some None None e = refl
+
+pub result_reply_same : {A : Type 0} (f : A → Reply) → ((a b : A) → f a ≡ f b → a ≡ b) → ((a : A) (why : Refusal) → f a ≡ Refused why → ⊥)
+    → (a b : Result A Refusal) → result_reply f a ≡ result_reply f b → a ≡ b
+result_reply_same f same done (Ok a) (Ok b) e = ap Ok (same a b e)
+result_reply_same f same done (Ok a) (Err why) e = absurd (done a why e)
+result_reply_same f same done (Err why) (Ok b) e = absurd (done b why (sym e))
+result_reply_same f same done (Err why) (Err why') e = cc
+
+-- no value is a refusal, and a number or a vector is something
+pub done_done : (a : Unit {0}) (why : Refusal) → done_reply a ≡ Refused why → ⊥
+done_done a why e = let z : ◌≡◌ {A = ℕ} 0 1 = cc in omega (arith, z)
+
+pub number_done : (a : ℕ) (why : Refusal) → number_reply a ≡ Refused why → ⊥
+number_done a why e = let z : ◌≡◌ {A = ℕ} 0 1 = cc in omega (arith, z)
+
+pub pair_done : (a : ℕ × ℕ) (why : Refusal) → pair_reply a ≡ Refused why → ⊥
+pair_done a why e = let z : ◌≡◌ {A = ℕ} 0 1 = cc in omega (arith, z)
+
+pub vector_done : (a : Vector) (why : Refusal) → vector_reply a ≡ Refused why → ⊥
+vector_done a why e = let z : ◌≡◌ {A = ℕ} 0 1 = cc in omega (arith, z)
+
+pub number_some : (a : ℕ) → number_reply a ≡ Nothing → ⊥
+number_some a e = let z : ◌≡◌ {A = ℕ} 0 1 = cc in omega (arith, z)
+
+pub vector_some : (a : Vector) → vector_reply a ≡ Nothing → ⊥
+vector_some a e = let z : ◌≡◌ {A = ℕ} 0 1 = cc in omega (arith, z)
+
+pub option_done : {A : Type 0} (f : A → Reply) → ((a : A) (why : Refusal) → f a ≡ Refused why → ⊥)
+    → (a : Option A) (why : Refusal) → option_reply f a ≡ Refused why → ⊥
+option_done f done (Some a) why e = done a why e
+option_done f done None why e = let z : ◌≡◌ {A = ℕ} 0 1 = cc in omega (arith, z)
 
 -- a result is a state and an answer: it is known by its outcome where the answer is known by its reply
 pub outcome_same : {S A : Type 0} (rep : A → Reply) → ((a b : A) → rep a ≡ rep b → a ≡ b) → (s t : S) (a b : A)

@@ -1,22 +1,22 @@
 -- What each of the four counters counts, and the only ways from one to another.
 -- 82093AA: IOREDTBL (24 entries); 8259A: cascade mode (two chips of eight lines), ICW2 (the vector's upper bits); Intel SDM volume 3: interrupt command register (destinations).
-use Rattle.std.specs.Prelude.{ℕ, ◌+◌, ◌-◌, ◌%◌, ◌^◌, Bool, cond, nat_lt}
+use Rattle.std.specs.Prelude.{ℕ, ◌+◌, ◌-◌, ◌%◌, ◌^◌, cond, nat_lt, Option, Some, None}
 use Rattle.types.specs.declared.Gsi.{Gsi}
 use Rattle.types.specs.declared.PicLine.{PicLine}
 use Rattle.types.specs.declared.Vector.{Vector}
 use Rattle.types.specs.declared.VcpuId.{VcpuId}
 use Rattle.types.specs.declared.PicPlace.{PicPlace}
-use Rattle.types.specs.declared.PicPlace.TheVariants.{Master, Slave, Nowhere}
+use Rattle.types.specs.declared.PicPlace.TheVariants.{Master, Slave}
 
 -- a GSI's entry of the redirection table, or 24 where it has none
 abbrev pub entry_index : Gsi → ℕ
 entry_index gsi = cond (nat_lt gsi.0 24) gsi.0 24
 
--- lines 0 to 7 are the master's, 8 to 15 the slave's 0 to 7
-abbrev pub place_of : PicLine → PicPlace
+-- lines 0 to 7 are the master's, 8 to 15 the slave's 0 to 7, and the pair has no other
+abbrev pub place_of : PicLine → Option PicPlace
 place_of line =
-    cond (nat_lt line.0 8) (Master line)
-    (cond (nat_lt line.0 16) (Slave (record { 0 = line.0 - 8 })) Nowhere)
+    cond (nat_lt line.0 8) (Some (Master line))
+    (cond (nat_lt line.0 16) (Some (Slave (record { 0 = line.0 - 8 }))) None)
 
 -- a chip's vector for its line: base plus line, modulo 256
 abbrev pub line_vector : ℕ → PicLine → Vector

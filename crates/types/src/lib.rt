@@ -8,33 +8,40 @@
 
 #![tactic(auto)]
 
-ghost use Rattle.std.specs.Prelude.{◌≡◌};
+ghost use Rattle.std.specs.Prelude.{◌≡◌, ◌<◌, ◌↔◌, IsSome, IfSome};
 ghost use Rattle.utils.specs.Set.{without};
 ghost use Rattle.types.specs.Counters.{entry_index, place_of, line_vector, vcpu_mask, apic_id, vcpu_of};
-ghost use Rattle.types.specs.Reply.{refusal_number, reply_number, flag};
+ghost use Rattle.types.specs.Reply.{refusal_number, reply_number, flag, done_reply, number_reply, pair_reply, vector_reply, option_reply, result_reply};
+ghost use Rattle.types.specs.declared.Reply.{Reply};
 
 // A global system interrupt: an input of the I/O APIC.
-#[derive(Clone, Copy)]
+#[derive(Clone, Copy, Debug, PartialEq, Eq, PartialOrd, Ord, Hash)]
 pub struct Gsi(pub usize);
 
 // A line of an 8259 chip, 0 to 7, or of the pair, 0 to 15.
-#[derive(Clone, Copy)]
+#[derive(Clone, Copy, Debug, PartialEq, Eq, PartialOrd, Ord, Hash)]
 pub struct PicLine(pub u8);
 
 // An interrupt vector.
-#[derive(Clone, Copy)]
+#[derive(Clone, Copy, Debug, PartialEq, Eq, PartialOrd, Ord, Hash)]
 pub struct Vector(pub u8);
 
 // A virtual processor's number.
-#[derive(Clone, Copy)]
+#[derive(Clone, Copy, Debug, PartialEq, Eq, PartialOrd, Ord, Hash)]
 pub struct VcpuId(pub usize);
 
 // Which chip of the pair a line belongs to, and the line's number there.
-#[derive(Clone, Copy)]
+#[derive(Clone, Copy, Debug, PartialEq, Eq, Hash)]
 pub enum PicPlace {
     Master(PicLine),
     Slave(PicLine),
-    Nowhere,
+}
+
+// An entry of the I/O APIC's redirection table, which has 24.
+#[derive(Clone, Copy, Debug, PartialEq, Eq, PartialOrd, Ord, Hash)]
+pub struct Place {
+    pub index: usize,
+    ghost in_table: { index < 24 },
 }
 
 impl Gsi {
@@ -47,19 +54,31 @@ impl Gsi {
         }
         24
     }
+
+    // The redirection entry, which has the GSI's number; none for a GSI from 24 up.
+    pub fn place(self) -> Option<Place>
+        ensures found { IsSome result ↔ (self.0 < 24) }
+        ensures value { IfSome result (λ place. place.index ≡ self.0) }
+    {
+        if self.0 < 24 {
+            return Some(Place { index: self.0 });
+        }
+        None
+    }
 }
 
 impl PicLine {
-    pub fn place(self) -> PicPlace
+    // Where the line stands; none for a line from 16 up, which the pair hasn't.
+    pub fn place(self) -> Option<PicPlace>
         ensures { result ≡ place_of self }
     {
         if self.0 < 8 {
-            return PicPlace::Master(self);
+            return Some(PicPlace::Master(self));
         }
         if self.0 < 16 {
-            return PicPlace::Slave(PicLine(self.0 - 8));
+            return Some(PicPlace::Slave(PicLine(self.0 - 8)));
         }
-        PicPlace::Nowhere
+        None
     }
 
     // The vector that a chip with this base gives the line.
@@ -107,7 +126,7 @@ impl VcpuId {
 }
 
 // Why a call is refused.
-#[derive(Clone, Copy)]
+#[derive(Clone, Copy, Debug, PartialEq, Eq, Hash)]
 pub enum Refusal {
     // Width, or PIC port: the Rust's `Unsupported`.
     Unsupported,
@@ -133,11 +152,11 @@ pub enum Refusal {
     TooShort,
 }
 
-impl Refusal {
-    pub fn number(self) -> u8
-        ensures { result ≡ refusal_number self }
-    {
-        match self {
+impl From<Refusal> for u8 {
+    ghost from_gives = { λ why n. n ≡ refusal_number why };
+
+    fn from(why: Refusal) -> u8 {
+        match why {
             Refusal::Unsupported => 1,
             Refusal::InvalidRegister => 2,
             Refusal::InvalidDelivery => 3,
@@ -153,8 +172,16 @@ impl Refusal {
     }
 }
 
+impl Refusal {
+    pub fn number(self) -> u8
+        ensures { result ≡ refusal_number self }
+    {
+        u8::from(self)
+    }
+}
+
 // What any call says back: refused, or done with up to three values.
-#[derive(Clone, Copy)]
+#[derive(Clone, Copy, Debug, PartialEq, Eq, Hash)]
 pub enum Reply {
     Refused(Refusal),
     Nothing,
@@ -169,10 +196,7 @@ impl Reply {
     {
         match self {
             Reply::Refused(why) => why.number(),
-            Reply::Nothing => 0,
-            Reply::One(_) => 0,
-            Reply::Two(_, _) => 0,
-            Reply::Three(_, _, _) => 0,
+            Reply::Nothing | Reply::One(_) | Reply::Two(_, _) | Reply::Three(_, _, _) => 0,
         }
     }
 }
@@ -181,8 +205,83 @@ impl Reply {
 pub fn flag(up: bool) -> u64
     ensures { result ≡ flag up }
 {
-    if up {
-        return 1;
+    u64::from(up)
+}
+
+// What a call answers, as a reply: a call that can be refused answers a `Result` with a `Refusal`, and one that may have nothing to say an `Option`.
+pub trait ToReply {
+    ghost reply_of: { Self → Reply };
+
+    fn reply(self) -> Reply
+        ensures { result ≡ reply_of self };
+}
+
+impl ToReply for () {
+    ghost reply_of = { done_reply };
+
+    fn reply(self) -> Reply {
+        Reply::Nothing
     }
-    0
+}
+
+impl ToReply for u64 {
+    ghost reply_of = { number_reply };
+
+    fn reply(self) -> Reply {
+        Reply::One(self)
+    }
+}
+
+impl ToReply for u32 {
+    ghost reply_of = { number_reply };
+
+    fn reply(self) -> Reply {
+        u64::from(self).reply()
+    }
+}
+
+impl ToReply for u8 {
+    ghost reply_of = { number_reply };
+
+    fn reply(self) -> Reply {
+        u32::from(self).reply()
+    }
+}
+
+impl ToReply for (u64, u64) {
+    ghost reply_of = { pair_reply };
+
+    fn reply(self) -> Reply {
+        Reply::Two(self.0, self.1)
+    }
+}
+
+impl ToReply for Vector {
+    ghost reply_of = { vector_reply };
+
+    fn reply(self) -> Reply {
+        self.0.reply()
+    }
+}
+
+impl<A: ToReply> ToReply for Option<A> {
+    ghost reply_of = { option_reply A.reply_of };
+
+    fn reply(self) -> Reply {
+        match self {
+            Some(answer) => answer.reply(),
+            None => Reply::Nothing,
+        }
+    }
+}
+
+impl<A: ToReply> ToReply for Result<A, Refusal> {
+    ghost reply_of = { result_reply A.reply_of };
+
+    fn reply(self) -> Reply {
+        match self {
+            Ok(answer) => answer.reply(),
+            Err(why) => Reply::Refused(why),
+        }
+    }
 }
