@@ -6,7 +6,7 @@ use lib.Bits.{bit_and, and_step, and_self, and_le_l, and_mask}
 use borrow.Author.Tests.{eqb-false}
 use Rattle.utils.specs.Set.{bit, without, outside, lowest}
 use Rattle.utils.proofs.Search.{first_same}
-use Rattle.utils.proofs.Laws.{bit_zero, bit_suc, digit, lowest_le, lowest_in, same_bits, bit_outside}
+use Rattle.utils.proofs.Laws.{bit_zero, bit_suc, lowest_le, lowest_in, same_bits, bit_outside}
 use Rattle.utils.proofs.Bits.{and_not}
 
 -- without line 0 the lowest is that of the others

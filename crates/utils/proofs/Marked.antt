@@ -1,5 +1,5 @@
 -- One member of a set comes or goes, and no other does. Assumes nothing.
-use Rattle.std.proofs.Common.{◌≡◌, ℕ, ◌+◌, ◌*◌, ◌/◌, ◌%◌, ◌^◌, ◌<◌, ◌≤◌, Bool, true, false, eqb, sym, refl, ap, ◌∙◌, mod-lt, arith, pow_pos, eqb-true}
+use Rattle.std.proofs.Common.{◌≡◌, ℕ, ◌+◌, ◌*◌, ◌/◌, ◌%◌, ◌^◌, ◌<◌, Bool, true, false, eqb, sym, refl, ap, ◌∙◌, mod-lt, arith, pow_pos, eqb-true}
 use native.Mathlib.Nat.{mod-add-div', eq_of_mul-eq-mul_right}
 use borrow.Author.Tests.{eqb-false}
 use Rattle.utils.specs.Set.{bit, with, without, marked}

@@ -1,6 +1,6 @@
 -- A set gone through by its lowest member, again and again until it is empty: a search among the members, and a change for each of them. Laws over any width,
 -- any test and any change. Assumes nothing.
-use Rattle.std.proofs.Common.{◌≡◌, ℕ, zero, suc, ◌+◌, ◌^◌, ◌<◌, ◌≤◌, Bool, true, false, cond, ◌&&◌, eqb, ltb, sym, refl, ap, ◌∙◌, true≢false, zero-le, arith, pow_pos, ltb-false, ltb-true, eqb-true}
+use Rattle.std.proofs.Common.{◌≡◌, ℕ, zero, suc, ◌+◌, ◌^◌, ◌<◌, ◌≤◌, Bool, true, false, cond, ◌&&◌, eqb, ltb, sym, refl, ap, ◌∙◌, zero-le, arith, pow_pos, ltb-false, ltb-true, eqb-true}
 use borrow.Author.Tests.{eqb-false}
 use Rattle.utils.specs.Cases.{and_right_no}
 use Rattle.utils.specs.Set.{bit, without, first, lowest}
