@@ -1,14 +1,16 @@
 -- Laws about the lists of a host's vCPUs. Assumes nothing.
 use Prim.Native.Nat.{ℕ, zero, suc, ◌+◌, ◌-◌, ◌*◌, ◌/◌, ◌≤◌, ◌<◌}
 use mathlib.Core.Bool.{Bool, true, false, cond}
-use mathlib.Core.List.{List, [], ◌∷◌, ◌++◌, append_assoc}
+use mathlib.Core.List.{List, ◌∷◌, ◌++◌, append_assoc}
 use mathlib.Core.Path.{◌≡◌, refl, sym, ap, ◌∙◌}
 use native.Mathlib.Omega.{arith}
 use lib.Dec.{ltb}
-use lib.ListN.{length, get_or, take, drop, set, length-append, length-take, length-drop}
+use lib.ListN.{length, get_or, take, drop, set, length-drop}
 use lib.Seq.{take_at, drop_at, take-add, drop-drop, length-take-le}
 use borrow.Rule.Slice.PartMut.{put_mid, same_len_mid, mid_len, Post-is, drop_put, put_same}
-use borrow.Author.Tests.{lt-ltb, le-ltb, ltb-true, ltb-false}
+use borrow.Author.Tests.{lt-ltb, ltb-true, ltb-false}
+use Rattle.std.proofs.Common.{Result, Ok, Err}
+use Rattle.types.specs.declared.Refusal.{Refusal}
 use Rattle.types.specs.declared.Refusal.TheVariants.{OutOfRange}
 use Rattle.types.specs.declared.Reply.{Reply}
 use Rattle.types.specs.declared.Reply.TheVariants.{Refused}
@@ -16,6 +18,7 @@ use Rattle.types.specs.declared.VcpuId.{VcpuId}
 use Rattle.types.specs.Reply.{Outcome, outcome_of}
 use Rattle.waiting.specs.Waiting.{Waiting, view, new_list}
 use Rattle.waiting.specs.Lists.{Lists, vcpus_in, lists_from, lists_in, known_in, list_at, with_list, on_list}
+use Rattle.waiting.specs.Steps.{start_in}
 
 pub vcpus_fit : (n : ℕ) → vcpus_in n * 66 ≤ n
 vcpus_fit n = go (ltb (n / 66) 64) refl
@@ -121,14 +124,27 @@ known_is l id = ap (ltb id.0) (lists_length (vcpus_in (length l)) l)
 pub is_known : (l : List ℕ) (id : VcpuId) (v : ℕ) → v ≡ vcpus_in (length l) → ltb id.0 v ≡ known_in (lists_in l) id
 is_known l id v e = ap (ltb id.0) e ∙ sym (known_is l id)
 
-pub unknown : (l : List ℕ) (id : VcpuId) (v : ℕ) (f : Waiting → Outcome Waiting) → v ≡ vcpus_in (length l) → v ≤ id.0 → outcome_of (lists_in l) (Refused OutOfRange) ≡ on_list (lists_in l) id f
+-- no list starts for an unknown vCPU, and a known one's is its own
+pub no_start : (l : List ℕ) (id : VcpuId) (why : Refusal) (f : Waiting → Outcome Waiting) → Err why ≡ start_in (length l) id → outcome_of (lists_in l) (Refused why) ≡ on_list (lists_in l) id f
 unfolding on_list
-unknown l id v f e b = let t : known_in (lists_in l) id ≡ false = known_is l id ∙ le-ltb id.0 (vcpus_in (length l)) (omega arith) in rw t refl
+no_start l id why f e = rw (known_is l id) (go (ltb id.0 (vcpus_in (length l))) e)
+  where
+    go : (b : Bool) → Err why ≡ cond b (Ok (id.0 * 66)) (Err OutOfRange) → outcome_of (lists_in l) (Refused why)
+        ≡ cond b (outcome_of (with_list (lists_in l) id (f (list_at (lists_in l) id)).state) (f (list_at (lists_in l) id)).reply) (outcome_of (lists_in l) (Refused OutOfRange))
+    go true q = let z : ◌≡◌ {A = ℕ} 0 1 = cc in absurd (omega (arith, z))
+    go false q = let same : why ≡ OutOfRange = cc in rw same refl
 
-pub onto_list : (l b : List ℕ) (id : VcpuId) (s : ℕ) (f : Waiting → Outcome Waiting) (r : Reply) → s ≡ id.0 * 66 → id.0 < vcpus_in (length l) → length b ≡ 66
+own_start : (n : ℕ) (id : VcpuId) (s : ℕ) → Ok s ≡ start_in n id → (s ≡ id.0 * 66) × (id.0 < vcpus_in n)
+own_start n id s e = go (ltb id.0 (vcpus_in n)) refl e
+  where
+    go : (b : Bool) → ltb id.0 (vcpus_in n) ≡ b → ◌≡◌ {A = Result ℕ Refusal} (Ok s) (cond b (Ok (id.0 * 66)) (Err OutOfRange)) → (s ≡ id.0 * 66) × (id.0 < vcpus_in n)
+    go true t q = let same : s ≡ id.0 * 66 = cc in (same, ltb-true id.0 (vcpus_in n) t)
+    go false t q = let z : ◌≡◌ {A = ℕ} 0 1 = cc in absurd (omega (arith, z))
+
+put_onto : (l b : List ℕ) (id : VcpuId) (s : ℕ) (f : Waiting → Outcome Waiting) (r : Reply) → s ≡ id.0 * 66 → id.0 < vcpus_in (length l) → length b ≡ 66
     → outcome_of (view b) r ≡ f (view (take (s + 66 - s) (drop s l))) → outcome_of (lists_in (put_mid s (s + 66 - s) l b)) r ≡ on_list (lists_in l) id f
 unfolding on_list
-onto_list l b id s f r es known len e =
+put_onto l b id s f r es known len e =
     let t : known_in (lists_in l) id ≡ true = known_is l id ∙ lt-ltb id.0 (vcpus_in (length l)) known in
     let g : outcome_of (view b) r ≡ f (list_at (lists_in l) id) =
     e ∙ ap (λ (j : ℕ). f (view (take (j + 66 - j) (drop j l)))) es ∙ ap f (sym (list_of l id known)) in
@@ -136,12 +152,17 @@ onto_list l b id s f r es known len e =
     let y : r ≡ (f (list_at (lists_in l) id)).reply = ap (λ (o : Outcome Waiting). o.reply) g in
     rw (t, es) (ap (λ (p : Lists). outcome_of p r) (put_lists l b id.0 known len) ∙ (λ i. outcome_of (with_list (lists_in l) id (x i)) (y i)))
 
+pub onto_list : (l b : List ℕ) (id : VcpuId) (s : ℕ) (f : Waiting → Outcome Waiting) (r : Reply) → Ok s ≡ start_in (length l) id → length b ≡ 66
+    → outcome_of (view b) r ≡ f (view (take (s + 66 - s) (drop s l))) → outcome_of (lists_in (put_mid s (s + 66 - s) l b)) r ≡ on_list (lists_in l) id f
+onto_list l b id s f r h len e = let k = own_start (length l) id s h in put_onto l b id s f r k.0 k.1 len e
+
 -- the same of a list that is only read
-pub of_list : (l : List ℕ) (id : VcpuId) (s : ℕ) (f : Waiting → Outcome Waiting) (r : Reply) → s ≡ id.0 * 66 → id.0 < vcpus_in (length l)
+pub of_list : (l : List ℕ) (id : VcpuId) (s : ℕ) (f : Waiting → Outcome Waiting) (r : Reply) → Ok s ≡ start_in (length l) id
     → outcome_of (view (take (s + 66 - s) (drop s l))) r ≡ f (view (take (s + 66 - s) (drop s l))) → outcome_of (lists_in l) r ≡ on_list (lists_in l) id f
-of_list l id s f r es known e =
-    let fits : s + 66 ≤ length l = omega (arith, list_ends id.0 (length l) known) in
+of_list l id s f r h e =
+    let k = own_start (length l) id s h in
+    let fits : s + 66 ≤ length l = omega (arith, k.0, list_ends id.0 (length l) k.1) in
     let n : s + 66 - s ≡ 66 = omega arith in
     let long : length (take (s + 66 - s) (drop s l)) ≡ 66 = mid_len s (s + 66) l fits ∙ n in
     ap (λ (m : List ℕ). outcome_of (lists_in m) r) (sym (put_same s (s + 66 - s) l))
-    ∙ onto_list l (take (s + 66 - s) (drop s l)) id s f r es known long e
+    ∙ put_onto l (take (s + 66 - s) (drop s l)) id s f r k.0 k.1 long e

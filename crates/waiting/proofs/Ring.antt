@@ -2,22 +2,20 @@
 use Prim.Native.Nat.compare
 use Prim.Native.Nat.{ℕ, zero, suc, ◌+◌, ◌-◌, ◌/◌, ◌%◌, ◌≤◌, ◌<◌}
 use mathlib.Core.Bool.{Bool, true, false, cond, ◌||◌}
-use mathlib.Core.List.{List, [], ◌∷◌, ◌++◌, append_assoc}
-use mathlib.Core.Path.{◌≡◌, refl, sym, ap, ◌∙◌}
+use mathlib.Core.List.{List, [], ◌∷◌, ◌++◌}
+use mathlib.Core.Path.{◌≡◌, refl, sym, ap, ap₂, ◌∙◌}
 use native.Mathlib.Omega.{arith}
-use native.Mathlib.Numerals.{add-one}
 use lib.Dec.{ltb, leb, eqb}
 use lib.ListN.{length, get_or, drop, set, replicate, length-set, get_or-replicate, drop_of_length-le}
 use lib.ListN as listN
-use lib.Seq.{get_or-set_same, get_or-set_other, take_at, drop_at, get_or_at, ext_get_or}
+use lib.Seq.{get_or-set_same, get_or-set_other, take_at, drop_at, get_or_at}
 use borrow.Author.Tests.{lt-ltb, le-ltb, le-leb, lt-leb, ltb-true, ltb-false, eq-eqb, ne_eqb}
 use Rattle.types.specs.declared.Refusal.TheVariants.{ListFull}
 use Rattle.types.specs.declared.Reply.TheVariants.{Refused, Nothing, One}
 use Rattle.types.specs.declared.Vector.{Vector}
 use Rattle.types.specs.Reply.{outcome_of}
 use Rattle.waiting.specs.Waiting.{Waiting, around, size_of, list_of, view, new_list, taken, delivered, cancelled, among, removed, is_empty, oldest, take, deliver, cancel, count, peek}
-use mathlib.Core.Logic.{◌⊎◌, inl, inr, ⊎_elim}
-use Rattle.waiting.specs.Steps.{index_of, closed, Closing, Passed, Cleared}
+use Rattle.waiting.specs.Steps.{index_of, closed, Closing, Passed}
 
 -- ---- the places around
 
@@ -368,12 +366,14 @@ module _ (l : List ℕ) (h c n v i : ℕ) (len : length l ≡ 66) (eh : get_or l
 pub closing_starts : (l : List ℕ) (p m : ℕ) → Closing l p m l p m
 closing_starts l p m = record { same = refl; long = refl; sum = refl }
 
-pub closing_again : (l₀ l : List ℕ) (p₀ m₀ p m : ℕ) → 0 < m → Closing l₀ p₀ m₀ l p m → Closing l₀ p₀ m₀ (set l (p % 64) (get_or l ((p + 1) % 64) 0)) (p + 1) (m - 1)
-closing_again l₀ l p₀ m₀ p m some i =
+pub closing_again : (l₀ l : List ℕ) (p₀ m₀ p : ℕ) → p < p₀ + m₀ → Closing l₀ p₀ m₀ l p (p₀ + m₀ - p)
+    → Closing l₀ p₀ m₀ (set l (p % 64) (get_or l ((p + 1) % 64) 0)) (p + 1) (p₀ + m₀ - (p + 1))
+closing_again l₀ l p₀ m₀ p some i =
     let f : p + 1 ≡ suc p = omega arith in
-    let g : m ≡ suc (m - 1) = omega arith in
+    let e : p₀ + m₀ - (p + 1) ≡ p₀ + m₀ - suc p = omega arith in
+    let g : p₀ + m₀ - p ≡ suc (p₀ + m₀ - suc p) = omega arith in
     record {
-      same = rw f (sym (ap (closed l p) g) ∙ i.same);
+      same = ap₂ (λ (q m : ℕ). closed (set l (p % 64) (get_or l (q % 64) 0)) q m) f e ∙ sym (ap (closed l p) g) ∙ i.same;
       long = simp length-set i.long;
       sum = omega (arith, i.sum);
     }
@@ -413,36 +413,10 @@ passing_ends l h n k v a i =
     let g : index_of v (around l (h + k) (n - k)) ≡ zero = ap (λ (m : ℕ). index_of v (around l (h + k) m)) f in
     omega (arith, i.index, i.within, g)
 
-same_or_less : (j k : ℕ) → j ≤ k → (j ≡ k) ⊎ (j < k)
-same_or_less j k b = go (ltb j k) refl
-  where
-    go : (t : Bool) → ltb j k ≡ t → (j ≡ k) ⊎ (j < k)
-    go true e = inr (ltb-true j k e)
-    go false e = inl (omega (arith, ltb-false j k e))
-
-pub clearing_starts : (l : List ℕ) → Cleared l l 0
-clearing_starts l = record { within = omega arith; long = refl; zeros = λ j b. absurd (omega arith) }
-
-pub clearing_again : (l₀ l : List ℕ) (k : ℕ) → length l₀ ≡ 66 → k < 66 → Cleared l₀ l k → Cleared l₀ (set l k 0) (k + 1)
-clearing_again l₀ l k len b i = record { within = omega arith; long = simp length-set i.long; zeros = at }
-  where
-    at : (j : ℕ) → j < k + 1 → get_or (set l k 0) j 0 ≡ 0
-    at j c =
-        ⊎_elim
-        (λ (e : j ≡ k). rw e (get_or-set_same l k 0 0 (omega (arith, i.long))))
-        (λ (d : j < k). get_or-set_other l k j 0 0 (λ e. omega arith) ∙ i.zeros j d)
-        (same_or_less j k (omega arith))
-
 -- zeros are a new list
-zeros_new : view (replicate 66 0) ≡ new_list
+pub zeros_new : view (replicate 66 0) ≡ new_list
 unfolding view list_of new_list
 zeros_new = refl
-
-pub clearing_ends : (l₀ l : List ℕ) (k : ℕ) → length l₀ ≡ 66 → 66 ≤ k → Cleared l₀ l k → view l ≡ new_list
-clearing_ends l₀ l k len b i =
-    let e : l ≡ replicate 66 0 =
-    ext_get_or 0 l (replicate 66 0) (i.long ∙ len) (λ j d. i.zeros j (omega (arith, i.long)) ∙ sym (get_or-replicate 66 j 0 0 (omega (arith, i.long)))) in
-    ap view e ∙ zeros_new
 
 -- ---- what each call returns
 

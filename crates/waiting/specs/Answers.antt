@@ -1,22 +1,15 @@
--- The lists' answers as replies, in the numbers and values of documents 01 and 02.
+-- The lists' answers as replies, in the numbers and values of documents 01 and 02: done, a vector that waited or none, how many wait; each may be refused.
+use Rattle.std.specs.Prelude.{ℕ, Option, Result}
+use Rattle.types.specs.declared.Refusal.{Refusal}
 use Rattle.types.specs.declared.Reply.{Reply}
-use Rattle.types.specs.declared.Reply.TheVariants.{Refused, Nothing, One}
-use Rattle.waiting.specs.declared.Taken.{Taken}
-use Rattle.waiting.specs.declared.Taken.TheVariants.{Done, Refused as NotTaken}
-use Rattle.waiting.specs.declared.Waited.{Waited}
-use Rattle.waiting.specs.declared.Waited.TheVariants.{Given, Nothing as NoVector, Refused as NotGiven}
-use Rattle.waiting.specs.declared.Counted.{Counted}
-use Rattle.waiting.specs.declared.Counted.TheVariants.{Count, Refused as NotCounted}
+use Rattle.types.specs.declared.Vector.{Vector}
+use Rattle.types.specs.Reply.{done_reply, number_reply, vector_reply, option_reply, result_reply}
 
-abbrev pub taken_reply : Taken → Reply
-taken_reply Done = Nothing
-taken_reply (NotTaken why) = Refused why
+abbrev pub taken_reply : Result (Unit {0}) Refusal → Reply
+taken_reply = result_reply done_reply
 
-abbrev pub waited_reply : Waited → Reply
-waited_reply (Given v) = One v.0
-waited_reply NoVector = Nothing
-waited_reply (NotGiven why) = Refused why
+abbrev pub waited_reply : Result (Option Vector) Refusal → Reply
+waited_reply = result_reply (option_reply vector_reply)
 
-abbrev pub counted_reply : Counted → Reply
-counted_reply (Count n) = One n
-counted_reply (NotCounted why) = Refused why
+abbrev pub counted_reply : Result ℕ Refusal → Reply
+counted_reply = result_reply number_reply

@@ -1,6 +1,14 @@
 -- What the loops leave, one turn after the other. No promise of a public call cites this file.
-use Rattle.std.specs.Prelude.{ℕ, zero, suc, ◌+◌, ◌-◌, ◌%◌, ◌≤◌, ◌<◌, cond, List, [], ◌∷◌, eqb, ◌≡◌, length, get_or, set}
+use Rattle.std.specs.Prelude.{ℕ, zero, suc, ◌+◌, ◌-◌, ◌*◌, ◌%◌, ltb, Result, Ok, Err, ◌≤◌, cond, List, [], ◌∷◌, eqb, ◌≡◌, length, get_or, set}
+use Rattle.types.specs.declared.Refusal.{Refusal}
+use Rattle.types.specs.declared.Refusal.TheVariants.{OutOfRange}
+use Rattle.types.specs.declared.VcpuId.{VcpuId}
 use Rattle.waiting.specs.Waiting.{around}
+use Rattle.waiting.specs.Lists.{vcpus_in}
+
+-- where a vCPU's list starts in bytes of this number
+abbrev pub start_in : ℕ → VcpuId → Result ℕ Refusal
+start_in bytes id = cond (ltb id.0 (vcpus_in bytes)) (Ok (id.0 * 66)) (Err OutOfRange)
 
 -- the number of those before the first that equals v, or of all
 abbrev pub index_of : ℕ → List ℕ → ℕ
@@ -22,9 +30,3 @@ pub record Closing (l₀ : List ℕ) (p₀ m₀ : ℕ) (l : List ℕ) (p m : ℕ
 pub record Passed (l : List ℕ) (h n v k : ℕ) : Type 0 where
   pub within : k ≤ n
   pub index : index_of v (around l h n) ≡ k + index_of v (around l (h + k) (n - k))
-
--- the first k bytes were cleared
-pub record Cleared (l₀ l : List ℕ) (k : ℕ) : Type 0 where
-  pub within : k ≤ 66
-  pub long : length l ≡ length l₀
-  pub zeros : (j : ℕ) → j < k → get_or l j 0 ≡ 0

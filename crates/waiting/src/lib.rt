@@ -6,15 +6,15 @@
 
 #![tactic(auto)]
 
-ghost use Rattle.std.specs.Prelude.{◌≡◌, ◌+◌, ◌*◌, ◌≤◌, ◌<◌, length};
+ghost use Rattle.std.specs.Prelude.{◌≡◌, ◌+◌, ◌≤◌, ◌<◌, length, unwrap_or, IfSome, IfOk};
 ghost use Rattle.types.specs.Reply.{outcome_of};
 ghost use Rattle.waiting.specs.Waiting as one;
 ghost use Rattle.waiting.specs.Waiting.{around, size_of, view, new_list};
-ghost use Rattle.waiting.specs.Steps.{closed, index_of};
+ghost use Rattle.waiting.specs.Steps.{closed, index_of, start_in};
 ghost use Rattle.waiting.specs.Lists.{vcpus_in, lists_in, known_in, new, take, deliver, cancel, count, peek};
 ghost use Rattle.waiting.specs.Answers.{taken_reply, waited_reply, counted_reply};
 
-use types::{Refusal, Reply, VcpuId, Vector};
+use types::{Refusal, VcpuId, Vector};
 
 pub const LIST_BYTES: usize = 66;
 
@@ -28,137 +28,57 @@ const HEAD: usize = 64;
 
 const COUNT: usize = 65;
 
-// ---- Answers in the numbers of documents 01 and 02.
-
-// Taken in, or why not.
-#[derive(Clone, Copy)]
-pub enum Taken {
-    Done,
-    Refused(Refusal),
-}
-
-// A vector that waited, or none.
-#[derive(Clone, Copy)]
-pub enum Waited {
-    Given(Vector),
-    Nothing,
-    Refused(Refusal),
-}
-
-// How many wait.
-#[derive(Clone, Copy)]
-pub enum Counted {
-    Count(u8),
-    Refused(Refusal),
-}
-
-impl Taken {
-    pub fn reply(self) -> Reply
-        ensures { result ≡ taken_reply self }
-    {
-        match self {
-            Taken::Done => Reply::Nothing,
-            Taken::Refused(why) => Reply::Refused(why),
-        }
-    }
-}
-
-impl Waited {
-    pub fn reply(self) -> Reply
-        ensures { result ≡ waited_reply self }
-    {
-        match self {
-            Waited::Given(v) => Reply::One(v.0 as u64),
-            Waited::Nothing => Reply::Nothing,
-            Waited::Refused(why) => Reply::Refused(why),
-        }
-    }
-}
-
-impl Counted {
-    pub fn reply(self) -> Reply
-        ensures { result ≡ counted_reply self }
-    {
-        match self {
-            Counted::Count(n) => Reply::One(n as u64),
-            Counted::Refused(why) => Reply::Refused(why),
-        }
-    }
-}
-
 // ---- One list.
-
-// A byte as a number of places.
-fn wide(byte: u8) -> usize
-    ensures { (result ≡ byte) × (result < 256) }
-{
-    byte as usize
-}
 
 // How many wait by the count's byte.
 fn size(count: u8) -> usize
     ensures { (result ≡ size_of count) × (result ≤ 64) }
 {
-    if count < 64 {
-        return wide(count);
-    }
-    64
+    if count < 64 { usize::from(count) } else { 64 }
 }
 
-fn new_list(list: &mut [u8])
-    requires { length list.old ≡ 66 }
-    ensures { view list.new ≡ new_list }
-{
-    let mut k = 0;
-    while k < LIST_BYTES {
-        list[k] = 0;
-        k += 1;
-    }
-}
-
-fn take_in(list: &mut [u8], vector: Vector) -> Taken
+fn take_in(list: &mut [u8], vector: Vector) -> Result<(), Refusal>
     requires { length list.old ≡ 66 }
     ensures { outcome_of (view list.new) (taken_reply result) ≡ one.take (view list.old) vector }
 {
     let n = list[COUNT];
     if n >= 64 {
-        return Taken::Refused(Refusal::ListFull);
+        return Err(Refusal::ListFull);
     }
-    let place = (wide(list[HEAD]) + wide(n)) % PLACES;
+    let place = (usize::from(list[HEAD]) + usize::from(n)) % PLACES;
     list[place] = vector.0;
     list[COUNT] = n + 1;
-    Taken::Done
+    Ok(())
 }
 
-fn deliver_from(list: &mut [u8]) -> Waited
+fn deliver_from(list: &mut [u8]) -> Result<Option<Vector>, Refusal>
     requires { length list.old ≡ 66 }
     ensures { outcome_of (view list.new) (waited_reply result) ≡ one.deliver (view list.old) }
 {
     let n = size(list[COUNT]);
     if n == 0 {
-        return Waited::Nothing;
+        return Ok(None);
     }
-    let place = wide(list[HEAD]) % PLACES;
+    let place = usize::from(list[HEAD]) % PLACES;
     let vector = Vector(list[place]);
     list[place] = 0;
     list[HEAD] = ((place + 1) % PLACES) as u8;
     list[COUNT] = (n - 1) as u8;
-    Waited::Given(vector)
+    Ok(Some(vector))
 }
 
-// How many of the n that wait are older than the oldest of a vector; n where none has it.
-fn index_of(list: &[u8], head: usize, n: usize, vector: u8) -> usize
+// How many of the n that wait are older than the oldest of a vector, where one has it.
+fn index_of(list: &[u8], head: usize, n: usize, vector: u8) -> Option<usize>
     requires { (length list.now ≡ 66) × (head < 256) × (n ≤ 64) }
-    ensures { result ≡ index_of vector (around list.now head n) }
+    ensures index { unwrap_or result n ≡ index_of vector (around list.now head n) }
+    ensures within { IfSome result (λ k. k < n) }
 {
-    let mut k = 0;
-    while k < n {
+    for k in 0..n {
         if list[(head + k) % PLACES] == vector {
-            return k;
+            return Some(k);
         }
-        k += 1;
     }
-    n
+    None
 }
 
 // The `more` vectors behind a place move up to it, and the last one's place is cleared.
@@ -166,47 +86,42 @@ fn close(list: &mut [u8], at: usize, more: usize)
     requires { (length list.old ≡ 66) × (at < 512) × (more < 64) }
     ensures { list.new ≡ closed list.old at more }
 {
-    let mut place = at;
-    let mut left = more;
-    while 0 < left {
+    for place in at..at + more {
         list[place % PLACES] = list[(place + 1) % PLACES];
-        place += 1;
-        left -= 1;
     }
-    list[place % PLACES] = 0;
+    list[(at + more) % PLACES] = 0;
 }
 
-fn cancel_in(list: &mut [u8], vector: Vector) -> Waited
+fn cancel_in(list: &mut [u8], vector: Vector) -> Result<Option<Vector>, Refusal>
     requires { length list.old ≡ 66 }
     ensures { outcome_of (view list.new) (waited_reply result) ≡ one.cancel (view list.old) vector }
 {
     let n = size(list[COUNT]);
-    let head = wide(list[HEAD]);
-    let k = index_of(&*list, head, n, vector.0);
-    if k >= n {
-        return Waited::Nothing;
-    }
-    close(&mut *list, head + k, n - 1 - k);
+    let head = usize::from(list[HEAD]);
+    let Some(k) = index_of(list, head, n, vector.0) else {
+        return Ok(None);
+    };
+    close(list, head + k, n - 1 - k);
     list[COUNT] = (n - 1) as u8;
-    Waited::Given(vector)
+    Ok(Some(vector))
 }
 
-fn count_of(list: &[u8]) -> Counted
+fn count_of(list: &[u8]) -> Result<u8, Refusal>
     requires { length list.now ≡ 66 }
     ensures { outcome_of (view list.now) (counted_reply result) ≡ one.count (view list.now) }
 {
-    Counted::Count(size(list[COUNT]) as u8)
+    Ok(size(list[COUNT]) as u8)
 }
 
-fn peek_at(list: &[u8], k: usize) -> Waited
+fn peek_at(list: &[u8], k: usize) -> Result<Option<Vector>, Refusal>
     requires { length list.now ≡ 66 }
     ensures { outcome_of (view list.now) (waited_reply result) ≡ one.peek (view list.now) k }
 {
     let n = size(list[COUNT]);
     if k >= n {
-        return Waited::Nothing;
+        return Ok(None);
     }
-    Waited::Given(Vector(list[(wide(list[HEAD]) + k) % PLACES]))
+    Ok(Some(Vector(list[(usize::from(list[HEAD]) + k) % PLACES])))
 }
 
 // ---- The lists of a host's vCPUs.
@@ -229,145 +144,100 @@ pub fn is_known(lists: &[u8], vcpu: VcpuId) -> bool
     vcpu.0 < vcpus(lists.len())
 }
 
-// Where a vCPU's list starts.
-fn start(bytes: usize, vcpu: VcpuId) -> usize
-    requires { vcpu.0 < vcpus_in bytes }
-    ensures { (result ≡ vcpu.0 * 66) × (result + 66 ≤ bytes) }
+// Where a vCPU's list starts; refused for a vCPU that has none.
+fn start(bytes: usize, vcpu: VcpuId) -> Result<usize, Refusal>
+    ensures place { result ≡ start_in bytes vcpu }
+    ensures fits { IfOk result (λ start. start + 66 ≤ bytes) }
 {
-    vcpu.0 * LIST_BYTES
+    if vcpu.0 >= vcpus(bytes) {
+        return Err(Refusal::OutOfRange);
+    }
+    Ok(vcpu.0 * LIST_BYTES)
 }
 
 // A new list for a vCPU: nothing waits.
-pub fn new(lists: &mut [u8], vcpu: VcpuId) -> Taken
+pub fn new(lists: &mut [u8], vcpu: VcpuId) -> Result<(), Refusal>
     ensures { outcome_of (lists_in lists.new) (taken_reply result) ≡ new (lists_in lists.old) vcpu }
 {
-    if vcpu.0 >= vcpus(lists.len()) {
-        return Taken::Refused(Refusal::OutOfRange);
-    }
-    let start = start(lists.len(), vcpu);
-    let end = start + LIST_BYTES;
-    new_list(&mut lists[start..end]);
-    Taken::Done
+    let start = start(lists.len(), vcpu)?;
+    lists[start..start + LIST_BYTES].copy_from_slice(&[0; LIST_BYTES]);
+    Ok(())
 }
 
 // Takes an interrupt in for a vCPU.
-pub fn take(lists: &mut [u8], vcpu: VcpuId, vector: Vector) -> Taken
+pub fn take(lists: &mut [u8], vcpu: VcpuId, vector: Vector) -> Result<(), Refusal>
     ensures { outcome_of (lists_in lists.new) (taken_reply result) ≡ take (lists_in lists.old) vcpu vector }
 {
-    if vcpu.0 >= vcpus(lists.len()) {
-        return Taken::Refused(Refusal::OutOfRange);
-    }
-    let start = start(lists.len(), vcpu);
-    let end = start + LIST_BYTES;
-    take_in(&mut lists[start..end], vector)
+    let start = start(lists.len(), vcpu)?;
+    take_in(&mut lists[start..start + LIST_BYTES], vector)
 }
 
 // Delivers a vCPU's oldest.
-pub fn deliver(lists: &mut [u8], vcpu: VcpuId) -> Waited
+pub fn deliver(lists: &mut [u8], vcpu: VcpuId) -> Result<Option<Vector>, Refusal>
     ensures { outcome_of (lists_in lists.new) (waited_reply result) ≡ deliver (lists_in lists.old) vcpu }
 {
-    if vcpu.0 >= vcpus(lists.len()) {
-        return Waited::Refused(Refusal::OutOfRange);
-    }
-    let start = start(lists.len(), vcpu);
-    let end = start + LIST_BYTES;
-    deliver_from(&mut lists[start..end])
+    let start = start(lists.len(), vcpu)?;
+    deliver_from(&mut lists[start..start + LIST_BYTES])
 }
 
 // Cancels a vCPU's oldest of a vector.
-pub fn cancel(lists: &mut [u8], vcpu: VcpuId, vector: Vector) -> Waited
+pub fn cancel(lists: &mut [u8], vcpu: VcpuId, vector: Vector) -> Result<Option<Vector>, Refusal>
     ensures { outcome_of (lists_in lists.new) (waited_reply result) ≡ cancel (lists_in lists.old) vcpu vector }
 {
-    if vcpu.0 >= vcpus(lists.len()) {
-        return Waited::Refused(Refusal::OutOfRange);
-    }
-    let start = start(lists.len(), vcpu);
-    let end = start + LIST_BYTES;
-    cancel_in(&mut lists[start..end], vector)
+    let start = start(lists.len(), vcpu)?;
+    cancel_in(&mut lists[start..start + LIST_BYTES], vector)
 }
 
 // How many wait for a vCPU.
-pub fn count(lists: &[u8], vcpu: VcpuId) -> Counted
+pub fn count(lists: &[u8], vcpu: VcpuId) -> Result<u8, Refusal>
     ensures { outcome_of (lists_in lists.now) (counted_reply result) ≡ count (lists_in lists.now) vcpu }
 {
-    if vcpu.0 >= vcpus(lists.len()) {
-        return Counted::Refused(Refusal::OutOfRange);
-    }
-    let start = start(lists.len(), vcpu);
-    let end = start + LIST_BYTES;
-    count_of(&lists[start..end])
+    let start = start(lists.len(), vcpu)?;
+    count_of(&lists[start..start + LIST_BYTES])
 }
 
 // The vector that waits behind k others of a vCPU.
-pub fn peek(lists: &[u8], vcpu: VcpuId, k: usize) -> Waited
+pub fn peek(lists: &[u8], vcpu: VcpuId, k: usize) -> Result<Option<Vector>, Refusal>
     ensures { outcome_of (lists_in lists.now) (waited_reply result) ≡ peek (lists_in lists.now) vcpu k }
 {
-    if vcpu.0 >= vcpus(lists.len()) {
-        return Waited::Refused(Refusal::OutOfRange);
-    }
-    let start = start(lists.len(), vcpu);
-    let end = start + LIST_BYTES;
-    peek_at(&lists[start..end], k)
+    let start = start(lists.len(), vcpu)?;
+    peek_at(&lists[start..start + LIST_BYTES], k)
 }
 
-// ---- One list by value: it lends its bytes, and is handed back.
+// ---- One list by value: it lends its bytes, and is handed back beside the answer.
 
-#[derive(Clone, Copy)]
+#[derive(Clone, Copy, Debug, PartialEq, Eq, Hash)]
 pub struct WaitingList {
     pub bytes: [u8; 66],
-}
-
-#[derive(Clone, Copy)]
-pub struct ListTaken {
-    pub list: WaitingList,
-    pub taken: Taken,
-}
-
-#[derive(Clone, Copy)]
-pub struct ListWaited {
-    pub list: WaitingList,
-    pub waited: Waited,
 }
 
 impl WaitingList {
     pub fn new() -> Self
         ensures { view result.bytes ≡ new_list }
     {
-        let mut bytes = [0u8; 66];
-        new_list(&mut bytes);
-        WaitingList { bytes }
-    }
-
-    pub fn take(self, vector: Vector) -> ListTaken
-        ensures { outcome_of (view result.list.bytes) (taken_reply result.taken) ≡ one.take (view self.bytes) vector }
-    {
-        let mut bytes = self.bytes;
-        let taken = take_in(&mut bytes, vector);
-        ListTaken {
-            list: WaitingList { bytes },
-            taken,
+        WaitingList {
+            bytes: [0; LIST_BYTES],
         }
     }
 
-    pub fn deliver(self) -> ListWaited
-        ensures { outcome_of (view result.list.bytes) (waited_reply result.waited) ≡ one.deliver (view self.bytes) }
+    pub fn take(mut self, vector: Vector) -> (Self, Result<(), Refusal>)
+        ensures { outcome_of (view result.0.bytes) (taken_reply result.1) ≡ one.take (view self.bytes) vector }
     {
-        let mut bytes = self.bytes;
-        let waited = deliver_from(&mut bytes);
-        ListWaited {
-            list: WaitingList { bytes },
-            waited,
-        }
+        let taken = take_in(&mut self.bytes, vector);
+        (self, taken)
     }
 
-    pub fn cancel(self, vector: Vector) -> ListWaited
-        ensures { outcome_of (view result.list.bytes) (waited_reply result.waited) ≡ one.cancel (view self.bytes) vector }
+    pub fn deliver(mut self) -> (Self, Result<Option<Vector>, Refusal>)
+        ensures { outcome_of (view result.0.bytes) (waited_reply result.1) ≡ one.deliver (view self.bytes) }
     {
-        let mut bytes = self.bytes;
-        let waited = cancel_in(&mut bytes, vector);
-        ListWaited {
-            list: WaitingList { bytes },
-            waited,
-        }
+        let waited = deliver_from(&mut self.bytes);
+        (self, waited)
+    }
+
+    pub fn cancel(mut self, vector: Vector) -> (Self, Result<Option<Vector>, Refusal>)
+        ensures { outcome_of (view result.0.bytes) (waited_reply result.1) ≡ one.cancel (view self.bytes) vector }
+    {
+        let waited = cancel_in(&mut self.bytes, vector);
+        (self, waited)
     }
 }

@@ -1,9 +1,11 @@
-use Rattle.waiting.proofs.Lists.{unknown, onto_list}
-use borrow.Author.Rules.{rules}
+use Rattle.std.proofs.Common.{◌≡◌, Err, arith, rules}
+use Rattle.waiting.proofs.Lists.{no_start, onto_list}
 use Rattle.waiting.proofs.deliver.Goals as goal
 
-pub returns-then-vcpu-vcpus : goal.returns-then-vcpu-vcpus
-returns-then-vcpu-vcpus c = search unknown
+pub returns-in_err-start : goal.returns-in_err-start
+returns-in_err-start c =
+    let refused : c.from_residual.result ≡ Err c.in_err-start.field-0.0 = grind arith in
+    rw refused (no_start _ _ _ _ c.in_err-start.ensures.place)
 
 pub returns : goal.returns
-returns c = onto_list _ _ _ _ _ _ c.start-start.ensures.0 (search rules) (search rules) c.deliver_from.ensures
+returns c = onto_list _ _ _ _ _ _ c.in_ok-start.ensures.place (search rules) c.deliver_from.ensures

@@ -1,4 +1,3 @@
-use Prim.Native.Nat.{◌-◌}
 use Rattle.waiting.proofs.Ring.{passing_again}
 use Rattle.waiting.proofs.index_of.Goals as goal
 

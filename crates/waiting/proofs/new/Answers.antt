@@ -1,13 +1,17 @@
-use mathlib.Core.Path.{ap}
+use Rattle.std.proofs.Common.{◌≡◌, ◌∙◌, ap, Err, arith, rules}
 use Rattle.types.specs.declared.Reply.TheVariants.{Nothing}
 use Rattle.types.specs.Reply.{outcome_of}
-use Rattle.waiting.specs.Waiting.{Waiting}
-use Rattle.waiting.proofs.Lists.{unknown, onto_list}
-use borrow.Author.Rules.{rules}
+use Rattle.waiting.specs.Waiting.{Waiting, view}
+use Rattle.waiting.proofs.Ring.{zeros_new}
+use Rattle.waiting.proofs.Lists.{no_start, onto_list}
 use Rattle.waiting.proofs.new.Goals as goal
 
-pub returns-then-vcpu-vcpus : goal.returns-then-vcpu-vcpus
-returns-then-vcpu-vcpus c = search unknown
+pub returns-in_err-start : goal.returns-in_err-start
+returns-in_err-start c =
+    let refused : c.from_residual.result ≡ Err c.in_err-start.field-0.0 = grind arith in
+    rw refused (no_start _ _ _ _ c.in_err-start.ensures.place)
 
 pub returns : goal.returns
-returns c = onto_list _ _ _ _ _ _ c.start-start.ensures.0 (search rules) (search rules) (ap (λ (q : Waiting). outcome_of q Nothing) c.new_list.ensures)
+returns c =
+    onto_list _ _ _ _ _ _ c.in_ok-start.ensures.place (search rules)
+    (ap (λ (q : Waiting). outcome_of q Nothing) (ap view c.copy_from_slice.ensures.after ∙ zeros_new))

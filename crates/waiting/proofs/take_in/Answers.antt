@@ -1,5 +1,4 @@
 use Rattle.waiting.proofs.Ring.{full_refused, room_taken}
-use Rattle.waiting.proofs.wide.Reads as wide-reads
 use Rattle.waiting.proofs.take_in.Goals as goal
 
 pub returns-then-n-ge64 : goal.returns-then-n-ge64
