@@ -1,38 +1,31 @@
 -- An answer is known by its reply. Assumes nothing.
-use mathlib.Core.Path.{◌≡◌, refl, sym, ap, ◌∙◌}
-use Rattle.types.specs.declared.Reply.{Reply}
-use Rattle.types.specs.declared.Reply.TheVariants.{Refused, Nothing, One, Two, Three}
-use Rattle.planner.specs.declared.PlanAnswer.{PlanAnswer}
-use Rattle.planner.specs.declared.PlanAnswer.TheVariants.{Done, Refused as PlanRefused}
-use Rattle.planner.specs.declared.shortage.ShortageAnswer.{ShortageAnswer}
-use Rattle.planner.specs.declared.shortage.ShortageAnswer.TheVariants.{Enough, Shown, Refused as ShortageRefused}
-use Rattle.planner.specs.Answers.{plan_reply, shortage_reply}
+use Rattle.std.proofs.Common.{◌≡◌, ℕ, Option, Result, ap, ap₂, arith, ◌∙◌}
+use Rattle.types.specs.declared.Refusal.{Refusal}
+use Rattle.types.specs.declared.Reply.TheVariants.{Refused, Nothing}
+use Rattle.types.specs.Reply.{done_reply, option_reply}
+use Rattle.types.proofs.Replies.{done_same, done_done, option_reply_same, option_done, result_reply_same}
+use Rattle.planner.specs.declared.shortage.CrowdedRange.{CrowdedRange}
+use Rattle.planner.specs.Answers.{plan_reply, shown_reply, shortage_reply}
 
-abbrev plan_of : Reply → PlanAnswer
-plan_of (Refused why) = PlanRefused why
-plan_of Nothing = Done
-plan_of (One a) = Done
-plan_of (Two a b) = Done
-plan_of (Three a b c) = Done
+pub plan_reply_same : (a b : Result (Unit {0}) Refusal) → plan_reply a ≡ plan_reply b → a ≡ b
+plan_reply_same = result_reply_same done_reply done_same done_done
 
-plan_back : (a : PlanAnswer) → plan_of (plan_reply a) ≡ a
-plan_back Done = refl
-plan_back (PlanRefused why) = refl
+made : ℕ → ℕ → ℕ → CrowdedRange
+made lowest highest lines = record { lowest = record { 0 = lowest }; highest = record { 0 = highest }; lines = lines }
 
-pub plan_reply_same : (a b : PlanAnswer) → plan_reply a ≡ plan_reply b → a ≡ b
-plan_reply_same a b e = sym (plan_back a) ∙ ap plan_of e ∙ plan_back b
+shown_same : (a b : CrowdedRange) → shown_reply a ≡ shown_reply b → a ≡ b
+unfolding made
+shown_same a b e =
+    let l : a.lowest.0 ≡ b.lowest.0 = cc in
+    let h : a.highest.0 ≡ b.highest.0 = cc in
+    let s : a.lines ≡ b.lines = cc in
+    ap₂ (λ (m n : ℕ). made m n a.lines) l h ∙ ap (made b.lowest.0 b.highest.0) s
 
-abbrev shortage_of : Reply → ShortageAnswer
-shortage_of (Refused why) = ShortageRefused why
-shortage_of Nothing = Enough
-shortage_of (One a) = Enough
-shortage_of (Two a b) = Enough
-shortage_of (Three a b c) = Shown (record { 0 = a }) (record { 0 = b }) c
+shown_some : (a : CrowdedRange) → shown_reply a ≡ Nothing → ⊥
+shown_some a e = let z : ◌≡◌ {A = ℕ} 0 1 = cc in omega (arith, z)
 
-shortage_back : (a : ShortageAnswer) → shortage_of (shortage_reply a) ≡ a
-shortage_back Enough = refl
-shortage_back (Shown lowest highest lines) = refl
-shortage_back (ShortageRefused why) = refl
+shown_done : (a : CrowdedRange) (why : Refusal) → shown_reply a ≡ Refused why → ⊥
+shown_done a why e = let z : ◌≡◌ {A = ℕ} 0 1 = cc in omega (arith, z)
 
-pub shortage_reply_same : (a b : ShortageAnswer) → shortage_reply a ≡ shortage_reply b → a ≡ b
-shortage_reply_same a b e = sym (shortage_back a) ∙ ap shortage_of e ∙ shortage_back b
+pub shortage_reply_same : (a b : Result (Option CrowdedRange) Refusal) → shortage_reply a ≡ shortage_reply b → a ≡ b
+shortage_reply_same = result_reply_same (option_reply shown_reply) (option_reply_same shown_reply shown_same shown_some) (option_done shown_reply shown_done)

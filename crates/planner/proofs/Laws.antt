@@ -1,7 +1,11 @@
 -- A test of the numbers below n: at every one, at some, and at how many it holds. Assumes nothing.
+use mathlib.Core.List.{List, [], ◌∷◌}
+use lib.ListN.{length, get_or, take}
+use Rattle.std.specs.List.{list_any, list_all}
+use Rattle.std.proofs.lemmas.List.Folds.{list_any_more, list_all_more}
 use mathlib.Core.Path.{◌≡◌, refl, sym, ap, ◌∙◌}
 use mathlib.Core.Bool.{Bool, true, false, ◌&&◌, ◌||◌, true≢false}
-use Prim.Native.Nat.{ℕ, zero, suc, ◌+◌, ◌≤◌, ◌<◌, zero-le}
+use Prim.Native.Nat.{ℕ, zero, suc, ◌≤◌, ◌<◌, zero-le}
 use native.Mathlib.Omega.{arith}
 use native.Mathlib.Numerals.{add-one}
 use lib.Dec.{eqb}
@@ -15,16 +19,6 @@ flag_small true = omega arith
 flag_small false = omega arith
 
 module _ (p : ℕ → Bool) where
-  -- one number more
-  pub every_next : (k : ℕ) → every k p ≡ true → p k ≡ true → every (k + 1) p ≡ true
-  every_next k e h = rw (add-one k, h) e
-
-  pub some_next : (k : ℕ) → some k p ≡ false → p k ≡ false → some (k + 1) p ≡ false
-  some_next k e h = rw (add-one k, h) e
-
-  pub count_next : (k : ℕ) → count k p + flag (p k) ≡ count (k + 1) p
-  count_next k = rw (add-one k)
-
   -- at one of them it doesn't hold; at one it does
   pub every_fails : (n k : ℕ) → k < n → p k ≡ false → every n p ≡ false
   every_fails zero k l h = absurd (omega arith)
@@ -68,3 +62,34 @@ module _ (p : ℕ → Bool) where
   pub count_le : (n : ℕ) → count n p ≤ n
   count_le zero = zero-le
   count_le (suc n) = let h : count n p ≤ n = count_le n in let f : flag (p n) ≤ 1 = flag_small (p n) in omega arith
+
+-- over the numbers of a list's elements it is what the list's own functions say
+module _ (q : ℕ → Bool) (xs : List ℕ) where
+  abbrev at_element : ℕ → Bool
+  at_element k = q (get_or xs k 0)
+
+  swapped_and : (a b : Bool) → (a && b) ≡ (b && a)
+  swapped_and true true = refl
+  swapped_and true false = refl
+  swapped_and false true = refl
+  swapped_and false false = refl
+
+  swapped_or : (a b : Bool) → (a || b) ≡ (b || a)
+  swapped_or true true = refl
+  swapped_or true false = refl
+  swapped_or false true = refl
+  swapped_or false false = refl
+
+  pub every_all : (n : ℕ) → n ≤ length xs → list_all q (take n xs) ≡ every n at_element
+  every_all zero h = refl
+  every_all (suc n) h =
+      rw (← add-one n) (list_all_more q xs n 0 (omega arith) ∙ ap (λ (b : Bool). b && q (get_or xs n 0)) (every_all n (omega arith)) ∙ swapped_and (every n at_element) (q (get_or xs n 0)))
+
+  pub some_any : (n : ℕ) → n ≤ length xs → list_any q (take n xs) ≡ some n at_element
+  some_any zero h = refl
+  some_any (suc n) h =
+      rw (← add-one n) (list_any_more q xs n 0 (omega arith) ∙ ap (λ (b : Bool). b || q (get_or xs n 0)) (some_any n (omega arith)) ∙ swapped_or (some n at_element) (q (get_or xs n 0)))
+
+pub take_all : (xs : List ℕ) → take (length xs) xs ≡ xs
+take_all [] = refl
+take_all (x ∷ xs) = ap (λ (l : List ℕ). x ∷ l) (take_all xs)

@@ -1,14 +1,16 @@
 -- What each loop and each return of the planner's code shows. Assumes nothing.
-use mathlib.Core.Path.{◌≡◌, refl, sym, ap, ◌∙◌, subst}
-use mathlib.Core.Bool.{Bool, true, false, not, cond}
+use mathlib.Core.Path.{◌≡◌, refl, sym, ap, ◌∙◌}
+use mathlib.Core.Bool.{Bool, true, false, not, cond, true≢false}
 use mathlib.Core.List.{List, [], ◌∷◌}
-use Prim.Native.Nat.{ℕ, zero, suc, ◌+◌, ◌≤◌, ◌<◌}
+use Prim.Native.Nat.{ℕ, zero, suc, ◌+◌, ◌-◌, ◌≤◌, ◌<◌}
 use native.Mathlib.Nat.{le_antisymm}
 use native.Mathlib.Omega.{arith}
 use native.Mathlib.Numerals.{add-one}
-use lib.Dec.{leb}
-use lib.ListN.{length, get_or, set, length-set, length-replicate}
-use borrow.Author.Tests.{eq-eqb, ne_eqb, lt-leb, le-leb, lt-ltb, le-ltb, ltb-true}
+use lib.Dec.{eqb, leb}
+use Rattle.std.specs.List.{list_any, list_all}
+use Rattle.std.proofs.Common.{Option, Some, None}
+use lib.ListN.{length, get_or, set, take, length-set, length-replicate}
+use borrow.Author.Tests.{lt-leb, le-leb, lt-ltb, le-ltb, ltb-true}
 use Rattle.utils.specs.Cases.{and_right_no, so_true, so_false}
 use Rattle.utils.specs.Set.{set_of, with}
 use Rattle.utils.proofs.Search.{first_is, first_none, first_holds}
@@ -16,29 +18,21 @@ use Rattle.utils.proofs.Laws.{set_of_next}
 use Rattle.types.specs.declared.Refusal.TheVariants.{InvalidRegister, OutOfRange, NoPlan, TooShort}
 use Rattle.types.specs.declared.Reply.{Reply}
 use Rattle.types.specs.declared.Reply.TheVariants.{Refused, Nothing, Three}
-use Rattle.types.specs.Reply.{flag, outcome_of}
+use Rattle.types.specs.Reply.{outcome_of, option_reply}
 use Rattle.planner.specs.Lines.{every, count, lowest_of, highest_of, is_free}
 use Rattle.planner.specs.Check.{has_vector, among, line_passes, passes}
-use Rattle.planner.specs.Plan.{better, best_of, next_line, give, giving, planned, in_order, ordered, written, plan}
-use Rattle.planner.specs.Shortage.{confined, ends_at, end_line, starts_at, start_line, shown, shown_from, shortage}
-use Rattle.planner.proofs.Laws.{every_next, every_fails, some_next, some_found, count_next, count_le, flag_small}
+use Rattle.planner.specs.Plan.{next_line, give, giving, planned, in_order, ordered, written, plan}
+use Rattle.planner.specs.declared.shortage.CrowdedRange.{CrowdedRange}
+use Rattle.planner.specs.Answers.{shown_reply}
+use Rattle.planner.specs.Shortage.{confined, ends_at, end_line, starts_at, start_line, shown, shown_from, IsFirst, IsShown, shortage}
+use Rattle.std.specs.Option.{is_some}
+use Rattle.planner.proofs.Laws.{every_fails, every_all, some_any, take_all}
 
 -- ---- the check
 
-pub among_start : (plan : List ℕ) (v : ℕ) → among plan 0 v ≡ false
-unfolding among
-among_start plan v = refl
-
-pub among_found : (plan : List ℕ) (n v k : ℕ) → k < n → get_or plan k 0 ≡ v → true ≡ among plan n v
+pub among_any : (plan : List ℕ) (n v : ℕ) → n ≤ length plan → list_any (λ y. eqb y v) (take n plan) ≡ among plan n v
 unfolding among has_vector
-among_found plan n v k l e = sym (some_found (has_vector plan v) n k l (eq-eqb (get_or plan k 0) v e))
-
-pub among_next : (plan : List ℕ) (v k : ℕ) → among plan k v ≡ false → (get_or plan k 0 ≡ v → ⊥) → among plan (k + 1) v ≡ false
-unfolding among has_vector
-among_next plan v k e h = some_next (has_vector plan v) k e (ne_eqb (get_or plan k 0) v h)
-
-pub among_none : (plan : List ℕ) (n v k : ℕ) → k ≤ n → n ≤ k → among plan k v ≡ false → false ≡ among plan n v
-among_none plan n v k a b e = sym (subst (λ (m : ℕ). among plan m v ≡ false) (le_antisymm a b) e)
+among_any plan n v h = some_any (λ y. eqb y v) plan n h
 
 pub passes_short : (r t plan : List ℕ) → length plan < length r → false ≡ passes r t plan
 unfolding passes
@@ -53,13 +47,6 @@ unfolding passes
 passes_yes r t plan k s a b e = rw (le-leb (length r) (length plan) s, ← le_antisymm a b, e)
 
 -- ---- the planner
-
-pub best_next : (r given : List ℕ) (v best k b : ℕ) → best ≡ best_of r given v k → b ≡ better r given v best k → b ≡ best_of r given v (k + 1)
-best_next r given v best k b e h = rw (add-one k) (h ∙ ap (λ (m : ℕ). better r given v m k) e)
-
-pub best_all : (r given : List ℕ) (v best k : ℕ) → best ≡ best_of r given v k → k ≤ length r → length r ≤ k → best ≡ next_line r given v
-unfolding next_line
-best_all r given v best k e a b = e ∙ ap (best_of r given v) (le_antisymm a b)
 
 -- a store past the end changes nothing
 pub set_past : (l : List ℕ) (k v : ℕ) → length l ≤ k → set l k v ≡ l
@@ -93,43 +80,18 @@ length_giving r t (suc d) = length_give r t (giving r t d) (32 + d) ∙ length_g
 pub length_after : (r t given after : List ℕ) (v : ℕ) → after ≡ give r t given v → length given ≡ 24 → length after ≡ 24
 length_after r t given after v e h = ap length e ∙ length_give r t given v ∙ h
 
-pub giving_next : (r t given after : List ℕ) (d : ℕ) → given ≡ giving r t d → after ≡ give r t given (32 + d) → after ≡ giving r t (d + 1)
-giving_next r t given after d e h = rw (add-one d) (h ∙ ap (λ (g : List ℕ). give r t g (32 + d)) e)
-
-pub giving_all : (r t given : List ℕ) (d : ℕ) → given ≡ giving r t d → d ≤ 224 → 224 ≤ d → given ≡ planned r t
+-- after 255, the last, all are given
+pub giving_last : (r t given after : List ℕ) (v : ℕ) → given ≡ giving r t (v - 32) → v ≡ 255 → after ≡ give r t given v → after ≡ planned r t
 unfolding planned
-giving_all r t given d e a b = e ∙ ap (giving r t) (le_antisymm a b)
+giving_last r t given after v e l h = let d : v - 32 ≡ 223 = omega arith in h ∙ ap (λ (n : ℕ). give r t given n) l ∙ ap (λ (g : List ℕ). give r t g 255) (e ∙ ap (giving r t) d)
 
 pub length_planned : (r t : List ℕ) → length (planned r t) ≡ 24
 unfolding planned
 length_planned r t = length_giving r t 224
 
-pub not_ordered : (r : List ℕ) (k low high : ℕ) → k < length r → low ≡ lowest_of (get_or r k 0) → high ≡ highest_of (get_or r k 0) → high < low → false ≡ ordered r
+pub ordered_all : (r : List ℕ) → list_all (λ range. leb (lowest_of range) (highest_of range)) r ≡ ordered r
 unfolding ordered in_order
-not_ordered r k low high l e f h = sym (every_fails (in_order r) (length r) k l (lt-leb (lowest_of (get_or r k 0)) (highest_of (get_or r k 0)) (omega arith)))
-
-pub ordered_next : (r : List ℕ) (k low high : ℕ) → every k (in_order r) ≡ true → low ≡ lowest_of (get_or r k 0) → high ≡ highest_of (get_or r k 0) → low ≤ high → every (k + 1) (in_order r) ≡ true
-unfolding in_order
-ordered_next r k low high q e f h = every_next (in_order r) k q (le-leb (lowest_of (get_or r k 0)) (highest_of (get_or r k 0)) (omega arith))
-
-pub ordered_all : (r : List ℕ) (k : ℕ) → every k (in_order r) ≡ true → k ≤ length r → length r ≤ k → true ≡ ordered r
-unfolding ordered
-ordered_all r k e a b = sym (subst (λ (m : ℕ). every m (in_order r) ≡ true) (le_antisymm a b) e)
-
--- a plan is copied byte by byte
-pub write_step : (k : ℕ) (plan lent : List ℕ) → k < length plan → k < length lent → set (written k plan lent) k (get_or plan k 0) ≡ written (suc k) plan lent
-write_step zero [] lent a b = absurd (omega arith)
-write_step zero (p ∷ ps) [] a b = absurd (omega arith)
-write_step zero (p ∷ ps) (l ∷ ls) a b = refl
-write_step (suc k) [] lent a b = absurd (omega arith)
-write_step (suc k) (p ∷ ps) [] a b = absurd (omega arith)
-write_step (suc k) (p ∷ ps) (l ∷ ls) a b = ap (λ (m : List ℕ). p ∷ m) (write_step k ps ls (omega arith) (omega arith))
-
-pub write_next : (k : ℕ) (plan lent now : List ℕ) → k < length plan → k < length lent → now ≡ written k plan lent → set now k (get_or plan k 0) ≡ written (k + 1) plan lent
-write_next k plan lent now a b e = rw (add-one k, e) (write_step k plan lent a b)
-
-pub write_all : (k n : ℕ) (plan lent now : List ℕ) → now ≡ written k plan lent → k ≤ n → n ≤ k → now ≡ written n plan lent
-write_all k n plan lent now e a b = e ∙ ap (λ (m : ℕ). written m plan lent) (le_antisymm a b)
+ordered_all r = sym (ap (list_all (λ range. leb (lowest_of range) (highest_of range))) (take_all r)) ∙ every_all (λ range. leb (lowest_of range) (highest_of range)) r (length r) (omega arith)
 
 -- the five answers
 module _ (r t lent : List ℕ) where
@@ -158,39 +120,39 @@ module _ (r t lent : List ℕ) where
 
 -- ---- the shortage
 
-pub counted : (p : ℕ → Bool) (k n f : ℕ) (b : Bool) → n ≡ count k p → b ≡ p k → f ≡ flag b → n + f ≡ count (k + 1) p
-counted p k n f b e h g = rw (e, g, h) (count_next p k)
-
-pub counted_small : (p : ℕ → Bool) (k n f : ℕ) (b : Bool) → n ≡ count k p → f ≡ flag b → n + f ≤ k + 1
-counted_small p k n f b e g = let h : count k p ≤ k = count_le p k in let q : flag b ≤ 1 = flag_small b in omega arith
-
 pub counted_all : (p : ℕ → Bool) (k m n : ℕ) → n ≡ count k p → k ≤ m → m ≤ k → n ≡ count m p
 counted_all p k m n e a b = e ∙ ap (λ (i : ℕ). count i p) (le_antisymm a b)
 
-pub end_found : (r t : List ℕ) (a k : ℕ) → k < length r → ends_at r t a k ≡ true → ((j : ℕ) → j < k → ends_at r t a j ≡ false) → k ≡ end_line r t a
+-- where a first line was found there is one, and where none was there is none
+pub first_some : (n line : ℕ) (o : Option ℕ) → IsFirst n line o → is_some o ≡ true → line < n
+first_some n line (Some k) h e = omega (arith, h.0, h.1)
+first_some n line None h e = absurd (true≢false (sym e))
+
+pub first_not : (n line : ℕ) (o : Option ℕ) → IsFirst n line o → is_some o ≡ false → n ≤ line
+first_not n line (Some k) h e = absurd (true≢false e)
+first_not n line None h e = omega (arith, h)
+
+pub end_found : (r t : List ℕ) (a k : ℕ) → k < length r → ends_at r t a k ≡ true → ((j : ℕ) → j < k → ends_at r t a j ≡ false) → (k ≡ end_line r t a) × (k < length r)
 unfolding end_line
-end_found r t a k l h n = sym (first_is (length r) (ends_at r t a) k l h n)
+end_found r t a k l h n = (sym (first_is (length r) (ends_at r t a) k l h n), l)
 
-pub end_none : (r t : List ℕ) (a k : ℕ) → k ≤ length r → length r ≤ k → ((j : ℕ) → j < k → ends_at r t a j ≡ false) → k ≡ end_line r t a
+pub end_none : (r t : List ℕ) (a k : ℕ) → length r ≤ k → ((j : ℕ) → j < k → ends_at r t a j ≡ false) → end_line r t a ≡ length r
 unfolding end_line
-end_none r t a k l m n = le_antisymm l m ∙ sym (first_none (length r) (ends_at r t a) (λ j q. n j (omega arith)))
+end_none r t a k m n = first_none (length r) (ends_at r t a) (λ j q. n j (omega arith))
 
-pub start_found : (r t : List ℕ) (k : ℕ) → k < length r → starts_at r t k ≡ true → ((j : ℕ) → j < k → starts_at r t j ≡ false) → k ≡ start_line r t
+pub start_found : (r t : List ℕ) (k : ℕ) → k < length r → starts_at r t k ≡ true → ((j : ℕ) → j < k → starts_at r t j ≡ false) → (k ≡ start_line r t) × (k < length r)
 unfolding start_line
-start_found r t k l h n = sym (first_is (length r) (starts_at r t) k l h n)
+start_found r t k l h n = (sym (first_is (length r) (starts_at r t) k l h n), l)
 
-pub start_none : (r t : List ℕ) (k : ℕ) → k ≤ length r → length r ≤ k → ((j : ℕ) → j < k → starts_at r t j ≡ false) → k ≡ start_line r t
+pub start_none : (r t : List ℕ) (k : ℕ) → length r ≤ k → ((j : ℕ) → j < k → starts_at r t j ≡ false) → start_line r t ≡ length r
 unfolding start_line
-start_none r t k l m n = le_antisymm l m ∙ sym (first_none (length r) (starts_at r t) (λ j q. n j (omega arith)))
+start_none r t k m n = first_none (length r) (starts_at r t) (λ j q. n j (omega arith))
 
 pub lines_with : (p : ℕ → Bool) (k s m : ℕ) → s ≡ set_of k p → p k ≡ true → m ≡ with s k → m ≡ set_of (k + 1) p
 lines_with p k s m e h g = rw (add-one k) (g ∙ ap (λ (n : ℕ). with n k) e ∙ sym (set_of_next k p ∙ rw h refl))
 
 pub lines_without : (p : ℕ → Bool) (k s : ℕ) → s ≡ set_of k p → p k ≡ false → s ≡ set_of (k + 1) p
 lines_without p k s e h = rw (add-one k) (e ∙ sym (set_of_next k p ∙ rw h refl))
-
-pub lines_all : (p : ℕ → Bool) (k n s : ℕ) → s ≡ set_of k p → k ≤ n → n ≤ k → s ≡ set_of n p
-lines_all p k n s e a b = e ∙ ap (λ (i : ℕ). set_of i p) (le_antisymm a b)
 
 -- the line where a crowded range starts is one from which it is crowded up to some line's highest
 pub start_shown : (r t : List ℕ) (start low : ℕ) → start ≡ start_line r t → start < length r → low ≡ lowest_of (get_or r start 0) → end_line r t low < length r
@@ -202,6 +164,11 @@ start_shown r t start low e l q =
 pub shown_is : (r t : List ℕ) (a b end lines : ℕ) → end ≡ end_line r t a → b ≡ highest_of (get_or r end 0) → lines ≡ set_of (length r) (confined r a b) → Three a b lines ≡ shown_from r t a
 unfolding shown_from shown
 shown_is r t a b end lines e f g = rw (g, f, e)
+
+-- so what shows it from there on is shown
+pub shown_so : (r t : List ℕ) (a : ℕ) (o : Option CrowdedRange) → IsShown r t a o → end_line r t a < length r → option_reply shown_reply o ≡ shown_from r t a
+shown_so r t a (Some s) h l = h
+shown_so r t a None h l = absurd (omega arith)
 
 -- the four answers
 module _ (r t : List ℕ) where

@@ -1,17 +1,17 @@
 -- The planner's answers as replies.
+use Rattle.std.specs.Prelude.{Option, Result}
+use Rattle.types.specs.declared.Refusal.{Refusal}
 use Rattle.types.specs.declared.Reply.{Reply}
-use Rattle.types.specs.declared.Reply.TheVariants.{Refused, Nothing, Three}
-use Rattle.planner.specs.declared.PlanAnswer.{PlanAnswer}
-use Rattle.planner.specs.declared.PlanAnswer.TheVariants.{Done, Refused as PlanRefused}
-use Rattle.planner.specs.declared.shortage.ShortageAnswer.{ShortageAnswer}
-use Rattle.planner.specs.declared.shortage.ShortageAnswer.TheVariants.{Enough, Shown, Refused as ShortageRefused}
+use Rattle.types.specs.declared.Reply.TheVariants.{Three}
+use Rattle.types.specs.Reply.{done_reply, option_reply, result_reply}
+use Rattle.planner.specs.declared.shortage.CrowdedRange.{CrowdedRange}
 
-abbrev pub plan_reply : PlanAnswer → Reply
-plan_reply Done = Nothing
-plan_reply (PlanRefused why) = Refused why
+abbrev pub plan_reply : Result (Unit {0}) Refusal → Reply
+plan_reply = result_reply done_reply
 
 -- a range of vectors, and the set of the lines that are confined to it
-abbrev pub shortage_reply : ShortageAnswer → Reply
-shortage_reply Enough = Nothing
-shortage_reply (Shown lowest highest lines) = Three lowest.0 highest.0 lines
-shortage_reply (ShortageRefused why) = Refused why
+abbrev pub shown_reply : CrowdedRange → Reply
+shown_reply s = Three s.lowest.0 s.highest.0 s.lines
+
+abbrev pub shortage_reply : Result (Option CrowdedRange) Refusal → Reply
+shortage_reply = result_reply (option_reply shown_reply)

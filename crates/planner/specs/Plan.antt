@@ -1,5 +1,5 @@
 -- The planner: vectors rising, each given to the waiting line whose highest vector is the least. Document 02, T-10.
-use Rattle.std.specs.Prelude.{ℕ, zero, suc, ◌+◌, Bool, not, cond, ◌&&◌, List, ◌++◌, eqb, leb, ltb, get_or, length, set, replicate, take, drop}
+use Rattle.std.specs.Prelude.{ℕ, zero, suc, ◌+◌, Bool, not, cond, ◌&&◌, List, ◌++◌, eqb, leb, ltb, get_or, length, set, replicate, take, drop, Option, Some, None}
 use Rattle.types.specs.declared.Refusal.{Refusal}
 use Rattle.types.specs.declared.Refusal.TheVariants.{InvalidRegister, OutOfRange, NoPlan, TooShort}
 use Rattle.types.specs.declared.Reply.TheVariants.{Refused, Nothing}
@@ -16,6 +16,11 @@ waits range vector v = eqb vector 0 && leb (lowest_of range) v && leb v (highest
 -- a line's highest vector; 256, above all of them, for what is no line
 unfoldable pub reach : List ℕ → ℕ → ℕ
 reach ranges k = highest_of (get_or ranges k 65536)
+
+-- a line, or 24 where there is none
+abbrev pub line_number : Option ℕ → ℕ
+line_number (Some k) = k
+line_number None = 24
 
 -- line k, if it waits for v and its range ends before that of the best so far: so the first of equals
 unfoldable pub better : List ℕ → List ℕ → ℕ → ℕ → ℕ → ℕ

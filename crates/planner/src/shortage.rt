@@ -2,114 +2,104 @@
 
 ghost use Rattle.std.specs.Prelude.{◌≡◌, ◌≤◌, ◌<◌, length};
 ghost use Rattle.utils.specs.Set.{set_of};
-ghost use Rattle.planner.specs.Answers.{shortage_reply};
+ghost use Rattle.planner.specs.Answers.{shown_reply, shortage_reply};
 ghost use Rattle.planner.specs.Lines.{count};
-ghost use Rattle.planner.specs.Shortage.{free_within, confined, crowded, end_line, start_line, shown_from, shortage};
+ghost use Rattle.planner.specs.Shortage.{free_within, confined, crowded, end_line, start_line, IsFirst, IsShown, shortage};
 
-use types::{Refusal, Reply, Vector};
+use types::{Refusal, Reply, ToReply, Vector};
 
-#[derive(Clone, Copy)]
-pub enum ShortageAnswer {
-    Enough,
-    // More of these lines, a set, than free vectors from the first to the second.
-    Shown(Vector, Vector, u64),
-    Refused(Refusal),
+// More of these lines, a set, than free vectors from the lowest to the highest.
+#[derive(Clone, Copy, Debug, PartialEq, Eq, Hash)]
+pub struct CrowdedRange {
+    pub lowest: Vector,
+    pub highest: Vector,
+    pub lines: u64,
 }
 
-impl ShortageAnswer {
-    pub fn reply(self) -> Reply
-        ensures { result ≡ shortage_reply self }
-    {
-        match self {
-            ShortageAnswer::Enough => Reply::Nothing,
-            ShortageAnswer::Shown(lowest, highest, lines) => {
-                Reply::Three(lowest.0 as u64, highest.0 as u64, lines)
-            }
-            ShortageAnswer::Refused(why) => Reply::Refused(why),
-        }
+impl ToReply for CrowdedRange {
+    ghost reply_of = { shown_reply };
+
+    fn reply(self) -> Reply {
+        Reply::Three(
+            u64::from(self.lowest.0),
+            u64::from(self.highest.0),
+            self.lines,
+        )
     }
 }
 
+#[tactic(auto, unfolding(crate::specs::Shortage::free_within))]
 fn free_within(taken: &[u64; 4], from: u8, to: u8, vector: u8) -> bool
     ensures { result ≡ free_within taken.now from to vector }
 {
-    if vector < from {
-        return false;
-    }
-    if to < vector {
-        return false;
-    }
-    crate::is_free(taken, Vector(vector))
+    from <= vector && vector <= to && crate::is_free(taken, Vector(vector))
 }
 
 // How many vectors of the range are free.
+#[tactic(auto, using(crate::proofs::Laws::count_le))]
 pub fn count_free(taken: &[u64; 4], from: Vector, to: Vector) -> u64
     ensures { result ≡ count 256 (free_within taken.now from.0 to.0) }
 {
-    let mut n: u64 = 0;
-    let mut vector: usize = 0;
-    while vector < 256 {
-        n += types::flag(free_within(taken, from.0, to.0, vector as u8));
-        vector += 1;
+    let mut n = 0;
+    for vector in 0..256usize {
+        if free_within(taken, from.0, to.0, vector as u8) {
+            n += 1;
+        }
     }
     n
 }
 
+#[tactic(auto, unfolding(crate::specs::Shortage::confined))]
 fn confined(ranges: &[u16], from: u8, to: u8, k: usize) -> bool
     requires { k < length ranges.now }
     ensures { result ≡ confined ranges.now from to k }
 {
-    if crate::lowest(ranges[k]).0 < from {
-        return false;
-    }
-    crate::highest(ranges[k]).0 <= to
+    from <= crate::lowest(ranges[k]).0 && crate::highest(ranges[k]).0 <= to
 }
 
 // How many lines may have none but vectors of the range.
+#[tactic(auto, using(crate::proofs::Laws::count_le))]
 pub fn count_confined(ranges: &[u16], from: Vector, to: Vector) -> u64
     ensures { result ≡ count (length ranges.now) (confined ranges.now from.0 to.0) }
 {
-    let mut n: u64 = 0;
-    let mut k: usize = 0;
-    while k < ranges.len() {
-        n += types::flag(confined(ranges, from.0, to.0, k));
-        k += 1;
+    let mut n = 0;
+    for k in 0..ranges.len() {
+        if confined(ranges, from.0, to.0, k) {
+            n += 1;
+        }
     }
     n
 }
 
+#[tactic(auto, unfolding(crate::specs::Shortage::crowded))]
 fn crowded(ranges: &[u16], taken: &[u64; 4], from: Vector, to: Vector) -> bool
     ensures { result ≡ crowded ranges.now taken.now from.0 to.0 }
 {
     count_free(taken, from, to) < count_confined(ranges, from, to)
 }
 
-// The first line up to whose highest vector it is crowded, or as many as there are.
-fn end_line(ranges: &[u16], taken: &[u64; 4], from: Vector) -> usize
-    ensures { result ≡ end_line ranges.now taken.now from.0 }
+// The first line up to whose highest vector it is crowded.
+fn end_line(ranges: &[u16], taken: &[u64; 4], from: Vector) -> Option<usize>
+    ensures { IsFirst (length ranges.now) (end_line ranges.now taken.now from.0) result }
 {
-    let mut k = 0;
-    while k < ranges.len() {
+    for k in 0..ranges.len() {
         if crowded(ranges, taken, from, crate::highest(ranges[k])) {
-            return k;
+            return Some(k);
         }
-        k += 1;
     }
-    k
+    None
 }
 
-// The first line from whose lowest vector it is crowded up to some line's highest, or as many as there are.
-fn start_line(ranges: &[u16], taken: &[u64; 4]) -> usize
-    ensures { result ≡ start_line ranges.now taken.now }
+// The first line from whose lowest vector it is crowded up to some line's highest.
+fn start_line(ranges: &[u16], taken: &[u64; 4]) -> Option<usize>
+    ensures { IsFirst (length ranges.now) (start_line ranges.now taken.now) result }
 {
-    let mut k = 0;
-    while k < ranges.len() {
-        if end_line(ranges, taken, crate::lowest(ranges[k])) < ranges.len() {
-            return k;
+    for k in 0..ranges.len() {
+        if end_line(ranges, taken, crate::lowest(ranges[k])).is_some() {
+            return Some(k);
         }
-        k += 1;
     }
-    k
+    None
 }
 
 // The set of the lines that are confined to the range.
@@ -117,38 +107,40 @@ fn lines_confined(ranges: &[u16], from: u8, to: u8) -> u64
     requires { length ranges.now ≤ 24 }
     ensures { result ≡ set_of (length ranges.now) (confined ranges.now from to) }
 {
-    let mut lines: u64 = 0;
-    let mut k: usize = 0;
-    while k < ranges.len() {
+    let mut lines = 0;
+    for k in 0..ranges.len() {
         if confined(ranges, from, to, k) {
             lines = utils::set64::with(lines, k as u64);
         }
-        k += 1;
     }
     lines
 }
 
-fn shown(ranges: &[u16], taken: &[u64; 4], from: Vector) -> ShortageAnswer
-    requires { (length ranges.now ≤ 24) × (end_line ranges.now taken.now from.0 < length ranges.now) }
-    ensures { shortage_reply result ≡ shown_from ranges.now taken.now from.0 }
+// What shows it from this vector on: up to the highest of the first line that ends a crowded range.
+fn shown(ranges: &[u16], taken: &[u64; 4], from: Vector) -> Option<CrowdedRange>
+    requires { length ranges.now ≤ 24 }
+    ensures { IsShown ranges.now taken.now from.0 result }
 {
-    let end = end_line(ranges, taken, from);
-    let to = crate::highest(ranges[end]);
-    ShortageAnswer::Shown(from, to, lines_confined(ranges, from.0, to.0))
+    let end = end_line(ranges, taken, from)?;
+    let highest = crate::highest(ranges[end]);
+    Some(CrowdedRange {
+        lowest: from,
+        highest,
+        lines: lines_confined(ranges, from.0, highest.0),
+    })
 }
 
-pub fn shortage(ranges: &[u16], taken: &[u64; 4]) -> ShortageAnswer
+pub fn shortage(ranges: &[u16], taken: &[u64; 4]) -> Result<Option<CrowdedRange>, Refusal>
     ensures { shortage_reply result ≡ shortage ranges.now taken.now }
 {
     if ranges.len() > 24 {
-        return ShortageAnswer::Refused(Refusal::OutOfRange);
+        return Err(Refusal::OutOfRange);
     }
     if !crate::ordered(ranges) {
-        return ShortageAnswer::Refused(Refusal::InvalidRegister);
+        return Err(Refusal::InvalidRegister);
     }
-    let start = start_line(ranges, taken);
-    if start < ranges.len() {
-        return shown(ranges, taken, crate::lowest(ranges[start]));
-    }
-    ShortageAnswer::Enough
+    let Some(start) = start_line(ranges, taken) else {
+        return Ok(None);
+    };
+    Ok(shown(ranges, taken, crate::lowest(ranges[start])))
 }

@@ -12,9 +12,9 @@ ghost use Rattle.planner.specs.Plan.{plan};
 ghost use Rattle.planner.specs.Shortage.{shortage};
 ghost use Rattle.planner_c.specs.Calls.{coded, range_code, lines_in};
 
-use planner::shortage::ShortageAnswer;
+use planner::shortage::CrowdedRange;
 use reply_code::code;
-use types::Reply;
+use types::{Refusal, Reply, ToReply};
 
 #[unsafe(no_mangle)]
 pub extern "C" fn sillwander_plan_check(ranges: &[u16], taken: &[u64; 4], vectors: &[u8]) -> u64
@@ -27,20 +27,20 @@ pub extern "C" fn sillwander_plan_check(ranges: &[u16], taken: &[u64; 4], vector
 pub extern "C" fn sillwander_plan(ranges: &[u16], taken: &[u64; 4], vectors: &mut [u8]) -> u64
     ensures { lent vectors.new result ≡ coded (plan ranges.now taken.now vectors.old) }
 {
-    code(planner::plan(ranges, taken, &mut *vectors).reply())
+    code(planner::plan(ranges, taken, vectors).reply())
 }
 
 // A shortage's answer as a code; the lines go to `lines`.
-fn shown(answer: ShortageAnswer, lines: &mut [u64; 1]) -> u64
+fn shown(answer: Result<Option<CrowdedRange>, Refusal>, lines: &mut [u64; 1]) -> u64
     ensures { (result ≡ range_code (shortage_reply answer)) × (lines.new ≡ lines_in lines.old (shortage_reply answer)) }
 {
     match answer {
-        ShortageAnswer::Enough => 0,
-        ShortageAnswer::Shown(lowest, highest, set) => {
-            lines[0] = set;
-            code(Reply::Two(lowest.0 as u64, highest.0 as u64))
+        Ok(None) => 0,
+        Ok(Some(crowded)) => {
+            lines[0] = crowded.lines;
+            code(Reply::Two(u64::from(crowded.lowest.0), u64::from(crowded.highest.0)))
         }
-        ShortageAnswer::Refused(why) => code(Reply::Refused(why)),
+        Err(why) => code(Reply::Refused(why)),
     }
 }
 
@@ -52,5 +52,5 @@ pub extern "C" fn sillwander_plan_shortage(
 ) -> u64
     ensures { (result ≡ range_code (shortage ranges.now taken.now)) × (lines.new ≡ lines_in lines.old (shortage ranges.now taken.now)) }
 {
-    shown(planner::shortage::shortage(ranges, taken), &mut *lines)
+    shown(planner::shortage::shortage(ranges, taken), lines)
 }

@@ -1,12 +1,15 @@
-use Rattle.std.proofs.Common.{ap, not}
-use Rattle.planner.proofs.Leaves.{better_waits_not, better_yes, better_no}
+use Rattle.std.proofs.Common.{arith}
+use Rattle.planner.proofs.Leaves.{better_waits_not, better_kept, better_taken, better_none}
 use Rattle.planner.proofs.better.Goals as goal
 
-pub returns-then-not-waits : goal.returns-then-not-waits
-returns-then-not-waits c = search better_waits_not
+pub returns-then-not-waits-clause-is : goal.returns-then-not-waits-clause-is
+returns-then-not-waits-clause-is c = better_waits_not _ _ _ _ _ _ c.waits.ensures c.if-not-waits.true
 
-pub returns-then-reach : goal.returns-then-reach
-returns-then-reach c = better_yes _ _ _ _ _ _ _ _ c.waits.ensures (ap not c.if-not-waits.false) c.reach.ensures c.reach-2.ensures c.if-reach.true
+pub returns-in-Some-clause-is : goal.returns-in-Some-clause-is
+returns-in-Some-clause-is c = better_kept _ _ _ _ _ _ _ _ _ c.in-Some.is c.waits.ensures c.if-not-waits.false c.reach-end.ensures c.reach.ensures c.if-reach-end.true
 
-pub returns : goal.returns
-returns c = better_no _ _ _ _ _ _ _ _ c.waits.ensures (ap not c.if-not-waits.false) c.reach.ensures c.reach-2.ensures c.if-reach.false
+pub returns-in_default-clause-is : goal.returns-in_default-clause-is
+returns-in_default-clause-is c = better_taken _ _ _ _ _ _ _ _ _ c.in-Some.is c.waits.ensures c.if-not-waits.false c.reach-end.ensures c.reach.ensures c.if-reach-end.false
+
+pub returns-in_default-2-clause-is : goal.returns-in_default-2-clause-is
+returns-in_default-2-clause-is c = better_none _ _ _ c.args.k _ _ c.in_default.is c.requires.few (omega (arith, c.type_inv.ranges c.args.k)) c.requires.line.0 c.waits.ensures c.if-not-waits.false

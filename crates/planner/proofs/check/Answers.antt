@@ -1,6 +1,5 @@
-use Prim.Native.Nat.{◌-◌}
-use Rattle.planner.proofs.Loops.{passes_short, passes_not, passes_yes}
 use Rattle.utils.specs.Cases.{so}
+use Rattle.planner.proofs.Loops.{passes_short, passes_not, passes_yes}
 use Rattle.planner.proofs.check.Goals as goal
 
 pub returns-then-plan-ranges : goal.returns-then-plan-ranges

@@ -1,13 +1,7 @@
-use Prim.Native.Nat.{◌≤◌, ◌-◌}
-use mathlib.Core.Path.{◌≡◌}
-use mathlib.Core.Bool.{true}
-use lib.ListN.{length}
+use Rattle.std.proofs.Common.{◌≡◌, true}
 use Rattle.planner.specs.Lines.{every}
 use Rattle.planner.specs.Check.{line_passes}
 use Rattle.planner.proofs.check.Given as goal
 
 abbrev pub invariant-loop-k : goal.invariant-loop-k
-invariant-loop-k l = (l.k ≤ length l.ranges) × (every l.k (line_passes l.ranges l.taken l.plan) ≡ true)
-
-abbrev pub decreases-loop-k : goal.decreases-loop-k
-decreases-loop-k l = length l.ranges - l.k
+invariant-loop-k l = every l.k (line_passes l.ranges l.taken l.plan) ≡ true

@@ -1,12 +1,12 @@
+use Rattle.std.proofs.Common.{sym, ◌∙◌, arith}
 use Rattle.planner.proofs.Loops.{give_none, give_line, give_past}
-use Rattle.utils.specs.Cases.{so}
 use Rattle.planner.proofs.give.Goals as goal
 
-pub returns-then-not-is_free : goal.returns-then-not-is_free
-returns-then-not-is_free c = search (give_none, so)
+pub returns-in-Some : goal.returns-in-Some
+returns-in-Some c = give_line _ _ _ _ _ (sym c.is_free.ensures ∙ c.if-is_free.true) c.in-Some.ensures.is
 
-pub returns-then-line-given : goal.returns-then-line-given
-returns-then-line-given c = search (give_line, so)
+pub returns-in_default : goal.returns-in_default
+returns-in_default c = give_past _ _ _ _ _ (sym c.is_free.ensures ∙ c.if-is_free.true) c.in_default.ensures.is (omega arith)
 
-pub returns-else-line-given : goal.returns-else-line-given
-returns-else-line-given c = search (give_past, so)
+pub returns-else-is_free : goal.returns-else-is_free
+returns-else-is_free c = give_none _ _ _ _ (sym c.is_free.ensures ∙ c.if-is_free.false)

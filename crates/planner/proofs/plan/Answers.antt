@@ -9,7 +9,7 @@ pub returns-then-lent-lines : goal.returns-then-lent-lines
 returns-then-lent-lines c = search plan_short
 
 pub returns-then-not-ordered : goal.returns-then-not-ordered
-returns-then-not-ordered c = search plan_unordered
+returns-then-not-ordered c = plan_unordered _ _ _ c.if-lines-gt24.false c.if-lent-lines.false _ c.ordered.ensures (ap not c.if-not-ordered.true)
 
 pub returns-then-not-check : goal.returns-then-not-check
 returns-then-not-check c = plan_none _ _ _ c.if-lines-gt24.false c.if-lent-lines.false _ c.ordered.ensures (ap not c.if-not-ordered.false) _ c.give_all.ensures _ c.check.ensures (ap not c.if-not-check.true)

@@ -1,11 +1,7 @@
-use Prim.Native.Nat.{◌≤◌, ◌-◌}
-use mathlib.Core.Path.{◌≡◌}
+use Rattle.std.proofs.Common.{◌≡◌}
 use Rattle.planner.specs.Lines.{count}
 use Rattle.planner.specs.Shortage.{free_within}
 use Rattle.planner.proofs.shortage.count_free.Given as goal
 
 abbrev pub invariant-loop-vector : goal.invariant-loop-vector
-invariant-loop-vector l = (l.vector ≤ 256) × (l.n ≡ count l.vector (free_within l.taken l.from.0 l.to.0))
-
-abbrev pub decreases-loop-vector : goal.decreases-loop-vector
-decreases-loop-vector l = 256 - l.vector
+invariant-loop-vector l = l.n ≡ count l.vector (free_within l.taken l.from.0 l.to.0)

@@ -1,12 +1,6 @@
-use Prim.Native.Nat.{ℕ, ◌≤◌, ◌<◌, ◌-◌}
-use mathlib.Core.Path.{◌≡◌}
-use mathlib.Core.Bool.{false}
-use lib.ListN.{length}
+use Rattle.std.proofs.Common.{◌≡◌, ℕ, ◌<◌, false}
 use Rattle.planner.specs.Shortage.{ends_at}
 use Rattle.planner.proofs.shortage.end_line.Given as goal
 
 abbrev pub invariant-loop-k : goal.invariant-loop-k
-invariant-loop-k l = (l.k ≤ length l.ranges) × ((j : ℕ) → j < l.k → ends_at l.ranges l.taken l.from.0 j ≡ false)
-
-abbrev pub decreases-loop-k : goal.decreases-loop-k
-decreases-loop-k l = length l.ranges - l.k
+invariant-loop-k l = (j : ℕ) → j < l.k → ends_at l.ranges l.taken l.from.0 j ≡ false
