@@ -8,28 +8,24 @@
 
 #![tactic(auto)]
 
-ghost use Rattle.std.specs.Prelude.{◌≡◌, length};
-
-use input::Input;
-use planner::PlanAnswer;
-use planner::shortage::ShortageAnswer;
-use rows::{Fault, Read};
-use std::io::{self, Write};
+use rows::{Line, Setup, Trouble};
+use std::alloc::Global;
+use std::io::{self, Read, Write};
 use types::{Refusal, Vector};
+use utils::Set;
 
 mod rows;
 
 fn main(rt: HostRuntime) -> io::Result<()> {
-    let mut text = [0u8; 65536];
-    let Input { length, ended } = input::read_all(&mut rt.reader(), &mut text);
-    if let Err(error) = ended {
+    let mut text = Vec::new(rt.alloc());
+    if let Err(error) = rt.reader().take(65_536).read_to_end(&mut text) {
         return eprintln!(rt; "plan: standard input: {error}");
     }
     let mut out = io::writer(&rt);
-    let written = if length == 65536 {
+    let written = if text.len() > 65_535 {
         out.write_all(b"plan: the text is longer than 65,535 bytes\n")
     } else {
-        run(&mut out, &text[..length])
+        run(&mut out, rt.alloc(), &text)
     };
     if let Err(error) = written {
         return eprintln!(rt; "plan: standard output: {error}");
@@ -39,187 +35,98 @@ fn main(rt: HostRuntime) -> io::Result<()> {
 
 // ---- planning
 
-// The lines are at most 25: one more than there may be, so that the planner sees them to be too many.
-fn run<W: Write>(out: &mut W, text: &[u8]) -> io::Result<()> {
-    let mut ranges = [0u16; 25];
-    let mut marks = [0u64; 25];
-    let mut taken = [0u64; 4];
-    match rows::read_all(text, &mut ranges, &mut marks, &mut taken) {
-        Read::Lines(lines) => answer_first(out, text, &ranges, &marks, &taken, lines),
-        Read::Bad(row, why) => bad_row(out, row, why),
-    }
-}
-
-fn answer_first<W: Write>(
-    out: &mut W,
-    text: &[u8],
-    ranges: &[u16],
-    marks: &[u64],
-    taken: &[u64; 4],
-    lines: usize,
-) -> io::Result<()> {
-    if lines > ranges.len() {
-        return Ok(());
-    }
-    if lines > marks.len() {
-        return Ok(());
-    }
-    answer(out, text, &ranges[..lines], &marks[..lines], taken)
-}
-
-fn answer<W: Write>(
-    out: &mut W,
-    text: &[u8],
-    ranges: &[u16],
-    marks: &[u64],
-    taken: &[u64; 4],
-) -> io::Result<()>
-    requires { length ranges.now ≡ length marks.now }
-{
-    let mut plan = [0u8; 24];
-    match planner::plan(ranges, taken, &mut plan) {
-        PlanAnswer::Done => entries(out, text, marks, &plan),
-        PlanAnswer::Refused(why) => refused(out, text, ranges, marks, taken, why),
+fn run<W: Write>(out: &mut W, alloc: Global, text: &[u8]) -> io::Result<()> {
+    match Setup::read(alloc, text) {
+        Ok(setup) => {
+            let ranges = setup.ranges(alloc)?;
+            setup.answer(out, &ranges)
+        }
+        Err(Trouble::Row(row, why)) => writeln!(out, "row {row}: {why}"),
+        Err(Trouble::Memory(error)) => Err(error.into()),
     }
 }
 
 // ---- writing: the first write that fails ends it
 
-fn bad_row<W: Write>(out: &mut W, row: usize, why: Fault) -> io::Result<()> {
-    write!(out, "row {row}")?;
-    match why {
-        Fault::None => out.write_all(b"\n"),
-        Fault::FewWords => {
-            out.write_all(b": too few words; a row is: name lowest highest [input]\n")
+impl<'a> Setup<'a> {
+    fn answer<W: Write>(&self, out: &mut W, ranges: &[u16]) -> io::Result<()> {
+        let mut plan = [0u8; 24];
+        match planner::plan(ranges, &self.taken, &mut plan) {
+            Ok(()) => self.entries(out, &plan),
+            Err(why) => self.refused(out, ranges, why),
         }
-        Fault::ManyWords => out.write_all(
-            b": too many words; a row is: name lowest highest [input], or: taken lowest highest\n",
-        ),
-        Fault::NoNumber => {
-            out.write_all(b": a word that is no number, decimal or hexadecimal behind 0x\n")
+    }
+
+    // One entry a line.
+    fn entries<W: Write>(&self, out: &mut W, plan: &[u8]) -> io::Result<()> {
+        for (line, vector) in self.lines.iter().zip(plan) {
+            line.entry(out, Vector(*vector))?;
         }
-        Fault::LargeNumber => out.write_all(b": a number above 255\n"),
-        Fault::LargeInput => out.write_all(b": an input above 23\n"),
-        Fault::SameInput => out.write_all(b": an input that a row before has\n"),
-        Fault::Inverted => out.write_all(b": the lowest taken vector is above the highest\n"),
+        Ok(())
     }
-}
 
-fn say_vector<W: Write>(out: &mut W, vector: Vector) -> io::Result<()> {
-    let number = vector.0;
-    write!(out, "0x{number:02x}")
-}
-
-fn say_name<W: Write>(out: &mut W, text: &[u8], mark: u64) -> io::Result<()> {
-    let from = rows::name_from(mark);
-    let to = rows::name_to(mark);
-    if to > text.len() {
-        return Ok(());
-    }
-    if from > to {
-        return Ok(());
-    }
-    out.write_all(&text[from..to])
-}
-
-// One entry a line.
-fn entries<W: Write>(out: &mut W, text: &[u8], marks: &[u64], plan: &[u8]) -> io::Result<()> {
-    let mut k = 0;
-    while k < marks.len() {
-        if k < plan.len() {
-            entry(out, text, marks[k], Vector(plan[k]))?;
+    fn refused<W: Write>(&self, out: &mut W, ranges: &[u16], why: Refusal) -> io::Result<()> {
+        match why {
+            Refusal::OutOfRange => out.write_all(b"refused, 5: more than 24 lines\n"),
+            Refusal::InvalidRegister => {
+                out.write_all(b"refused, 2: the lowest vector is above the highest for:\n")?;
+                self.unordered(out)
+            }
+            Refusal::NoPlan => {
+                out.write_all(b"refused, 8: there is no plan.\n")?;
+                self.shortage(out, ranges)
+            }
+            _ => out.write_all(b"refused\n"),
         }
-        k += 1;
     }
-    Ok(())
-}
 
-fn entry<W: Write>(out: &mut W, text: &[u8], mark: u64, vector: Vector) -> io::Result<()> {
-    let input = rows::input(mark);
-    let register = 16 + 2 * input;
-    write!(out, "entry {input}, register 0x{register:02x}: vector ")?;
-    say_vector(out, vector)?;
-    out.write_all(b"    ")?;
-    say_name(out, text, mark)?;
-    out.write_all(b"\n")
-}
-
-fn refused<W: Write>(
-    out: &mut W,
-    text: &[u8],
-    ranges: &[u16],
-    marks: &[u64],
-    taken: &[u64; 4],
-    why: Refusal,
-) -> io::Result<()>
-    requires { length ranges.now ≡ length marks.now }
-{
-    match why {
-        Refusal::OutOfRange => out.write_all(b"refused, 5: more than 24 lines\n"),
-        Refusal::InvalidRegister => {
-            out.write_all(b"refused, 2: the lowest vector is above the highest for:\n")?;
-            unordered(out, text, ranges, marks)
-        }
-        Refusal::NoPlan => {
-            out.write_all(b"refused, 8: there is no plan.\n")?;
-            shortage(out, text, ranges, marks, taken)
-        }
-        _ => out.write_all(b"refused\n"),
-    }
-}
-
-fn unordered<W: Write>(out: &mut W, text: &[u8], ranges: &[u16], marks: &[u64]) -> io::Result<()>
-    requires { length ranges.now ≡ length marks.now }
-{
-    let mut k = 0;
-    while k < ranges.len() {
-        if planner::highest(ranges[k]).0 < planner::lowest(ranges[k]).0 {
-            say_line(out, text, marks[k])?;
-        }
-        k += 1;
-    }
-    Ok(())
-}
-
-fn say_line<W: Write>(out: &mut W, text: &[u8], mark: u64) -> io::Result<()> {
-    out.write_all(b"  ")?;
-    say_name(out, text, mark)?;
-    out.write_all(b"\n")
-}
-
-fn shortage<W: Write>(
-    out: &mut W,
-    text: &[u8],
-    ranges: &[u16],
-    marks: &[u64],
-    taken: &[u64; 4],
-) -> io::Result<()> {
-    let ShortageAnswer::Shown(lowest, highest, lines) = planner::shortage::shortage(ranges, taken)
-    else {
-        return Ok(());
-    };
-    out.write_all(b"vectors ")?;
-    say_vector(out, lowest)?;
-    out.write_all(b" to ")?;
-    say_vector(out, highest)?;
-    let free = planner::shortage::count_free(taken, lowest, highest);
-    let confined_lines = planner::shortage::count_confined(ranges, lowest, highest);
-    writeln!(
-        out,
-        ": {free} free; lines that may have no other: {confined_lines}"
-    )?;
-    confined(out, text, marks, lines)
-}
-
-fn confined<W: Write>(out: &mut W, text: &[u8], marks: &[u64], lines: u64) -> io::Result<()> {
-    let mut k: usize = 0;
-    while k < marks.len() {
-        if k < 64 {
-            if utils::set64::has(lines, k as u64) {
-                say_line(out, text, marks[k])?;
+    fn unordered<W: Write>(&self, out: &mut W) -> io::Result<()> {
+        for line in &self.lines {
+            if planner::highest(line.range).0 < planner::lowest(line.range).0 {
+                line.name(out)?;
             }
         }
-        k += 1;
+        Ok(())
     }
-    Ok(())
+
+    fn shortage<W: Write>(&self, out: &mut W, ranges: &[u16]) -> io::Result<()> {
+        let Ok(Some(crowded)) = planner::shortage::shortage(ranges, &self.taken) else {
+            return Ok(());
+        };
+        let lowest = crowded.lowest.0;
+        let highest = crowded.highest.0;
+        let free = planner::shortage::count_free(&self.taken, crowded.lowest, crowded.highest);
+        let confined = planner::shortage::count_confined(ranges, crowded.lowest, crowded.highest);
+        writeln!(
+            out,
+            "vectors 0x{lowest:02x} to 0x{highest:02x}: {free} free; lines that may have no other: {confined}"
+        )?;
+        for (k, line) in self.lines.iter().enumerate() {
+            if k < 64 && crowded.lines.has(k as u32) {
+                line.name(out)?;
+            }
+        }
+        Ok(())
+    }
+}
+
+// A name is written byte by byte, as it was read: it needn't be text.
+impl<'a> Line<'a> {
+    fn entry<W: Write>(&self, out: &mut W, vector: Vector) -> io::Result<()> {
+        let input = self.input;
+        let register = 16 + 2 * u32::from(input);
+        let number = vector.0;
+        write!(
+            out,
+            "entry {input}, register 0x{register:02x}: vector 0x{number:02x}    "
+        )?;
+        out.write_all(self.name)?;
+        out.write_all(b"\n")
+    }
+
+    fn name<W: Write>(&self, out: &mut W) -> io::Result<()> {
+        out.write_all(b"  ")?;
+        out.write_all(self.name)?;
+        out.write_all(b"\n")
+    }
 }

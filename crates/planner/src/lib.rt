@@ -13,6 +13,7 @@ ghost use Rattle.planner.specs.Plan.{waits, reach, line_number, better, next_lin
 ghost use Rattle.planner.specs.Answers.{plan_reply};
 
 use types::{Refusal, Vector};
+use utils::Set;
 
 pub mod shortage;
 
@@ -38,8 +39,8 @@ pub fn highest(range: u16) -> Vector
 pub fn is_taken(taken: &[u64; 4], vector: Vector) -> bool
     ensures { result ≡ is_taken taken.now vector.0 }
 {
-    let word = vector.0 as usize / 64;
-    utils::set64::has(taken[word], vector.0 as u64 % 64)
+    let word = usize::from(vector.0) / 64;
+    taken[word].has(u32::from(vector.0) % 64)
 }
 
 // A vector that may be given: 32 or more, and not taken.

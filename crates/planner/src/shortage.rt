@@ -7,6 +7,7 @@ ghost use Rattle.planner.specs.Lines.{count};
 ghost use Rattle.planner.specs.Shortage.{free_within, confined, crowded, end_line, start_line, IsFirst, IsShown, shortage};
 
 use types::{Refusal, Reply, ToReply, Vector};
+use utils::Set;
 
 // More of these lines, a set, than free vectors from the lowest to the highest.
 #[derive(Clone, Copy, Debug, PartialEq, Eq, Hash)]
@@ -107,10 +108,10 @@ fn lines_confined(ranges: &[u16], from: u8, to: u8) -> u64
     requires { length ranges.now ≤ 24 }
     ensures { result ≡ set_of (length ranges.now) (confined ranges.now from to) }
 {
-    let mut lines = 0;
+    let mut lines = 0u64;
     for k in 0..ranges.len() {
         if confined(ranges, from, to, k) {
-            lines = utils::set64::with(lines, k as u64);
+            lines = lines.with(k as u32);
         }
     }
     lines
