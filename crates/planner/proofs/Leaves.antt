@@ -31,11 +31,9 @@ unfolding reach
 reach_past r k h = rw (get_d_past r k 65536 h)
 
 -- the first line that waits: its vectors are below 256, as far as no line reaches
-pub better_first : (r given : List ℕ) (v k : ℕ) (b : Bool) → length r ≤ 24 → get_or r k 0 < 65536 → k < length r → b ≡ waits (get_or r k 0) (get_or given k 0) v → b ≡ true → k ≡ better r given v 24 k
+better_first : (r given : List ℕ) (v k m : ℕ) (b : Bool) → length r ≤ 24 → m ≡ reach r k → m < 256 → b ≡ waits (get_or r k 0) (get_or given k 0) v → b ≡ true → k ≡ better r given v 24 k
 unfolding better
-better_first r given v k b few fits l e h =
-    let m : reach r k ≡ get_or r k 0 / 256 = sym (reach_line r k l) in
-    rw (← e, h, ← reach_past r 24 few, lt-ltb (reach r k) 256 (omega arith))
+better_first r given v k m b few f l e h = rw (← e, h, ← reach_past r 24 few, lt-ltb (reach r k) 256 (omega arith))
 
 pub better_waits_not : (r given : List ℕ) (v best k : ℕ) (b : Bool) → b ≡ waits (get_or r k 0) (get_or given k 0) v → b ≡ false → best ≡ better r given v best k
 unfolding better
@@ -56,8 +54,9 @@ better_taken r given v line k m n best b s e h f g l = rw s (better_yes r given 
 pub better_kept : (r given : List ℕ) (v line k m n : ℕ) (best : Option ℕ) (b : Bool) → best ≡ Some line → b ≡ waits (get_or r k 0) (get_or given k 0) v → b ≡ true → m ≡ reach r k → n ≡ reach r line → n ≤ m → line ≡ better r given v (line_number best) k
 better_kept r given v line k m n best b s e h f g l = rw s (better_no r given v line k m n b e h f g l)
 
-pub better_none : (r given : List ℕ) (v k : ℕ) (best : Option ℕ) (b : Bool) → best ≡ None → length r ≤ 24 → get_or r k 0 < 65536 → k < length r → b ≡ waits (get_or r k 0) (get_or given k 0) v → b ≡ true → k ≡ better r given v (line_number best) k
-better_none r given v k best b s few fits l e h = rw s (better_first r given v k b few fits l e h)
+pub better_none : (r given : List ℕ) (v k m : ℕ) (best : Option ℕ) (b : Bool) → best ≡ None → length r ≤ 24 → m ≡ reach r k → m < 256
+    → b ≡ waits (get_or r k 0) (get_or given k 0) v → b ≡ true → k ≡ better r given v (line_number best) k
+better_none r given v k m best b s few f l e h = rw s (better_first r given v k m b few f l e h)
 
 pub ends_at_lem : (r t : List ℕ) (a k high : ℕ) (x y : Bool) → high ≡ highest_of (get_or r k 0) → x ≡ crowded r t a high → x ≡ y → ends_at r t a k ≡ y
 unfolding ends_at

@@ -19,7 +19,7 @@ use Rattle.types.specs.declared.Refusal.TheVariants.{InvalidRegister, OutOfRange
 use Rattle.types.specs.declared.Reply.{Reply}
 use Rattle.types.specs.declared.Reply.TheVariants.{Refused, Nothing, Three}
 use Rattle.types.specs.Reply.{outcome_of, option_reply}
-use Rattle.planner.specs.Lines.{every, count, lowest_of, highest_of, is_free}
+use Rattle.planner.specs.Lines.{every, count, lowest_of, highest_of, is_free, allows}
 use Rattle.planner.specs.Check.{has_vector, among, line_passes, passes}
 use Rattle.planner.specs.Plan.{next_line, give, giving, planned, in_order, ordered, written, plan}
 use Rattle.planner.specs.declared.shortage.CrowdedRange.{CrowdedRange}
@@ -33,6 +33,11 @@ use Rattle.planner.proofs.Laws.{every_fails, every_all, some_any, take_all}
 pub among_any : (plan : List ℕ) (n v : ℕ) → n ≤ length plan → list_any (λ y. eqb y v) (take n plan) ≡ among plan n v
 unfolding among has_vector
 among_any plan n v h = some_any (λ y. eqb y v) plan n h
+
+pub line_allowed : (r t plan : List ℕ) (k : ℕ) (b : Bool) → allows (get_or r k 0) t (get_or plan k 0) ≡ true → k ≤ length plan
+    → b ≡ list_any (λ y. eqb y (get_or plan k 0)) (take k plan) → not b ≡ line_passes r t plan k
+unfolding line_passes
+line_allowed r t plan k b h l e = rw (h, ← among_any plan k (get_or plan k 0) l, ← e) refl
 
 pub passes_short : (r t plan : List ℕ) → length plan < length r → false ≡ passes r t plan
 unfolding passes

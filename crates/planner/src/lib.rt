@@ -1,15 +1,17 @@
 // Vectors that don't collide: a setup tool's check of a proposal, its planner, and why there is no plan (document 02, T-10).
 //
+// Stays: the C interface lends a range as a word of 16 bits and the vectors taken as four words.
+//
 // A line's range is a word, its lowest vector in the low byte and its highest in the high byte, so that the lines are one slice. The vectors already taken are
 // a set of 256 in four words: bit v % 64 of word v / 64.
 
 #![tactic(auto)]
 
-ghost use Rattle.std.specs.Prelude.{◌≡◌, ◌+◌, ◌*◌, ◌≤◌, ◌<◌, length, replicate, IfSome};
+ghost use Rattle.std.specs.Prelude.{◌≡◌, ◌+◌, ◌*◌, ◌≤◌, ◌<◌, length, IfSome};
 ghost use Rattle.types.specs.Reply.{outcome_of};
 ghost use Rattle.planner.specs.Lines.{lowest_of, highest_of, is_taken, is_free, allows};
-ghost use Rattle.planner.specs.Check.{among, line_passes, passes};
-ghost use Rattle.planner.specs.Plan.{waits, reach, line_number, better, next_line, give, planned, ordered, written, plan};
+ghost use Rattle.planner.specs.Check.{line_passes, passes};
+ghost use Rattle.planner.specs.Plan.{waits, reach, line_number, better, next_line, give, planned, ordered, plan};
 ghost use Rattle.planner.specs.Answers.{plan_reply};
 
 use types::{Refusal, Vector};
@@ -59,14 +61,6 @@ fn allows(range: u16, taken: &[u64; 4], vector: Vector) -> bool
     lowest(range).0 <= vector.0 && vector.0 <= highest(range).0 && is_free(taken, vector)
 }
 
-// One of the first n lines has this vector.
-fn among(plan: &[u8], n: usize, vector: u8) -> bool
-    requires { n ≤ length plan.now }
-    ensures { result ≡ among plan.now n vector }
-{
-    plan[..n].contains(&vector)
-}
-
 // Line k may have its vector, and no line before it has the same.
 #[tactic(auto, unfolding(crate::specs::Check::line_passes))]
 fn line_passes(ranges: &[u16], taken: &[u64; 4], plan: &[u8], k: usize) -> bool
@@ -74,7 +68,7 @@ fn line_passes(ranges: &[u16], taken: &[u64; 4], plan: &[u8], k: usize) -> bool
     ensures { result ≡ line_passes ranges.now taken.now plan.now k }
 {
     let vector = plan[k];
-    allows(ranges[k], taken, Vector(vector)) && !among(plan, k, vector)
+    allows(ranges[k], taken, Vector(vector)) && !plan[..k].contains(&vector)
 }
 
 // The check that any proposal goes through.
@@ -100,66 +94,73 @@ fn waits(range: u16, given: u8, vector: u8) -> bool
     given == 0 && lowest(range).0 <= vector && vector <= highest(range).0
 }
 
-// A line's highest vector.
-#[tactic(auto, using(crate::proofs::Leaves::reach_line))]
-fn reach(ranges: &[u16], k: usize) -> Vector
-    requires { k < length ranges.now }
-    ensures { result.0 ≡ reach ranges.now k }
-{
-    highest(ranges[k])
+// Lines to plan, no more than an I/O APIC has inputs, each by its range; and the vectors that are taken.
+#[derive(Clone, Copy, Debug)]
+struct Lines<'a> {
+    ranges: &'a [u16],
+    taken: &'a [u64; 4],
+    ghost few: { length ranges.now ≤ 24 },
 }
 
-// Line k, if it waits for the vector and its range ends before that of the best so far.
-fn better(ranges: &[u16], given: &[u8], vector: u8, best: Option<usize>, k: usize) -> Option<usize>
-    requires few { length ranges.now ≤ 24 }
-    requires line { (k < length ranges.now) × (k < length given.now) }
-    requires best { IfSome best (λ line. line < length ranges.now) }
-    ensures line { IfSome result (λ line. line < length ranges.now) }
-    ensures is { line_number result ≡ better ranges.now given.now vector (line_number best) k }
-{
-    if !waits(ranges[k], given[k], vector) {
-        return best;
+impl<'a> Lines<'a> {
+    // A line's highest vector.
+    #[tactic(auto, using(crate::proofs::Leaves::reach_line))]
+    fn reach(self, k: usize) -> Vector
+        requires { k < length self.ranges.now }
+        ensures { result.0 ≡ reach self.entry.ranges.now k }
+    {
+        highest(self.ranges[k])
     }
-    let end = reach(ranges, k);
-    match best {
-        Some(line) if reach(ranges, line).0 <= end.0 => best,
-        _ => Some(k),
-    }
-}
 
-// The line that the vector goes to.
-#[tactic(auto, unfolding(crate::specs::Plan::next_line))]
-fn next_line(ranges: &[u16], given: &[u8], vector: u8) -> Option<usize>
-    requires few { length ranges.now ≤ 24 }
-    requires given { length ranges.now ≤ length given.now }
-    ensures line { IfSome result (λ line. line < length ranges.now) }
-    ensures is { line_number result ≡ next_line ranges.now given.now vector }
-{
-    let mut best = None;
-    for k in 0..ranges.len() {
-        best = better(ranges, given, vector, best, k);
-    }
-    best
-}
-
-fn give(ranges: &[u16], taken: &[u64; 4], given: &mut [u8], vector: u8)
-    requires { (length ranges.now ≤ 24) × (length given.old ≡ 24) }
-    ensures { given.new ≡ give ranges.now taken.now given.old vector }
-{
-    if is_free(taken, Vector(vector)) {
-        if let Some(line) = next_line(ranges, given, vector) {
-            given[line] = vector;
+    // Line k, if it waits for the vector and its range ends before that of the best so far.
+    fn better(self, given: &[u8; 24], vector: u8, best: Option<usize>, k: usize) -> Option<usize>
+        requires line { k < length self.ranges.now }
+        requires best { IfSome best (λ line. line < length self.ranges.now) }
+        ensures line { IfSome result (λ line. line < length self.entry.ranges.now) }
+        ensures is { line_number result ≡ better self.entry.ranges.now given.now vector (line_number best) k }
+    {
+        if !waits(self.ranges[k], given[k], vector) {
+            return best;
+        }
+        let end = self.reach(k).0;
+        match best {
+            Some(line) if self.reach(line).0 <= end => best,
+            _ => Some(k),
         }
     }
-}
 
-// All vectors from 32 up, to lines that all wait.
-fn give_all(ranges: &[u16], taken: &[u64; 4], given: &mut [u8])
-    requires { (length ranges.now ≤ 24) × (given.old ≡ replicate 24 0) }
-    ensures { given.new ≡ planned ranges.now taken.now }
-{
-    for vector in 32..=255 {
-        give(ranges, taken, given, vector);
+    // The line that the vector goes to.
+    #[tactic(auto, unfolding(crate::specs::Plan::next_line))]
+    fn next_line(self, given: &[u8; 24], vector: u8) -> Option<usize>
+        ensures line { IfSome result (λ line. line < length self.entry.ranges.now) }
+        ensures is { line_number result ≡ next_line self.entry.ranges.now given.now vector }
+    {
+        let mut best = None;
+        for k in 0..self.ranges.len() {
+            best = self.better(given, vector, best, k);
+        }
+        best
+    }
+
+    fn give(self, given: &mut [u8; 24], vector: u8)
+        ensures { given.new ≡ give self.entry.ranges.now self.entry.taken.now given.old vector }
+    {
+        if is_free(self.taken, Vector(vector)) {
+            if let Some(line) = self.next_line(given, vector) {
+                given[line] = vector;
+            }
+        }
+    }
+
+    // All vectors from 32 up, to lines that all wait.
+    fn planned(self) -> [u8; 24]
+        ensures { result ≡ planned self.entry.ranges.now self.entry.taken.now }
+    {
+        let mut given = [0; 24];
+        for vector in 32..=255 {
+            self.give(&mut given, vector);
+        }
+        given
     }
 }
 
@@ -171,14 +172,6 @@ fn ordered(ranges: &[u16]) -> bool
     ranges
         .iter()
         .all(|range| lowest(*range).0 <= highest(*range).0)
-}
-
-// The first n bytes of a plan go to the lent one.
-fn write(plan: &[u8], n: usize, lent: &mut [u8])
-    requires { (n ≤ length plan.now) × (n ≤ length lent.old) }
-    ensures { lent.new ≡ written n plan.now lent.old }
-{
-    lent[..n].copy_from_slice(&plan[..n]);
 }
 
 // A vector for each line, or the refusal; a plan is written to the lent one only if it passes the check.
@@ -195,11 +188,10 @@ pub fn plan(ranges: &[u16], taken: &[u64; 4], lent: &mut [u8]) -> Result<(), Ref
     if !ordered(ranges) {
         return Err(Refusal::InvalidRegister);
     }
-    let mut given = [0u8; 24];
-    give_all(ranges, taken, &mut given);
+    let given = Lines { ranges, taken }.planned();
     if !check(ranges, taken, &given) {
         return Err(Refusal::NoPlan);
     }
-    write(&given, lines, lent);
+    lent[..lines].copy_from_slice(&given[..lines]);
     Ok(())
 }

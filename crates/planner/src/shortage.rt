@@ -6,6 +6,7 @@ ghost use Rattle.planner.specs.Answers.{shown_reply, shortage_reply};
 ghost use Rattle.planner.specs.Lines.{count};
 ghost use Rattle.planner.specs.Shortage.{free_within, confined, crowded, end_line, start_line, IsFirst, IsShown, shortage};
 
+use crate::Lines;
 use types::{Refusal, Reply, ToReply, Vector};
 use utils::Set;
 
@@ -72,63 +73,63 @@ pub fn count_confined(ranges: &[u16], from: Vector, to: Vector) -> u64
     n
 }
 
-#[tactic(auto, unfolding(crate::specs::Shortage::crowded))]
-fn crowded(ranges: &[u16], taken: &[u64; 4], from: Vector, to: Vector) -> bool
-    ensures { result ≡ crowded ranges.now taken.now from.0 to.0 }
-{
-    count_free(taken, from, to) < count_confined(ranges, from, to)
-}
-
-// The first line up to whose highest vector it is crowded.
-fn end_line(ranges: &[u16], taken: &[u64; 4], from: Vector) -> Option<usize>
-    ensures { IsFirst (length ranges.now) (end_line ranges.now taken.now from.0) result }
-{
-    for k in 0..ranges.len() {
-        if crowded(ranges, taken, from, crate::highest(ranges[k])) {
-            return Some(k);
-        }
+impl<'a> Lines<'a> {
+    #[tactic(auto, unfolding(crate::specs::Shortage::crowded))]
+    fn crowded(self, from: Vector, to: Vector) -> bool
+        ensures { result ≡ crowded self.entry.ranges.now self.entry.taken.now from.0 to.0 }
+    {
+        count_free(self.taken, from, to) < count_confined(self.ranges, from, to)
     }
-    None
-}
 
-// The first line from whose lowest vector it is crowded up to some line's highest.
-fn start_line(ranges: &[u16], taken: &[u64; 4]) -> Option<usize>
-    ensures { IsFirst (length ranges.now) (start_line ranges.now taken.now) result }
-{
-    for k in 0..ranges.len() {
-        if end_line(ranges, taken, crate::lowest(ranges[k])).is_some() {
-            return Some(k);
+    // The first line up to whose highest vector it is crowded.
+    fn end_line(self, from: Vector) -> Option<usize>
+        ensures { IsFirst (length self.entry.ranges.now) (end_line self.entry.ranges.now self.entry.taken.now from.0) result }
+    {
+        for k in 0..self.ranges.len() {
+            if self.crowded(from, crate::highest(self.ranges[k])) {
+                return Some(k);
+            }
         }
+        None
     }
-    None
-}
 
-// The set of the lines that are confined to the range.
-fn lines_confined(ranges: &[u16], from: u8, to: u8) -> u64
-    requires { length ranges.now ≤ 24 }
-    ensures { result ≡ set_of (length ranges.now) (confined ranges.now from to) }
-{
-    let mut lines = 0u64;
-    for k in 0..ranges.len() {
-        if confined(ranges, from, to, k) {
-            lines = lines.with(k as u32);
+    // The first line from whose lowest vector it is crowded up to some line's highest.
+    fn start_line(self) -> Option<usize>
+        ensures { IsFirst (length self.entry.ranges.now) (start_line self.entry.ranges.now self.entry.taken.now) result }
+    {
+        for k in 0..self.ranges.len() {
+            if self.end_line(crate::lowest(self.ranges[k])).is_some() {
+                return Some(k);
+            }
         }
+        None
     }
-    lines
-}
 
-// What shows it from this vector on: up to the highest of the first line that ends a crowded range.
-fn shown(ranges: &[u16], taken: &[u64; 4], from: Vector) -> Option<CrowdedRange>
-    requires { length ranges.now ≤ 24 }
-    ensures { IsShown ranges.now taken.now from.0 result }
-{
-    let end = end_line(ranges, taken, from)?;
-    let highest = crate::highest(ranges[end]);
-    Some(CrowdedRange {
-        lowest: from,
-        highest,
-        lines: lines_confined(ranges, from.0, highest.0),
-    })
+    // The set of the lines that are confined to the range.
+    fn lines_confined(self, from: u8, to: u8) -> u64
+        ensures { result ≡ set_of (length self.entry.ranges.now) (confined self.entry.ranges.now from to) }
+    {
+        let mut lines = 0u64;
+        for k in 0..self.ranges.len() {
+            if confined(self.ranges, from, to, k) {
+                lines = lines.with(k as u32);
+            }
+        }
+        lines
+    }
+
+    // What shows it from this vector on: up to the highest of the first line that ends a crowded range.
+    fn shown(self, from: Vector) -> Option<CrowdedRange>
+        ensures { IsShown self.entry.ranges.now self.entry.taken.now from.0 result }
+    {
+        let end = self.end_line(from)?;
+        let highest = crate::highest(self.ranges[end]);
+        Some(CrowdedRange {
+            lowest: from,
+            highest,
+            lines: self.lines_confined(from.0, highest.0),
+        })
+    }
 }
 
 pub fn shortage(ranges: &[u16], taken: &[u64; 4]) -> Result<Option<CrowdedRange>, Refusal>
@@ -140,8 +141,9 @@ pub fn shortage(ranges: &[u16], taken: &[u64; 4]) -> Result<Option<CrowdedRange>
     if !crate::ordered(ranges) {
         return Err(Refusal::InvalidRegister);
     }
-    let Some(start) = start_line(ranges, taken) else {
+    let lines = Lines { ranges, taken };
+    let Some(start) = lines.start_line() else {
         return Ok(None);
     };
-    Ok(shown(ranges, taken, crate::lowest(ranges[start])))
+    Ok(lines.shown(crate::lowest(ranges[start])))
 }

@@ -12,7 +12,7 @@ pub returns-then-not-ordered : goal.returns-then-not-ordered
 returns-then-not-ordered c = plan_unordered _ _ _ c.if-lines-gt24.false c.if-lent-lines.false _ c.ordered.ensures (ap not c.if-not-ordered.true)
 
 pub returns-then-not-check : goal.returns-then-not-check
-returns-then-not-check c = plan_none _ _ _ c.if-lines-gt24.false c.if-lent-lines.false _ c.ordered.ensures (ap not c.if-not-ordered.false) _ c.give_all.ensures _ c.check.ensures (ap not c.if-not-check.true)
+returns-then-not-check c = plan_none _ _ _ c.if-lines-gt24.false c.if-lent-lines.false _ c.ordered.ensures (ap not c.if-not-ordered.false) _ c.planned-given.ensures _ c.check.ensures (ap not c.if-not-check.true)
 
 pub returns : goal.returns
-returns c = plan_done _ _ _ c.if-lines-gt24.false c.if-lent-lines.false _ c.ordered.ensures (ap not c.if-not-ordered.false) _ c.give_all.ensures _ c.check.ensures _ (ap not c.if-not-check.false) c.write.ensures
+returns c = plan_done _ _ _ c.if-lines-gt24.false c.if-lent-lines.false _ c.ordered.ensures (ap not c.if-not-ordered.false) _ c.planned-given.ensures _ c.check.ensures _ (ap not c.if-not-check.false) (cc)

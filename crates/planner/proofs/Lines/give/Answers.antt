@@ -1,6 +1,6 @@
 use Rattle.std.proofs.Common.{sym, ◌∙◌, arith}
 use Rattle.planner.proofs.Loops.{give_none, give_line, give_past}
-use Rattle.planner.proofs.give.Goals as goal
+use Rattle.planner.proofs.Lines.give.Goals as goal
 
 pub returns-in-Some : goal.returns-in-Some
 returns-in-Some c = give_line _ _ _ _ _ (sym c.is_free.ensures ∙ c.if-is_free.true) c.in-Some.ensures.is

@@ -2,7 +2,7 @@ use borrow.Author.Count.{below_more}
 use Rattle.std.proofs.Common.{refl, sym, ◌∙◌}
 use Rattle.planner.proofs.Loops.{first_some, first_not, start_found, start_none}
 use Rattle.planner.proofs.Leaves.{starts_at_lem, starts_not}
-use Rattle.planner.proofs.shortage.start_line.Goals as goal
+use Rattle.planner.proofs.Lines.start_line.Goals as goal
 
 pub returns-then-is_some : goal.returns-then-is_some
 returns-then-is_some c =
