@@ -5,6 +5,7 @@ use Prim.Native.Nat.{ℕ, ◌+◌, ◌/◌, ◌%◌, ◌^◌, ◌<◌, ◌≤◌
 use native.Mathlib.Omega.{arith}
 use native.Mathlib.Nat.{div-one}
 use lib.Dec.{ltb, eqb}
+use Rattle.std.specs.Prelude.{Option, Some, None, is_some}
 use borrow.Author.Tests.{ltb-true, ltb-false, lt-ltb, le-ltb, ne_eqb, eqb-true, eqb-false, not-true, not-false}
 use Rattle.vpic_priority.specs.Ring.{rank, above, line_at, first_rank, first_by}
 use Rattle.vpic_priority.proofs.Ring.{rank_lt, rank_low, line_of_rank, first_rank_le, first_rank_same, by_same, by_rank, by_holds, by_before, by_is, by_none}
@@ -17,10 +18,9 @@ use Rattle.types.specs.declared.Reply.{Reply}
 use Rattle.types.specs.declared.Reply.TheVariants as reply
 use Rattle.types.specs.Counters.{line_vector}
 use Rattle.types.specs.Reply.{Outcome}
-use Rattle.vpic_chip.specs.declared.PendingIrq.TheVariants.{Irq, Nothing}
 use Rattle.vpic_chip.specs.Registers.{Chip, as_full, placed, with_request, with_in_service, with_read_isr, with_lowest, with_auto_rotation, with_special_mask, with_poll, with_nested}
-use Rattle.vpic_chip.specs.Chip.{lowest_by, first_of, is_above_all, turned, is_nested, blocks, blocks_line, icw1, full_ocw3, ocw3, specific_eoi, non_specific_eoi, auto_rotated, ocw2, commanded, icw2, icw3, icw4, ocw1, fed, pulsed, counts, pending_line, pending_irq, asks, driven, acknowledged, acknowledge, unacknowledged, poll_shown, polled, poll_read}
-use Rattle.vpic_chip.proofs.Laws.{first_top, ordinary_blocks, blocks_other}
+use Rattle.vpic_chip.specs.Chip.{lowest_by, first_of, is_above_all, turned, is_nested, blocks, blocks_line, icw1, full_ocw3, ocw3, specific_eoi, non_specific_eoi, auto_rotated, ocw2, commanded, icw2, icw3, icw4, ocw1, fed, pulsed, counts, pending_line, irq_of, pending_irq, asks, driven, acknowledged, acknowledge, unacknowledged, poll_shown, polled, poll_read}
+use Rattle.vpic_chip.proofs.Laws.{first_top, ordinary_blocks, blocks_other, pending_is_line}
 
 -- ---- what is done to the plain registers is done to the full ones, at either place of a pair
 
@@ -220,11 +220,17 @@ module _ (c : Chip) (lowest q m o i a s : ℕ) (b : Bool) (f : c.full ≡ true) 
   asked_rank : rank lowest a ≡ first_rank lowest (bit o)
   asked_rank = ap (rank lowest) ea ∙ by_rank lowest (bit o)
 
-  pub full_some : b ≡ true → a ≡ pending_line c
-  unfolding pending_line above
-  full_some t =
+  asked_low : b ≡ true → a < 8
+  unfolding above
+  asked_low t =
       let r : rank lowest a < rank lowest s = ltb-true (rank lowest a) (rank lowest s) (sym eb ∙ t) in
-      let low : a < 8 = rank_low lowest a (omega (arith, served_rank, first_rank_le lowest (blocks_line c a))) in
+      rank_low lowest a (omega (arith, served_rank, first_rank_le lowest (blocks_line c a)))
+
+  asked_pends : b ≡ true → a ≡ pending_line c
+  unfolding pending_line above
+  asked_pends t =
+      let r : rank lowest a < rank lowest s = ltb-true (rank lowest a) (rank lowest s) (sym eb ∙ t) in
+      let low : a < 8 = asked_low t in
       let on : bit o a ≡ true = ap (bit o) ea ∙ by_holds lowest (bit o) (omega (arith, ea)) in
       let here : counts c a ≡ true = counted a low ∙ rw (on, lt-ltb (rank lowest a) (first_rank lowest (blocks_line c a)) (omega (arith, served_rank))) in
       sym
@@ -233,9 +239,13 @@ module _ (c : Chip) (lowest q m o i a s : ℕ) (b : Bool) (f : c.full ≡ true) 
       (λ j l. counted j (rank_low lowest j (omega (arith, served_rank, first_rank_le lowest (blocks_line c a))))
       ∙ and_left_no (bit o j) (ltb (rank lowest j) (first_rank lowest (blocks_line c j))) (by_before lowest (bit o) j (omega (arith, asked_rank)))))
 
-  pub full_none : b ≡ false → 8 ≡ pending_line c
+  pub full_some : b ≡ true → Some (record { 0 = a }) ≡ pending_irq c
+  unfolding pending_irq
+  full_some t = rw (sym (asked_pends t), lt-ltb a 8 (asked_low t))
+
+  none_pends : b ≡ false → 8 ≡ pending_line c
   unfolding pending_line above
-  full_none t = sym (ap (λ (n : ℕ). first_by n (counts c)) own ∙ by_none lowest (counts c) (λ j l. counted j l ∙ go j l (bit o j) refl))
+  none_pends t = sym (ap (λ (n : ℕ). first_by n (counts c)) own ∙ by_none lowest (counts c) (λ j l. counted j l ∙ go j l (bit o j) refl))
     where
       r : first_rank lowest (blocks_line c a) ≤ rank lowest a
       r = omega (arith, served_rank, ltb-false (rank lowest a) (rank lowest s) (sym eb ∙ t))
@@ -259,26 +269,31 @@ module _ (c : Chip) (lowest q m o i a s : ℕ) (b : Bool) (f : c.full ≡ true) 
       go j l true e = le-ltb (rank lowest j) (first_rank lowest (blocks_line c j)) (behind j l (omega (arith, asked_rank, first_top lowest (bit o) j e)))
       go j l false e = refl
 
+  pub full_none : b ≡ false → None ≡ pending_irq c
+  unfolding pending_irq
+  full_none t = ap irq_of (none_pends t)
+
 -- without an open request
-pub full_empty : (c : Chip) (q m o : ℕ) → q ≡ c.request → m ≡ c.mask → o ≡ outside 8 q m → o ≡ 0 → 8 ≡ pending_line c
-unfolding pending_line counts
+pub full_empty : (c : Chip) (q m o : ℕ) → q ≡ c.request → m ≡ c.mask → o ≡ outside 8 q m → o ≡ 0 → None ≡ pending_irq c
+unfolding pending_irq pending_line counts
 full_empty c q m o eq em eo z =
     sym
+    (ap irq_of
     (by_none (lowest_by c) (counts c)
     (λ k h. and_left_no (bit c.request k && not (bit c.mask k)) (is_above_all c k (blocks_line c k))
-    (sym (bit_outside 8 c.request c.mask k h) ∙ ap (λ (n : ℕ). bit n k) (sym (eo ∙ (λ j. outside 8 (eq j) (em j))) ∙ z) ∙ bit_none k)))
+    (sym (bit_outside 8 c.request c.mask k h) ∙ ap (λ (n : ℕ). bit n k) (sym (eo ∙ (λ j. outside 8 (eq j) (em j))) ∙ z) ∙ bit_none k))))
 
-pub full_irq_some : (c : Chip) (l : PicLine) → l.0 ≡ pending_line c → l.0 < 8 → Irq l ≡ pending_irq c
-unfolding pending_irq
-full_irq_some c l e h = rw (sym e, lt-ltb l.0 8 h)
+-- a chip asks exactly where a line is pending
+asked : (c : Chip) → is_some (pending_irq c) ≡ asks c
+unfolding pending_irq asks
+asked c = go (ltb (pending_line c) 8)
+  where
+    go : (b : Bool) → is_some {T = PicLine} (cond b (Some (record { 0 = pending_line c })) None) ≡ b
+    go true = refl
+    go false = refl
 
-pub full_irq_none : (c : Chip) (l : PicLine) → l.0 ≡ pending_line c → 8 ≤ l.0 → Nothing ≡ pending_irq c
-unfolding pending_irq
-full_irq_none c l e h = rw (sym e, le-ltb l.0 8 h)
-
-pub full_asked : (c : Chip) (l : PicLine) → l.0 ≡ pending_line c → ltb l.0 8 ≡ asks c
-unfolding asks
-full_asked c l e = ap (λ (n : ℕ). ltb n 8) e
+pub full_asked : (c : Chip) (o : Option PicLine) (b : Bool) → o ≡ pending_irq c → b ≡ is_some o → b ≡ asks c
+full_asked c o b e s = s ∙ ap is_some e ∙ asked c
 
 -- ---- a law for each way out
 
@@ -339,13 +354,16 @@ module _ (x y : Chip) (k : ℕ) (b : Bool) (f : b ≡ x.auto_eoi) (e : y ≡ wit
   full_turned r z t er n q = q ∙ ap (λ (c : Chip). with_lowest (as_full c) k) e ∙ rw (sym f ∙ not-false b t, sym er ∙ n)
 
 -- a poll
-module _ (p : Bool) (x : Chip) (l : PicLine) (e : l.0 ≡ pending_line (placed p x)) where
-  pub poll_none : (d : Chip) → 8 ≤ l.0 → d ≡ with_poll x false → ◌≡◌ {A = Outcome Chip} (record { state = placed p d; reply = reply.One 0 }) (poll_read (placed p x))
-  unfolding poll_read poll_shown polled asks
-  poll_none d h q = rw (sym e, le-ltb l.0 8 h) (ap (λ (c : Chip). record { state = placed p c; reply = reply.One 0 }) q)
+module _ (p : Bool) (x : Chip) (o : Option PicLine) (e : o ≡ pending_irq (placed p x)) where
+  pub poll_none : (d : Chip) → o ≡ None → d ≡ with_poll x false → ◌≡◌ {A = Outcome Chip} (record { state = placed p d; reply = reply.One 0 }) (poll_read (placed p x))
+  unfolding poll_read poll_shown polled
+  poll_none d h q = rw (sym (asked (placed p x)) ∙ ap is_some (sym e ∙ h)) (ap (λ (c : Chip). record { state = placed p c; reply = reply.One 0 }) q)
 
-  pub poll_some : (a d : Chip) → l.0 < 8 → a ≡ acknowledged x l.0 → d ≡ with_poll a false
+  pub poll_low : (l : PicLine) → o ≡ Some l → l.0 < 8
+  poll_low l h = (pending_is_line (placed p x) l (sym e ∙ h)).1
+
+  pub poll_some : (l : PicLine) (a d : Chip) → o ≡ Some l → a ≡ acknowledged x l.0 → d ≡ with_poll a false
       → ◌≡◌ {A = Outcome Chip} (record { state = placed p d; reply = reply.One (0x80 + l.0) }) (poll_read (placed p x))
-  unfolding poll_read poll_shown polled asks acknowledged
-  poll_some a d h q r =
-      rw (sym e, lt-ltb l.0 8 h) (ap (λ (c : Chip). record { state = placed p c; reply = reply.One (0x80 + l.0) }) (r ∙ ap (λ (c : Chip). with_poll c false) q))
+  unfolding poll_read poll_shown polled acknowledged
+  poll_some l a d h q r =
+      rw ((pending_is_line (placed p x) l (sym e ∙ h)).0, sym (asked (placed p x)) ∙ ap is_some (sym e ∙ h)) (ap (λ (c : Chip). record { state = placed p c; reply = reply.One (0x80 + l.0) }) (r ∙ ap (λ (c : Chip). with_poll c false) q))

@@ -5,6 +5,7 @@ use Prim.Native.Nat.{ℕ, ◌*◌, ◌-◌, ◌/◌, ◌%◌, ◌^◌, ◌<◌, 
 use native.Mathlib.Omega.{arith}
 use native.Mathlib.Nat.{mod-lt, zero-div}
 use lib.Dec.{ltb, eqb}
+use Rattle.std.specs.Prelude.{Option, Some, None}
 use lib.Pow.{pow_pos}
 use borrow.Author.Tests.{ltb-true, ltb-false, lt-ltb, le-ltb, ne_eqb, eqb-true, eqb-false, not-true, not-false}
 use Rattle.vpic_priority.specs.Ring.{rank, above, first_rank, first_by}
@@ -20,10 +21,6 @@ use Rattle.types.specs.declared.Vector.{Vector}
 use Rattle.types.specs.declared.Reply.TheVariants as reply
 use Rattle.types.specs.Counters.{line_vector}
 use Rattle.types.specs.Reply.{Outcome}
-use Rattle.vpic_chip.specs.declared.PendingIrq.{PendingIrq}
-use Rattle.vpic_chip.specs.declared.PendingIrq.TheVariants.{Irq, Nothing}
-use Rattle.vpic_chip.specs.declared.PicVector.{PicVector}
-use Rattle.vpic_chip.specs.declared.PicVector.TheVariants.{Given, Nothing as NoVector}
 use Rattle.vpic_chip.proofs.Packing.{plain, service_less}
 use Rattle.vpic_chip.specs.Registers.{Chip, chip_in, with_base, with_request, with_in_service, with_step, with_auto_eoi, with_read_isr, with_nested}
 use Rattle.vpic_chip.specs.Chip.{lowest_by, first_of, is_above, is_above_all, turned, is_special, is_nested, blocks, blocks_line, auto_rotated, ocw2, ocw3, non_specific_eoi, specific_eoi, after_icw3, icw2, icw3, icw4, ocw1, fed, commanded, pulsed, counts, pending_line, Highest, pending_irq, pending_reply, asks, driven, acknowledged, acknowledge, unacknowledged, vector_reply}
@@ -160,11 +157,11 @@ plain_pending : (c : Chip) (n : ℕ) → c.full ≡ false → n ≡ set_of 8 (co
 unfolding pending_line
 plain_pending c n f e = ap (lowest 8) e ∙ lowest_set_of 8 (counts c) ∙ sym (plain_first c f (counts c))
 
-pub pending_none : (c : Chip) (n : ℕ) (l : PicLine) → c.full ≡ false → n ≡ set_of 8 (counts c) → l.0 ≡ lowest 8 n → 8 ≤ l.0 → Nothing ≡ pending_irq c
+pub pending_none : (c : Chip) (n : ℕ) (l : PicLine) → c.full ≡ false → n ≡ set_of 8 (counts c) → l.0 ≡ lowest 8 n → 8 ≤ l.0 → None ≡ pending_irq c
 unfolding pending_irq
 pending_none c n l f en el h = let e : pending_line c ≡ l.0 = sym (el ∙ plain_pending c n f en) in rw (e, le-ltb l.0 8 h)
 
-pub pending_some : (c : Chip) (n : ℕ) (l : PicLine) → c.full ≡ false → n ≡ set_of 8 (counts c) → l.0 ≡ lowest 8 n → l.0 < 8 → Irq l ≡ pending_irq c
+pub pending_some : (c : Chip) (n : ℕ) (l : PicLine) → c.full ≡ false → n ≡ set_of 8 (counts c) → l.0 ≡ lowest 8 n → l.0 < 8 → Some l ≡ pending_irq c
 unfolding pending_irq
 pending_some c n l f en el h = let e : pending_line c ≡ l.0 = sym (el ∙ plain_pending c n f en) in rw (e, lt-ltb l.0 8 h)
 
@@ -196,11 +193,11 @@ asks_none c n e z =
 -- ---- what is pending
 
 -- a pending line is the line that the search found, one of eight
-pub pending_is_line : (c : Chip) (k : PicLine) → pending_irq c ≡ Irq k → (pending_line c ≡ k.0) × (k.0 < 8)
+pub pending_is_line : (c : Chip) (k : PicLine) → pending_irq c ≡ Some k → (pending_line c ≡ k.0) × (k.0 < 8)
 unfolding pending_irq
 pending_is_line c k e = go (ltb (pending_line c) 8) refl e
   where
-    go : (b : Bool) → ltb (pending_line c) 8 ≡ b → cond b (Irq (record { 0 = pending_line c })) Nothing ≡ Irq k → (pending_line c ≡ k.0) × (k.0 < 8)
+    go : (b : Bool) → ltb (pending_line c) 8 ≡ b → cond b (Some (record { 0 = pending_line c })) None ≡ Some k → (pending_line c ≡ k.0) × (k.0 < 8)
     go true h q =
         let s : ◌≡◌ {A = PicLine} (record { 0 = pending_line c }) k = cc in
         let d : pending_line c ≡ k.0 = ap (λ (x : PicLine). x.0) s in
@@ -208,7 +205,7 @@ pending_is_line c k e = go (ltb (pending_line c) 8) refl e
     go false h q = let z : ◌≡◌ {A = ℕ} 0 1 = cc in absurd (omega arith)
 
 -- it is the highest that counts
-pub pended : (c : Chip) (k : PicLine) → pending_irq c ≡ Irq k → Highest c k.0
+pub pended : (c : Chip) (k : PicLine) → pending_irq c ≡ Some k → Highest c k.0
 unfolding pending_line above
 pended c k e =
     let is : (pending_line c ≡ k.0) × (k.0 < 8) = pending_is_line c k e in
@@ -329,17 +326,17 @@ module _ (c : Chip) (k : ℕ) (h : Highest c k) (a : c.auto_eoi ≡ false) where
   quiet_taken = asks_not (acknowledged c k) none_left
 
 -- an answer is known by its reply
-pub pending_reply_same : (a b : PendingIrq) → pending_reply a ≡ pending_reply b → a ≡ b
-pending_reply_same (Irq l) (Irq m) e = let k : l.0 ≡ m.0 = cc in ap (λ (n : ℕ). Irq (record { 0 = n })) k
-pending_reply_same (Irq l) Nothing e = let z : ◌≡◌ {A = ℕ} 0 1 = cc in absurd (omega arith)
-pending_reply_same Nothing (Irq m) e = let z : ◌≡◌ {A = ℕ} 0 1 = cc in absurd (omega arith)
-pending_reply_same Nothing Nothing e = refl
+pub pending_reply_same : (a b : Option PicLine) → pending_reply a ≡ pending_reply b → a ≡ b
+pending_reply_same (Some l) (Some m) e = let k : l.0 ≡ m.0 = cc in ap (λ (n : ℕ). Some (record { 0 = n })) k
+pending_reply_same (Some l) None e = let z : ◌≡◌ {A = ℕ} 0 1 = cc in absurd (omega arith)
+pending_reply_same None (Some m) e = let z : ◌≡◌ {A = ℕ} 0 1 = cc in absurd (omega arith)
+pending_reply_same None None e = refl
 
-pub vector_reply_same : (a b : PicVector) → vector_reply a ≡ vector_reply b → a ≡ b
-vector_reply_same (Given v) (Given w) e = let k : v.0 ≡ w.0 = cc in ap (λ (n : ℕ). Given (record { 0 = n })) k
-vector_reply_same (Given v) NoVector e = let z : ◌≡◌ {A = ℕ} 0 1 = cc in absurd (omega arith)
-vector_reply_same NoVector (Given w) e = let z : ◌≡◌ {A = ℕ} 0 1 = cc in absurd (omega arith)
-vector_reply_same NoVector NoVector e = refl
+pub vector_reply_same : (a b : Option Vector) → vector_reply a ≡ vector_reply b → a ≡ b
+vector_reply_same (Some v) (Some w) e = let k : v.0 ≡ w.0 = cc in ap (λ (n : ℕ). Some (record { 0 = n })) k
+vector_reply_same (Some v) None e = let z : ◌≡◌ {A = ℕ} 0 1 = cc in absurd (omega arith)
+vector_reply_same None (Some w) e = let z : ◌≡◌ {A = ℕ} 0 1 = cc in absurd (omega arith)
+vector_reply_same None None e = refl
 
 -- ---- a law for each way out
 

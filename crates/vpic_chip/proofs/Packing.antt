@@ -9,6 +9,7 @@ use lib.Dec.{eqb}
 use borrow.Author.Tests.{eqb-true, eqb-false}
 use Rattle.utils.specs.Set.{bit, with, without}
 use Rattle.utils.proofs.Laws.{bit_at_least, with_lt, without_le}
+use Rattle.std.specs.Int.{from_bool}
 use Rattle.types.specs.Reply.{flag}
 use Rattle.vpic_chip.specs.Registers.{Chip, registers, plain_registers, as_full, full_in, placed, with_base, with_mask, with_request, with_in_service, with_step, with_auto_eoi, with_read_isr, with_lowest, with_auto_rotation, with_special_mask, with_poll, with_nested, chip_in}
 use Rattle.vpic_chip.specs.Chip.{opened, icw1, specific_eoi, command_read}
@@ -32,9 +33,14 @@ pub plain : (w : ℕ) → (chip_in w).full ≡ false
 unfolding chip_in
 plain w = refl
 
-flag_back : (b : Bool) → eqb (flag b) 1 ≡ b
-flag_back true = refl
-flag_back false = refl
+-- a flag as a binary digit
+digit_back : (b : Bool) → eqb (from_bool b) 1 ≡ b
+digit_back true = refl
+digit_back false = refl
+
+digit_le : (b : Bool) → from_bool b ≤ 1
+digit_le true = omega arith
+digit_le false = omega arith
 
 pub base_put : (w v r : ℕ) → v < 2 ^ 8 → r ≡ w / 2 ^ 8 * 2 ^ 8 + v → chip_in r ≡ with_base (chip_in w) v
 unfolding chip_in
@@ -76,19 +82,21 @@ step_put w v r h e =
     parts r (w % 2 ^ 8) (byte w 8) (byte w 16) (byte w 24) v (digit w 40) (digit w 41) (digit w 42) (digit w 43) (w / 2 ^ 44)
     (omega arith) (omega arith) (omega arith) (omega arith) (omega arith) (omega arith) (omega arith) (omega arith) (omega arith) (omega arith)
 
-pub auto_put : (w v r : ℕ) (b : Bool) → v ≡ flag b → v ≤ 1 → r ≡ w / 2 ^ 43 * 2 ^ 43 + v * 2 ^ 42 + w % 2 ^ 42 → chip_in r ≡ with_auto_eoi (chip_in w) b
+pub auto_put : (w v r : ℕ) (b : Bool) → v ≡ from_bool b → r ≡ w / 2 ^ 43 * 2 ^ 43 + v * 2 ^ 42 + w % 2 ^ 42 → chip_in r ≡ with_auto_eoi (chip_in w) b
 unfolding chip_in
-auto_put w v r b f h e =
+auto_put w v r b f e =
+    let h : v ≤ 1 = omega (arith, f, digit_le b) in
     parts r (w % 2 ^ 8) (byte w 8) (byte w 16) (byte w 24) (byte w 32) (digit w 40) (digit w 41) v (digit w 43) (w / 2 ^ 44)
     (omega arith) (omega arith) (omega arith) (omega arith) (omega arith) (omega arith) (omega arith) (omega arith) (omega arith) (omega arith)
-    ∙ ap (with_auto_eoi (chip_in w)) (ap (λ (n : ℕ). eqb n 1) f ∙ flag_back b)
+    ∙ ap (with_auto_eoi (chip_in w)) (ap (λ (n : ℕ). eqb n 1) f ∙ digit_back b)
 
-pub read_put : (w v r : ℕ) (b : Bool) → v ≡ flag b → v ≤ 1 → r ≡ w / 2 ^ 44 * 2 ^ 44 + v * 2 ^ 43 + w % 2 ^ 43 → chip_in r ≡ with_read_isr (chip_in w) b
+pub read_put : (w v r : ℕ) (b : Bool) → v ≡ from_bool b → r ≡ w / 2 ^ 44 * 2 ^ 44 + v * 2 ^ 43 + w % 2 ^ 43 → chip_in r ≡ with_read_isr (chip_in w) b
 unfolding chip_in
-read_put w v r b f h e =
+read_put w v r b f e =
+    let h : v ≤ 1 = omega (arith, f, digit_le b) in
     parts r (w % 2 ^ 8) (byte w 8) (byte w 16) (byte w 24) (byte w 32) (digit w 40) (digit w 41) (digit w 42) v (w / 2 ^ 44)
     (omega arith) (omega arith) (omega arith) (omega arith) (omega arith) (omega arith) (omega arith) (omega arith) (omega arith) (omega arith)
-    ∙ ap (with_read_isr (chip_in w)) (ap (λ (n : ℕ). eqb n 1) f ∙ flag_back b)
+    ∙ ap (with_read_isr (chip_in w)) (ap (λ (n : ℕ). eqb n 1) f ∙ digit_back b)
 
 pub new_put : (v r : ℕ) → v < 2 ^ 8 → r ≡ v + 0xff00 → chip_in r ≡ opened v
 unfolding opened
@@ -289,9 +297,12 @@ lowest_put w v r h e =
     full_put w r (y / 8 * 8 + (v + 1) % 8) v (digit y 3) (digit y 4) (digit y 5) (digit y 6) (omega (arith, div-div-eq-div-mul w (2 ^ 44) 8)) (order_digits y v h)
 
 -- one of its flags is put
-module _ (w v r : ℕ) (b : Bool) (f : v ≡ flag b) (h : v ≤ 1) where
+module _ (w v r : ℕ) (b : Bool) (f : v ≡ from_bool b) where
+  h : v ≤ 1
+  h = omega (arith, f, digit_le b)
+
   put : eqb v 1 ≡ b
-  put = ap (λ (n : ℕ). eqb n 1) f ∙ flag_back b
+  put = ap (λ (n : ℕ). eqb n 1) f ∙ digit_back b
 
   pub rotation_put : r ≡ w / 2 ^ 48 * 2 ^ 48 + v * 2 ^ 47 + w % 2 ^ 47 → full_in r ≡ with_auto_rotation (full_in w) b
   unfolding chip_in

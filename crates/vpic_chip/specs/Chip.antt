@@ -1,20 +1,16 @@
 -- One 8259A chip: initialization command words ICW1 to ICW4, operation command words OCW1 to OCW3, fully nested mode, special fully nested mode, special mask mode, end of
 -- interrupt, automatic end of interrupt mode, automatic and specific rotation, reading the 8259A status, poll command. A set of the chip's eight lines is a number (`Rattle.utils.specs.Set`).
 -- Departures from the data sheet are marked D-nn and stand in docs/DIFFERENCES.md.
-use Rattle.std.specs.Prelude.{ℕ, ◌+◌, ◌*◌, ◌/◌, ◌%◌, ◌<◌, Bool, true, false, not, cond, ◌&&◌, ◌||◌, ◌≡◌, ltb, eqb}
+use Rattle.std.specs.Prelude.{ℕ, ◌+◌, ◌*◌, ◌/◌, ◌%◌, ◌<◌, Bool, true, false, not, cond, ◌&&◌, ◌||◌, ◌≡◌, ltb, eqb, Option, Some, None}
 use Rattle.utils.specs.Set.{bit, with, without}
 use Rattle.vpic_priority.specs.Ring.{rank, above, first_rank, first_by}
 use Rattle.types.specs.declared.PicLine.{PicLine}
+use Rattle.types.specs.declared.Vector.{Vector}
 use Rattle.types.specs.declared.Reply.{Reply}
 use Rattle.types.specs.declared.Reply.TheVariants as reply
 use Rattle.types.specs.Counters.{line_vector}
 use Rattle.types.specs.Reply.{Outcome}
-use Rattle.vpic_chip.specs.declared.PendingIrq.{PendingIrq}
-use Rattle.vpic_chip.specs.declared.PendingIrq.TheVariants.{Irq, Nothing}
-use Rattle.vpic_chip.specs.declared.PicVector.{PicVector}
-use Rattle.vpic_chip.specs.declared.PicVector.TheVariants.{Given, Nothing as NoVector}
-use Rattle.vpic_chip.specs.declared.Acknowledged.{Acknowledged}
-use Rattle.vpic_chip.specs.declared.Polled.{Polled}
+use Rattle.vpic_chip.specs.declared.PicChip.{PicChip}
 use Rattle.vpic_chip.specs.Registers.{Chip, chip, with_base, with_mask, with_request, with_in_service, with_step, with_auto_eoi, with_read_isr, with_lowest, with_auto_rotation, with_special_mask, with_poll, with_nested, chip_in, full_in, placed}
 
 -- a new chip (the data sheet says nothing of a chip before its ICW1): every line masked. D-17: any base byte, not only multiples of 8
@@ -188,30 +184,30 @@ asks c = ltb (pending_line c) 8
 unfoldable pub driven : Chip → ℕ → Bool → Chip
 driven c k up = with_request c (cond up (with c.request k) (without c.request k))
 
-abbrev pub irq_of : ℕ → PendingIrq
-irq_of k = cond (ltb k 8) (Irq (record { 0 = k })) Nothing
+abbrev pub irq_of : ℕ → Option PicLine
+irq_of k = cond (ltb k 8) (Some (record { 0 = k })) None
 
-unfoldable pub pending_irq : Chip → PendingIrq
+unfoldable pub pending_irq : Chip → Option PicLine
 pending_irq c = irq_of (pending_line c)
 
-abbrev pub pending_reply : PendingIrq → Reply
-pending_reply (Irq l) = reply.One l.0
-pending_reply Nothing = reply.Nothing
+abbrev pub pending_reply : Option PicLine → Reply
+pending_reply (Some l) = reply.One l.0
+pending_reply None = reply.Nothing
 
 -- the interrupt acknowledge sequence on one chip: the request goes, and the line is in service unless in automatic EOI mode, in which it may become lowest
 unfoldable pub acknowledged : Chip → ℕ → Chip
 acknowledged c k =
     turned (with_in_service (with_request c (without c.request k)) (cond c.auto_eoi c.in_service (with c.in_service k))) (c.auto_eoi && c.auto_rotation) k
 
-abbrev pub vector_reply : PicVector → Reply
-vector_reply (Given v) = reply.One v.0
-vector_reply NoVector = reply.Nothing
+abbrev pub vector_reply : Option Vector → Reply
+vector_reply (Some v) = reply.One v.0
+vector_reply None = reply.Nothing
 
-abbrev pub acknowledge_outcome : Acknowledged → Outcome Chip
-acknowledge_outcome r = record { state = chip_in r.chip.0; reply = vector_reply r.vector }
+abbrev pub acknowledge_outcome : PicChip × Option Vector → Outcome Chip
+acknowledge_outcome r = record { state = chip_in r.0.0; reply = vector_reply r.1 }
 
-abbrev pub full_outcome : Acknowledged → Outcome Chip
-full_outcome r = record { state = full_in r.chip.0; reply = vector_reply r.vector }
+abbrev pub full_outcome : PicChip × Option Vector → Outcome Chip
+full_outcome r = record { state = full_in r.0.0; reply = vector_reply r.1 }
 
 -- with the vector, base plus line modulo 256; nothing for a line that a chip doesn't have
 unfoldable pub acknowledge : Chip → PicLine → Outcome Chip
@@ -240,8 +236,8 @@ polled c = with_poll (cond (asks c) (acknowledged c (pending_line c)) c) false
 unfoldable pub read_shown : Chip → ℕ → ℕ
 read_shown c register = cond (is_polled c) (poll_shown c) register
 
-abbrev pub poll_outcome : Bool → Polled → Outcome Chip
-poll_outcome cascades r = record { state = placed cascades (full_in r.chip.0); reply = reply.One r.shown }
+abbrev pub poll_outcome : Bool → PicChip × ℕ → Outcome Chip
+poll_outcome cascades r = record { state = placed cascades (full_in r.0.0); reply = reply.One r.1 }
 
 unfoldable pub poll_read : Chip → Outcome Chip
 poll_read c = record { state = polled c; reply = reply.One (poll_shown c) }

@@ -2,74 +2,24 @@
 //
 // Changed: one 8259 chip, `PicChip`, has a crate of its own, and its fields are registers of one word, so that a chip is the same by value and in the words that a caller
 // lends; methods take the chip by value and hand it back; ICWs and OCWs became functions of their own; a line is a `PicLine`, and one that a chip doesn't have changes
-// nothing; `Option` became enums; each function has its contract. A set of the chip's eight lines is a byte.
+// nothing; each function has its contract. A set of the chip's eight lines is a byte.
 
 #![tactic(auto)]
 
-ghost use Rattle.std.specs.Prelude.{◌≡◌, false, cond, ◌||◌, ◌<◌, ◌≤◌, eqb};
+ghost use Rattle.std.specs.Prelude.{◌≡◌, false, cond, ◌||◌, ◌<◌, eqb};
 ghost use Rattle.utils.specs.Set.{bit, with, without, set_of, lowest};
-ghost use Rattle.types.specs.Reply.{flag};
 ghost use Rattle.vpic_chip.specs.Registers.{with_base, with_mask, with_request, with_in_service, with_step, with_auto_eoi, with_read_isr, with_lowest, with_auto_rotation, with_special_mask, with_poll, with_nested, chip_in, full_in, placed};
-ghost use Rattle.vpic_chip.specs.Chip.{turned, blocks, blocks_line, opened, icw1, ocw3, specific_eoi, non_specific_eoi, ocw2, commanded, after_icw3, icw2, icw3, icw4, ocw1, fed, command_read, pulsed, cascade_irq, counts, pending_line, asks, driven, pending_irq, acknowledged, acknowledge, acknowledge_outcome, full_outcome, vector_reply, unacknowledged, poll_outcome, poll_read};
+ghost use Rattle.vpic_chip.specs.Chip.{turned, blocks, blocks_line, opened, icw1, ocw3, specific_eoi, non_specific_eoi, ocw2, commanded, after_icw3, icw2, icw3, icw4, ocw1, fed, command_read, pulsed, cascade_irq, counts, asks, driven, pending_irq, acknowledged, acknowledge, acknowledge_outcome, full_outcome, unacknowledged, poll_outcome, poll_read};
 
-use types::{PicLine, Reply, Vector};
+use types::{PicLine, Vector};
 use utils::{set8, set64};
 
 // The master's line that the slave's output drives.
 pub const CASCADE_IRQ: u8 = 2;
 
 // A chip: specs/Registers.antt says which registers the word holds. None but the accessors and setters look into it.
-#[derive(Clone, Copy)]
+#[derive(Clone, Copy, Debug, PartialEq, Eq, Hash)]
 pub struct PicChip(pub u64);
-
-// The line whose request counts.
-#[derive(Clone, Copy)]
-pub enum PendingIrq {
-    Irq(PicLine),
-    Nothing,
-}
-
-// The vector that a chip or the pair gives.
-#[derive(Clone, Copy)]
-pub enum PicVector {
-    Given(Vector),
-    Nothing,
-}
-
-// A chip after an acknowledgement, and the vector that it gave.
-#[derive(Clone, Copy)]
-pub struct Acknowledged {
-    pub chip: PicChip,
-    pub vector: PicVector,
-}
-
-// A chip after a poll was read, and what the read showed.
-#[derive(Clone, Copy)]
-pub struct Polled {
-    pub chip: PicChip,
-    pub shown: u8,
-}
-
-impl PicVector {
-    pub fn reply(self) -> Reply
-        ensures { result ≡ vector_reply self }
-    {
-        match self {
-            PicVector::Given(vector) => Reply::One(vector.0 as u64),
-            PicVector::Nothing => Reply::Nothing,
-        }
-    }
-}
-
-// A flag as a binary digit.
-pub fn digit(up: bool) -> u64
-    ensures { (result ≡ flag up) × (result ≤ 1) }
-{
-    if up {
-        return 1;
-    }
-    0
-}
 
 // ---- The registers.
 
@@ -172,7 +122,7 @@ impl PicChip {
     {
         PicChip(
             self.0 / 0x800_0000_0000 * 0x800_0000_0000
-                + digit(up) * 0x400_0000_0000
+                + u64::from(up) * 0x400_0000_0000
                 + self.0 % 0x400_0000_0000,
         )
     }
@@ -182,7 +132,7 @@ impl PicChip {
     {
         PicChip(
             self.0 / 0x1000_0000_0000 * 0x1000_0000_0000
-                + digit(up) * 0x800_0000_0000
+                + u64::from(up) * 0x800_0000_0000
                 + self.0 % 0x800_0000_0000,
         )
     }
@@ -374,15 +324,15 @@ impl PicChip {
         set8::below_lowest(open, self.in_service())
     }
 
-    // The request that would be acknowledged next.
-    pub fn pending_irq(self) -> PendingIrq
+    // The line whose request would be acknowledged next.
+    pub fn pending_irq(self) -> Option<PicLine>
         ensures { result ≡ pending_irq (chip_in self.0) }
     {
         let irq = highest_priority(self.waiting());
         if irq.0 < 8 {
-            return PendingIrq::Irq(irq);
+            return Some(irq);
         }
-        PendingIrq::Nothing
+        None
     }
 
     // The output, INT: whether a request counts.
@@ -402,21 +352,15 @@ impl PicChip {
         self.unrequested(PicLine(CASCADE_IRQ))
     }
 
-    // The interrupt acknowledge sequence of a line, with its vector.
-    pub fn acknowledge(self, irq: PicLine) -> Acknowledged
+    // The interrupt acknowledge sequence of a line: the chip after it, and the vector that it gave.
+    pub fn acknowledge(self, irq: PicLine) -> (Self, Option<Vector>)
         ensures { acknowledge_outcome result ≡ acknowledge (chip_in self.0) irq }
     {
         if irq.0 >= 8 {
-            return Acknowledged {
-                chip: self,
-                vector: PicVector::Nothing,
-            };
+            return (self, None);
         }
         let vector = irq.vector(self.vector_base());
-        Acknowledged {
-            chip: self.acknowledged(irq),
-            vector: PicVector::Given(vector),
-        }
+        (self.acknowledged(irq), Some(vector))
     }
 
     // The chip after its line was acknowledged.
@@ -497,7 +441,7 @@ impl PicChip {
     {
         PicChip(
             self.0 / 0x1_0000_0000_0000 * 0x1_0000_0000_0000
-                + digit(up) * 0x8000_0000_0000
+                + u64::from(up) * 0x8000_0000_0000
                 + self.0 % 0x8000_0000_0000,
         )
     }
@@ -507,7 +451,7 @@ impl PicChip {
     {
         PicChip(
             self.0 / 0x2_0000_0000_0000 * 0x2_0000_0000_0000
-                + digit(up) * 0x1_0000_0000_0000
+                + u64::from(up) * 0x1_0000_0000_0000
                 + self.0 % 0x1_0000_0000_0000,
         )
     }
@@ -517,7 +461,7 @@ impl PicChip {
     {
         PicChip(
             self.0 / 0x4_0000_0000_0000 * 0x4_0000_0000_0000
-                + digit(up) * 0x2_0000_0000_0000
+                + u64::from(up) * 0x2_0000_0000_0000
                 + self.0 % 0x2_0000_0000_0000,
         )
     }
@@ -527,7 +471,7 @@ impl PicChip {
     {
         PicChip(
             self.0 / 0x8_0000_0000_0000 * 0x8_0000_0000_0000
-                + digit(up) * 0x4_0000_0000_0000
+                + u64::from(up) * 0x4_0000_0000_0000
                 + self.0 % 0x4_0000_0000_0000,
         )
     }
@@ -681,58 +625,41 @@ impl PicChip {
         set8::without(all, CASCADE_IRQ)
     }
 
-    // The line whose request counts and is highest, or 8: the highest unmasked request, where it is above every line that is in its way. Where it isn't, no other is: what is
-    // in its way is in the way of those below it too.
-    fn full_pending_line(self, cascades: bool) -> PicLine
-        ensures { result.0 ≡ pending_line (placed cascades (full_in self.0)) }
+    // The line whose request would be acknowledged next, the highest that counts: the highest unmasked request, where it is above every line that is in its way. Where it isn't, no
+    // other is: what is in its way is in the way of those below it too.
+    pub fn full_pending_irq(self, cascades: bool) -> Option<PicLine>
+        ensures { result ≡ pending_irq (placed cascades (full_in self.0)) }
     {
         let open = set8::outside(self.request(), self.mask());
         // As mostly, and found at once: each search lays out its table.
         if open == 0 {
-            return PicLine(8);
+            return None;
         }
         let lowest = self.lowest_line();
         let asked = vpic_priority::first_line(lowest, open);
         let served = vpic_priority::first_line(lowest, self.blocking_line(cascades, asked));
         if vpic_priority::is_above(lowest, asked, served) {
-            return PicLine(asked);
+            return Some(PicLine(asked));
         }
-        PicLine(8)
-    }
-
-    // The request that would be acknowledged next.
-    pub fn full_pending_irq(self, cascades: bool) -> PendingIrq
-        ensures { result ≡ pending_irq (placed cascades (full_in self.0)) }
-    {
-        let irq = self.full_pending_line(cascades);
-        if irq.0 >= 8 {
-            return PendingIrq::Nothing;
-        }
-        PendingIrq::Irq(irq)
+        None
     }
 
     // The output, INT: whether a request counts.
     pub fn full_asks(self, cascades: bool) -> bool
         ensures { result ≡ asks (placed cascades (full_in self.0)) }
     {
-        self.full_pending_line(cascades).0 < 8
+        self.full_pending_irq(cascades).is_some()
     }
 
-    // The interrupt acknowledge sequence of a line, with its vector.
-    pub fn full_acknowledge(self, irq: PicLine) -> Acknowledged
+    // The interrupt acknowledge sequence of a line: the chip after it, and the vector that it gave.
+    pub fn full_acknowledge(self, irq: PicLine) -> (Self, Option<Vector>)
         ensures { full_outcome result ≡ acknowledge (full_in self.0) irq }
     {
         if irq.0 >= 8 {
-            return Acknowledged {
-                chip: self,
-                vector: PicVector::Nothing,
-            };
+            return (self, None);
         }
         let vector = irq.vector(self.vector_base());
-        Acknowledged {
-            chip: self.full_acknowledged(irq),
-            vector: PicVector::Given(vector),
-        }
+        (self.full_acknowledged(irq), Some(vector))
     }
 
     fn full_acknowledged(self, irq: PicLine) -> Self
@@ -749,22 +676,15 @@ impl PicChip {
         left
     }
 
-    // A poll's read: the line that counts is acknowledged, and shown with bit 7.
-    pub fn full_poll(self, cascades: bool) -> Polled
+    // A poll's read: the line that counts is acknowledged, and shown with bit 7. The chip after it, and what the read shows.
+    pub fn full_poll(self, cascades: bool) -> (Self, u8)
         ensures { poll_outcome cascades result ≡ poll_read (placed cascades (full_in self.0)) }
     {
-        let irq = self.full_pending_line(cascades);
-        if irq.0 >= 8 {
-            return Polled {
-                chip: self.with_poll(false),
-                shown: 0,
-            };
-        }
+        let Some(irq) = self.full_pending_irq(cascades) else {
+            return (self.with_poll(false), 0);
+        };
         let taken = self.full_acknowledged(irq);
-        Polled {
-            chip: taken.with_poll(false),
-            shown: 0x80 + irq.0,
-        }
+        (taken.with_poll(false), 0x80 + irq.0)
     }
 }
 

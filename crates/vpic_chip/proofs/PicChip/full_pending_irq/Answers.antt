@@ -1,8 +1,11 @@
-use Rattle.vpic_chip.proofs.Full.{full_irq_none, full_irq_some}
+use Rattle.vpic_chip.proofs.Full.{full_empty, full_some, full_none}
 use Rattle.vpic_chip.proofs.PicChip.full_pending_irq.Goals as goal
 
-pub returns-then-irq-ge8 : goal.returns-then-irq-ge8
-returns-then-irq-ge8 c = search full_irq_none
+pub returns-then-open-eq0 : goal.returns-then-open-eq0
+returns-then-open-eq0 c = search full_empty
+
+pub returns-then-is_above : goal.returns-then-is_above
+returns-then-is_above c = search full_some
 
 pub returns : goal.returns
-returns c = search full_irq_some
+returns c = search full_none

@@ -1,8 +1,15 @@
-use Rattle.vpic_chip.proofs.Full.{poll_none, poll_some}
+use native.Mathlib.Omega.{arith}
+use Rattle.vpic_chip.proofs.Full.{poll_none, poll_low, poll_some}
 use Rattle.vpic_chip.proofs.PicChip.full_poll.Goals as goal
 
-pub returns-then-irq-ge8 : goal.returns-then-irq-ge8
-returns-then-irq-ge8 c = search poll_none
+pub returns-in_default : goal.returns-in_default
+returns-in_default c = search poll_none
+
+pub full_acknowledged-taken-requires : goal.full_acknowledged-taken-requires
+full_acknowledged-taken-requires c = search poll_low
+
+pub overflow_add-result : goal.overflow_add-result
+overflow_add-result c = omega (arith, poll_low c.args.cascades _ _ c.full_pending_irq.ensures _ c.in-Some.is)
 
 pub returns : goal.returns
 returns c = search poll_some
