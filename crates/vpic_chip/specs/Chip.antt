@@ -9,7 +9,7 @@ use Rattle.types.specs.declared.Vector.{Vector}
 use Rattle.types.specs.declared.Reply.{Reply}
 use Rattle.types.specs.declared.Reply.TheVariants as reply
 use Rattle.types.specs.Counters.{line_vector}
-use Rattle.types.specs.Reply.{Outcome}
+use Rattle.types.specs.Reply.{Outcome, option_reply, vector_reply as given_reply}
 use Rattle.vpic_chip.specs.declared.PicChip.{PicChip}
 use Rattle.vpic_chip.specs.Registers.{Chip, chip, with_base, with_mask, with_request, with_in_service, with_step, with_auto_eoi, with_read_isr, with_lowest, with_auto_rotation, with_special_mask, with_poll, with_nested, chip_in, full_in, placed}
 
@@ -199,9 +199,9 @@ unfoldable pub acknowledged : Chip → ℕ → Chip
 acknowledged c k =
     turned (with_in_service (with_request c (without c.request k)) (cond c.auto_eoi c.in_service (with c.in_service k))) (c.auto_eoi && c.auto_rotation) k
 
+-- the vector that a chip gave, or nothing
 abbrev pub vector_reply : Option Vector → Reply
-vector_reply (Some v) = reply.One v.0
-vector_reply None = reply.Nothing
+vector_reply = option_reply given_reply
 
 abbrev pub acknowledge_outcome : PicChip × Option Vector → Outcome Chip
 acknowledge_outcome r = record { state = chip_in r.0.0; reply = vector_reply r.1 }
