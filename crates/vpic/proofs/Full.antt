@@ -1,4 +1,5 @@
 -- The full profile's road, and where it and the other come together in a public call: p, q are pairs, and l, m the words before and after. Assumes nothing.
+use Rattle.std.proofs.Common.{Option, Some, None, Result, Ok, Err}
 use mathlib.Core.Path.{◌≡◌, refl, sym, ap, ap₂, ◌∙◌}
 use mathlib.Core.Bool.{Bool, true, false, not, cond}
 use mathlib.Core.List.{List, [], ◌∷◌}
@@ -8,22 +9,17 @@ use lib.Dec.{ltb, eqb}
 use lib.ListN.{set, length, get_or}
 use borrow.Author.Tests.{lt-ltb, ne_eqb, not-true, not-false}
 use Rattle.utils.proofs.Bools.{both}
+use Rattle.types.specs.declared.Refusal.{Refusal}
+use Rattle.types.specs.declared.Vector.{Vector}
 use Rattle.types.specs.declared.PicLine.{PicLine}
 use Rattle.types.specs.declared.PicPlace.{PicPlace}
-use Rattle.types.specs.declared.PicPlace.TheVariants.{Master, Slave, Nowhere}
+use Rattle.types.specs.declared.PicPlace.TheVariants.{Master, Slave}
 use Rattle.types.specs.declared.Refusal.TheVariants.{Unsupported}
 use Rattle.types.specs.Counters.{place_of}
-use Rattle.vpic_chip.specs.declared.PicVector.{PicVector}
-use Rattle.vpic_chip.specs.declared.PicVector.TheVariants.{Nothing as NoVector}
 use Rattle.vpic_chip.specs.Registers.{Chip, chip_in, full_in, placed}
 use Rattle.types.specs.Reply.{Outcome}
 use Rattle.vpic_chip.specs.Chip.{asks, driven, acknowledged, is_polled, polled, command_read}
 use Rattle.vpic.specs.declared.PicInterruptClaim.{PicInterruptClaim}
-use Rattle.vpic.specs.declared.PicClaim.{PicClaim}
-use Rattle.vpic.specs.declared.PicClaim.TheVariants.{Nothing as NoClaim}
-use Rattle.vpic.specs.declared.PicValue.{PicValue}
-use Rattle.vpic.specs.declared.PicValue.TheVariants.{Value, Refused as NotRead}
-use Rattle.vpic.specs.declared.PicDone.TheVariants.{Done, Refused}
 use Rattle.vpic.specs.Words.{PicState, is_full, plain_view, full_view, view}
 use Rattle.vpic.specs.Pair.{is_cascade, chips, settled, latched_at, latched, StateClaim, state_claim, master_claim, slave_claim, pending_place, claim_at, claim_pending, claim_irq, restored_at, restored, restore_interrupt, Port, master_command, master_data, slave_command, slave_data, no_port, port_at, is_there, written_to, Written, written_at, is_port, master_read, slave_read, left_after, port_read, port_left, port_written, value_reply, handle_read, handle_write, claim_vector, with_claim, with_vector, claim_outcome, vector_outcome, done_outcome, value_outcome}
 use Rattle.vpic.specs.Claim.{claim_in, claim_number, numbered, with_number, master_taken, slave_taken, is_quiet, port_outcome, byte_shown, plain_shown}
@@ -56,21 +52,23 @@ module _ (l : List ℕ) (b : Bool) (e : b ≡ is_cascade (plain_view l)) where
   full_settle_on q s m d up n es eu em ed eq = settle_on (full_view l) q s m d b up (e ∙ same_rule l) n es eu em ed eq
 
 -- a claim, settled
-module _ (p q r : PicState) (a : PicPlace) (k : PicLine) (c : PicClaim) (ea : a ≡ pending_place p) (er : r ≡ settled q) where
-  pub full_claim_master : a ≡ Master k → state_claim q c ≡ master_taken p k → state_claim r c ≡ claim_pending p
+module _ (p q r : PicState) (a : Option PicPlace) (k : PicLine) (c : Option PicInterruptClaim) (ea : a ≡ pending_place p) (er : r ≡ settled q) where
+  pub full_claim_master : (y : PicPlace) → a ≡ Some y → y ≡ Master k → state_claim q c ≡ master_taken p k → state_claim r c ≡ claim_pending p
   unfolding master_claim
-  full_claim_master h e =
-      ap (λ (x : PicState). state_claim x c) er ∙ ap (λ (x : StateClaim). state_claim (settled x.state) x.claim) e ∙ claim_known p (Master k) (sym ea ∙ h)
+  full_claim_master y ay ey e =
+      let h : a ≡ Some (Master k) = ay ∙ ap Some ey in
+      ap (λ (x : PicState). state_claim x c) er ∙ ap (λ (x : StateClaim). state_claim (settled x.state) x.claim) e ∙ claim_known p (Some (Master k)) (sym ea ∙ h)
 
-  pub full_claim_slave : a ≡ Slave k → state_claim q c ≡ slave_taken p k → state_claim r c ≡ claim_pending p
+  pub full_claim_slave : (y : PicPlace) → a ≡ Some y → y ≡ Slave k → state_claim q c ≡ slave_taken p k → state_claim r c ≡ claim_pending p
   unfolding slave_claim
-  full_claim_slave h e =
-      ap (λ (x : PicState). state_claim x c) er ∙ ap (λ (x : StateClaim). state_claim (settled x.state) x.claim) e ∙ claim_known p (Slave k) (sym ea ∙ h)
+  full_claim_slave y ay ey e =
+      let h : a ≡ Some (Slave k) = ay ∙ ap Some ey in
+      ap (λ (x : PicState). state_claim x c) er ∙ ap (λ (x : StateClaim). state_claim (settled x.state) x.claim) e ∙ claim_known p (Some (Slave k)) (sym ea ∙ h)
 
-pub full_claim_none : (p r : PicState) (a : PicPlace) → a ≡ pending_place p → a ≡ Nowhere → r ≡ settled p → state_claim r NoClaim ≡ claim_pending p
-full_claim_none p r a ea h er = ap (λ (x : PicState). state_claim x NoClaim) er ∙ claim_known p Nowhere (sym ea ∙ h)
+pub full_claim_none : (p r : PicState) (a : Option PicPlace) → a ≡ pending_place p → a ≡ None → r ≡ settled p → state_claim r None ≡ claim_pending p
+full_claim_none p r a ea h er = ap (λ (x : PicState). state_claim x None) er ∙ claim_known p None (sym ea ∙ h)
 
-pub full_restored : (p q r : PicState) (x : PicPlace) (f g : Bool) → q ≡ restored_at p x f g → r ≡ settled q → r ≡ settled (restored_at p x f g)
+pub full_restored : (p q r : PicState) (x : Option PicPlace) (f g : Bool) → q ≡ restored_at p x f g → r ≡ settled q → r ≡ settled (restored_at p x f g)
 full_restored p q r x f g eq er = er ∙ ap settled eq
 
 -- ---- no call changes the rule
@@ -83,28 +81,28 @@ claim_rule : (p : PicState) → (claim_pending p).state.rule ≡ p.rule
 unfolding master_claim slave_claim
 claim_rule p = sym (ap (λ (x : StateClaim). x.state.rule) (claim_known p (pending_place p) refl)) ∙ go (pending_place p)
   where
-    go : (a : PicPlace) → (claim_at p a).state.rule ≡ p.rule
-    go (Master k) = settled_rule (chips p (acknowledged p.master k.0) p.slave)
-    go (Slave k) = settled_rule (chips p (acknowledged p.master 2) (acknowledged p.slave k.0))
-    go Nowhere = settled_rule p
+    go : (a : Option PicPlace) → (claim_at p a).state.rule ≡ p.rule
+    go (Some (Master k)) = settled_rule (chips p (acknowledged p.master k.0) p.slave)
+    go (Some (Slave k)) = settled_rule (chips p (acknowledged p.master 2) (acknowledged p.slave k.0))
+    go None = settled_rule p
 
 raise_rule : (l : PicLine) (p : PicState) → (claim_irq p l).state.rule ≡ p.rule
 unfolding claim_irq latched
 raise_rule l p = both (λ (r : StateClaim). r.state.rule ≡ p.rule) (ltb l.0 16) _ _ (claim_rule (latched p l) ∙ settled_rule (latched_at p (place_of l)) ∙ go (place_of l)) refl
   where
-    go : (a : PicPlace) → (latched_at p a).rule ≡ p.rule
-    go (Master k) = refl
-    go (Slave k) = refl
-    go Nowhere = refl
+    go : (a : Option PicPlace) → (latched_at p a).rule ≡ p.rule
+    go (Some (Master k)) = refl
+    go (Some (Slave k)) = refl
+    go None = refl
 
 restored_rule : (c : PicInterruptClaim) (p : PicState) → (restored p c).rule ≡ p.rule
 unfolding restored
 restored_rule c p = settled_rule (restored_at p (place_of c.irq) c.master_in_service c.slave_in_service) ∙ go (place_of c.irq)
   where
-    go : (a : PicPlace) → (restored_at p a c.master_in_service c.slave_in_service).rule ≡ p.rule
-    go (Master k) = refl
-    go (Slave k) = refl
-    go Nowhere = refl
+    go : (a : Option PicPlace) → (restored_at p a c.master_in_service c.slave_in_service).rule ≡ p.rule
+    go (Some (Master k)) = refl
+    go (Some (Slave k)) = refl
+    go None = refl
 
 written_rule : (port byte : ℕ) (p : PicState) → (port_written p port byte).rule ≡ p.rule
 unfolding port_written written_at
@@ -146,7 +144,7 @@ module _ (l m : List ℕ) (f : PicState → PicState) (keeps : (p : PicState) �
       let r : (view m).rule ≡ (view l).rule = sym (full_rule m) ∙ ap (λ (p : PicState). p.rule) q ∙ keeps (full_view l) ∙ full_rule l in
       view_full m (ap is_full r ∙ e) ∙ q ∙ ap f (sym (view_full l e))
 
-module _ (l m : List ℕ) (c : PicClaim) (f : PicState → StateClaim) (keeps : (p : PicState) → (f p).state.rule ≡ p.rule) where
+module _ (l m : List ℕ) (c : Option PicInterruptClaim) (f : PicState → StateClaim) (keeps : (p : PicState) → (f p).state.rule ≡ p.rule) where
   claim_plain : is_full (view l).rule ≡ false → state_claim (plain_view m) c ≡ f (plain_view l) → state_claim (view m) c ≡ f (view l)
   claim_plain e q =
       ap₂ state_claim (by_plain l m (λ p. (f p).state) keeps e (ap (λ (x : StateClaim). x.state) q)) (ap (λ (x : StateClaim). x.claim) q ∙ ap (λ (p : PicState). (f p).claim) (sym (view_plain l e)))
@@ -156,17 +154,17 @@ module _ (l m : List ℕ) (c : PicClaim) (f : PicState → StateClaim) (keeps : 
       ap₂ state_claim (by_full l m (λ p. (f p).state) keeps e (ap (λ (x : StateClaim). x.state) q)) (ap (λ (x : StateClaim). x.claim) q ∙ ap (λ (p : PicState). (f p).claim) (sym (view_full l e)))
 
 -- a claim, by either road
-module _ (l m : List ℕ) (b : Bool) (c d : PicClaim) (eb : b ≡ is_full (view l).rule) (e : d ≡ c) where
+module _ (l m : List ℕ) (b : Bool) (c d : Option PicInterruptClaim) (eb : b ≡ is_full (view l).rule) (e : d ≡ c) where
   pub irq_plain : (i : PicLine) → b ≡ false → state_claim (plain_view m) c ≡ claim_irq (plain_view l) i → claim_outcome (view m) d ≡ with_claim (claim_irq (view l) i)
   irq_plain i n h = irq_reply (view l) (view m) c d e i (claim_plain l m c (λ p. claim_irq p i) (raise_rule i) (sym eb ∙ n) h)
 
   pub irq_full : (i : PicLine) → b ≡ true → state_claim (full_view m) c ≡ claim_irq (full_view l) i → claim_outcome (view m) d ≡ with_claim (claim_irq (view l) i)
   irq_full i n h = irq_reply (view l) (view m) c d e i (claim_full l m c (λ p. claim_irq p i) (raise_rule i) (sym eb ∙ n) h)
 
-  pub pulse_plain : (i : PicLine) (v : PicVector) → b ≡ false → v ≡ claim_vector d → state_claim (plain_view m) c ≡ claim_irq (plain_view l) i → vector_outcome (view m) v ≡ with_vector (claim_irq (view l) i)
+  pub pulse_plain : (i : PicLine) (v : Option Vector) → b ≡ false → v ≡ claim_vector d → state_claim (plain_view m) c ≡ claim_irq (plain_view l) i → vector_outcome (view m) v ≡ with_vector (claim_irq (view l) i)
   pulse_plain i v n w h = irq_vector (view l) (view m) c d e i v w (claim_plain l m c (λ p. claim_irq p i) (raise_rule i) (sym eb ∙ n) h)
 
-  pub pulse_full : (i : PicLine) (v : PicVector) → b ≡ true → v ≡ claim_vector d → state_claim (full_view m) c ≡ claim_irq (full_view l) i → vector_outcome (view m) v ≡ with_vector (claim_irq (view l) i)
+  pub pulse_full : (i : PicLine) (v : Option Vector) → b ≡ true → v ≡ claim_vector d → state_claim (full_view m) c ≡ claim_irq (full_view l) i → vector_outcome (view m) v ≡ with_vector (claim_irq (view l) i)
   pulse_full i v n w h = irq_vector (view l) (view m) c d e i v w (claim_full l m c (λ p. claim_irq p i) (raise_rule i) (sym eb ∙ n) h)
 
 -- and its number
@@ -192,10 +190,10 @@ module _ (l m : List ℕ) (b a : Bool) (c : Chip) (eb : b ≡ is_full (view l).r
   pub open_unasked : state_claim (view m) (claim_in 0) ≡ claim_pending (view l)
   open_unasked = open_plain l m b 0 eb n (unasked (plain_view l) (plain_view m) c a ec ea u em)
 
-  pub unasked_vector : vector_outcome (view m) NoVector ≡ with_vector (claim_pending (view l))
+  pub unasked_vector : vector_outcome (view m) None ≡ with_vector (claim_pending (view l))
   unasked_vector = ap with_vector open_unasked
 
-pub next_plain : (l m : List ℕ) (b : Bool) (n : ℕ) (d : PicClaim) (v : PicVector) → b ≡ is_full (view l).rule → b ≡ false → d ≡ claim_in n → v ≡ claim_vector d
+pub next_plain : (l m : List ℕ) (b : Bool) (n : ℕ) (d : Option PicInterruptClaim) (v : Option Vector) → b ≡ is_full (view l).rule → b ≡ false → d ≡ claim_in n → v ≡ claim_vector d
     → state_claim (plain_view m) (claim_in n) ≡ claim_pending (plain_view l) → vector_outcome (view m) v ≡ with_vector (claim_pending (view l))
 next_plain l m b n d v eb f e w h = pending_vector (view l) (view m) (claim_in n) d e v w (open_plain l m b n eb f h)
 
@@ -210,54 +208,57 @@ same_quiet l = go (is_full (get_or l 2 0))
     go false = refl
 
 module _ (l : List ℕ) (q : Bool) (eq : q ≡ is_quiet (plain_view l)) (t : q ≡ true) where
-  pub quiet_reply : claim_outcome (view l) NoClaim ≡ with_claim (claim_pending (view l))
+  pub quiet_reply : claim_outcome (view l) None ≡ with_claim (claim_pending (view l))
   quiet_reply = ap with_claim (quiet (view l) q (eq ∙ same_quiet l) t)
 
   pub quiet_number : numbered (view l) 0 ≡ with_number (claim_pending (view l))
   quiet_number = ap with_number (quiet (view l) q (eq ∙ same_quiet l) t)
 
-  pub quiet_vector : vector_outcome (view l) NoVector ≡ with_vector (claim_pending (view l))
+  pub quiet_vector : vector_outcome (view l) None ≡ with_vector (claim_pending (view l))
   quiet_vector = ap with_vector (quiet (view l) q (eq ∙ same_quiet l) t)
 
 -- a claim restored, by either road
-module _ (l m : List ℕ) (b : Bool) (c : PicInterruptClaim) (h : c.irq.0 < 16) (eb : b ≡ is_full (view l).rule) where
-  pub restore_plain : (q : PicState) (x : PicPlace) → b ≡ false → x ≡ place_of c.irq → q ≡ restored_at (plain_view l) x c.master_in_service c.slave_in_service → plain_view m ≡ settled q
-      → done_outcome (view m) Done ≡ restore_interrupt (view l) c
-  restore_plain q x n ex eq em = restore_done (view l) (view m) c h (by_plain l m (λ p. restored p c) (restored_rule c) (sym eb ∙ n) (restore_way (plain_view l) q (plain_view m) c x ex eq em))
+module _ (l m : List ℕ) (b : Bool) (c : PicInterruptClaim) (o : Option PicPlace) (x : PicPlace) (eo : o ≡ place_of c.irq) (ex : o ≡ Some x) (eb : b ≡ is_full (view l).rule) where
+  pub restore_plain : (q : PicState) → b ≡ false → q ≡ restored_at (plain_view l) (Some x) c.master_in_service c.slave_in_service → plain_view m ≡ settled q
+      → done_outcome (view m) (Ok tt) ≡ restore_interrupt (view l) c
+  restore_plain q n eq em =
+      restore_done (view l) c o eo (view m) x ex (by_plain l m (λ p. restored p c) (restored_rule c) (sym eb ∙ n) (restore_way (plain_view l) c o eo q (plain_view m) x ex eq em))
 
-  pub restore_full : (x : PicPlace) → b ≡ true → x ≡ place_of c.irq → full_view m ≡ settled (restored_at (full_view l) x c.master_in_service c.slave_in_service)
-      → done_outcome (view m) Done ≡ restore_interrupt (view l) c
-  restore_full x n ex e =
-      restore_done (view l) (view m) c h (by_full l m (λ p. restored p c) (restored_rule c) (sym eb ∙ n) (restore_way (full_view l) _ (full_view m) c x ex refl e))
+  pub restore_full : b ≡ true → full_view m ≡ settled (restored_at (full_view l) (Some x) c.master_in_service c.slave_in_service)
+      → done_outcome (view m) (Ok tt) ≡ restore_interrupt (view l) c
+  restore_full n e =
+      restore_done (view l) c o eo (view m) x ex (by_full l m (λ p. restored p c) (restored_rule c) (sym eb ∙ n) (restore_way (full_view l) c o eo _ (full_view m) x ex refl e))
 
-  pub restore_full_low : (i : PicLine) → b ≡ true → i ≡ c.irq → i.0 < 8 → full_view m ≡ settled (restored_at (full_view l) (Master i) c.master_in_service c.slave_in_service)
-      → done_outcome (view m) Done ≡ restore_interrupt (view l) c
-  restore_full_low i n ei k e = restore_full (Master i) n (rw (sym ei, lt-ltb i.0 8 k)) e
+  pub restore_full_low : (i : PicLine) → b ≡ true → i ≡ c.irq → i.0 < 8 → full_view m ≡ settled (restored_at (full_view l) (Some (Master i)) c.master_in_service c.slave_in_service)
+      → done_outcome (view m) (Ok tt) ≡ restore_interrupt (view l) c
+  restore_full_low i n ei k e =
+      let low : Some (Master i) ≡ place_of c.irq = rw (sym ei, lt-ltb i.0 8 k) in
+      restore_full n (e ∙ ap (λ (y : Option PicPlace). settled (restored_at (full_view l) y c.master_in_service c.slave_in_service)) (low ∙ sym eo ∙ ex))
 
 -- a port written, by either road
 module _ (l m : List ℕ) (port width value : ℕ) (b w : Bool) (h : width ≡ 1) (eb : b ≡ is_full (view l).rule) where
-  pub write_plain_out : b ≡ false → Written (plain_view l) (plain_view m) port (value % 256) w → not w ≡ true → done_outcome (view m) (Refused Unsupported) ≡ handle_write (view l) port width value
+  pub write_plain_out : b ≡ false → Written (plain_view l) (plain_view m) port (value % 256) w → not w ≡ true → done_outcome (view m) (Err Unsupported) ≡ handle_write (view l) port width value
   write_plain_out n e u =
       write_out (view l) (view m) port width value w h e.known (not-true w u)
       (by_plain l m (λ p. p) (λ p. refl) (sym eb ∙ n) (write_not (plain_view l) (plain_view m) port (value % 256) w e u))
 
-  pub write_plain : (q : PicState) → b ≡ false → Written (plain_view l) q port (value % 256) w → not w ≡ false → plain_view m ≡ settled q → done_outcome (view m) Done ≡ handle_write (view l) port width value
+  pub write_plain : (q : PicState) → b ≡ false → Written (plain_view l) q port (value % 256) w → not w ≡ false → plain_view m ≡ settled q → done_outcome (view m) (Ok tt) ≡ handle_write (view l) port width value
   write_plain q n e u em =
       write_done (view l) (view m) port width value w h e.known (not-false w u)
       (by_plain l m (λ p. port_written p port (value % 256)) (written_rule port (value % 256)) (sym eb ∙ n) (write_settled (plain_view l) q port (value % 256) w e (plain_view m) em))
 
 -- a port written by the full road
 module _ (l m : List ℕ) (port width value : ℕ) (b w : Bool) (h : width ≡ 1) (eb : b ≡ is_full (view l).rule) (n : b ≡ true) (known : w ≡ is_port port) where
-  pub write_full : not w ≡ false → full_view m ≡ port_written (full_view l) port (value % 256) → done_outcome (view m) Done ≡ handle_write (view l) port width value
+  pub write_full : not w ≡ false → full_view m ≡ port_written (full_view l) port (value % 256) → done_outcome (view m) (Ok tt) ≡ handle_write (view l) port width value
   write_full u e =
       write_done (view l) (view m) port width value w h known (not-false w u)
       (by_full l m (λ p. port_written p port (value % 256)) (written_rule port (value % 256)) (sym eb ∙ n) e)
 
   -- the value is cut to a byte in any case
-  pub write_cut : (cut : ℕ) → not w ≡ false → cut ≡ value % 256 → full_view m ≡ port_written (full_view l) port (cut % 256) → done_outcome (view m) Done ≡ handle_write (view l) port width value
+  pub write_cut : (cut : ℕ) → not w ≡ false → cut ≡ value % 256 → full_view m ≡ port_written (full_view l) port (cut % 256) → done_outcome (view m) (Ok tt) ≡ handle_write (view l) port width value
   write_cut cut u ec e = let same : cut % 256 ≡ value % 256 = omega arith in write_full u (e ∙ ap (port_written (full_view l) port) same)
 
-pub write_unknown : (p : PicState) (port width value : ℕ) (w : Bool) → width ≡ 1 → w ≡ is_port port → not w ≡ true → done_outcome p (Refused Unsupported) ≡ handle_write p port width value
+pub write_unknown : (p : PicState) (port width value : ℕ) (w : Bool) → width ≡ 1 → w ≡ is_port port → not w ≡ true → done_outcome p (Err Unsupported) ≡ handle_write p port width value
 write_unknown p port width value w h known u = write_out p p port width value w h known (not-true w u) refl
 
 -- a port read, by either road
@@ -290,7 +291,7 @@ plain_left l port = go (port_at port)
     go slave_data = refl
     go no_port = refl
 
-module _ (l : List ℕ) (port width : ℕ) (b : Bool) (v : PicValue) (w : width ≡ 1) (eb : b ≡ is_full (view l).rule) where
+module _ (l : List ℕ) (port width : ℕ) (b : Bool) (v : Result ℕ Refusal) (w : width ≡ 1) (eb : b ≡ is_full (view l).rule) where
   pub read_plain : b ≡ false → v ≡ port_read (plain_view l) port → value_outcome (view l) v ≡ handle_read (view l) port width
   read_plain n e =
       let q : view l ≡ plain_view l = view_plain l (sym eb ∙ n) in
@@ -305,43 +306,43 @@ module _ (l : List ℕ) (port width : ℕ) (b : Bool) (v : PicValue) (w : width 
 
 -- what a read shows where that is all that it does
 module _ (l : List ℕ) (port : ℕ) (b : Bool) (eb : b ≡ is_full (view l).rule) where
-  pub shown_full : b ≡ true → 0x100 ≡ plain_shown (view l) port
-  shown_full t = ap (λ (x : Bool). cond x 0x100 (byte_shown (port_read (view l) port))) (sym t ∙ eb)
+  pub shown_full : b ≡ true → None ≡ plain_shown (view l) port
+  shown_full t = ap (λ (x : Bool). cond x None (byte_shown (port_read (view l) port))) (sym t ∙ eb)
 
-  pub shown_plain : (n : ℕ) → b ≡ false → Value n ≡ port_read (plain_view l) port → n ≡ plain_shown (view l) port
+  pub shown_plain : (n : ℕ) → b ≡ false → Ok n ≡ port_read (plain_view l) port → Some n ≡ plain_shown (view l) port
   shown_plain n f e =
       let z : is_full (view l).rule ≡ false = sym eb ∙ f in
-      ap byte_shown e ∙ ap (λ (p : PicState). byte_shown (port_read p port)) (sym (view_plain l z)) ∙ ap (λ (x : Bool). cond x 0x100 (byte_shown (port_read (view l) port))) (sym z)
+      ap byte_shown e ∙ ap (λ (p : PicState). byte_shown (port_read p port)) (sym (view_plain l z)) ∙ ap (λ (x : Bool). cond x None (byte_shown (port_read (view l) port))) (sym z)
 
 module _ (l : List ℕ) (port n : ℕ) (b : Bool) (eb : b ≡ is_full (view l).rule) (f : b ≡ false) (m : Chip) (k : m.full ≡ false) where
-  pub shown_master_command : port ≡ 0x20 → m ≡ (plain_view l).master → n ≡ command_read m → n ≡ plain_shown (view l) port
+  pub shown_master_command : port ≡ 0x20 → m ≡ (plain_view l).master → n ≡ command_read m → Some n ≡ plain_shown (view l) port
   shown_master_command h em en = shown_plain l port b eb n f (read_master_command (plain_view l) port n m k h em en)
 
-  pub shown_master_data : port ≡ 0x21 → m ≡ (plain_view l).master → n ≡ m.mask → n ≡ plain_shown (view l) port
+  pub shown_master_data : port ≡ 0x21 → m ≡ (plain_view l).master → n ≡ m.mask → Some n ≡ plain_shown (view l) port
   shown_master_data h em en = shown_plain l port b eb n f (read_master_data (plain_view l) port n m k h em en)
 
-  pub shown_slave_command : port ≡ 0xa0 → m ≡ (plain_view l).slave → n ≡ command_read m → n ≡ plain_shown (view l) port
+  pub shown_slave_command : port ≡ 0xa0 → m ≡ (plain_view l).slave → n ≡ command_read m → Some n ≡ plain_shown (view l) port
   shown_slave_command h em en = shown_plain l port b eb n f (read_slave_command (plain_view l) port n m k h em en)
 
-  pub shown_slave_data : port ≡ 0xa1 → m ≡ (plain_view l).slave → n ≡ m.mask → n ≡ plain_shown (view l) port
+  pub shown_slave_data : port ≡ 0xa1 → m ≡ (plain_view l).slave → n ≡ m.mask → Some n ≡ plain_shown (view l) port
   shown_slave_data h em en = shown_plain l port b eb n f (read_slave_data (plain_view l) port n m k h em en)
 
-pub shown_nowhere : (p : PicState) (port : ℕ) → (port ≡ 0x20 → ⊥) → (port ≡ 0x21 → ⊥) → (port ≡ 0xa0 → ⊥) → (port ≡ 0xa1 → ⊥) → 0x100 ≡ plain_shown p port
+pub shown_nowhere : (p : PicState) (port : ℕ) → (port ≡ 0x20 → ⊥) → (port ≡ 0x21 → ⊥) → (port ≡ 0xa0 → ⊥) → (port ≡ 0xa1 → ⊥) → None ≡ plain_shown p port
 unfolding port_read
-shown_nowhere p port h i j k = rw (ne_eqb port 0x20 h, ne_eqb port 0x21 i, ne_eqb port 0xa0 j, ne_eqb port 0xa1 k) (both (λ (n : ℕ). 0x100 ≡ n) (is_full p.rule) _ _ refl refl)
+shown_nowhere p port h i j k = rw (ne_eqb port 0x20 h, ne_eqb port 0x21 i, ne_eqb port 0xa0 j, ne_eqb port 0xa1 k) (both (λ (o : Option ℕ). None ≡ o) (is_full p.rule) _ _ refl refl)
 
 -- where it shows a byte, the read is that
-pub shown_read : (l : List ℕ) (port n : ℕ) → n ≡ plain_shown (view l) port → n < 0x100 → value_outcome (view l) (Value n) ≡ handle_read (view l) port 1
-shown_read l port n e h = go (is_full (view l).rule) refl e
+pub shown_read : (l : List ℕ) (port n : ℕ) (o : Option ℕ) → o ≡ plain_shown (view l) port → o ≡ Some n → value_outcome (view l) (Ok n) ≡ handle_read (view l) port 1
+shown_read l port n o e h = go (is_full (view l).rule) refl (sym h ∙ e)
   where
-    value : (v : PicValue) → n ≡ byte_shown v → Value n ≡ v
-    value (Value byte) q = ap Value q
-    value (NotRead why) q = absurd (omega arith)
+    value : (v : Result ℕ Refusal) → Some n ≡ byte_shown v → Ok n ≡ v
+    value (Ok byte) q = let k : n ≡ byte = cc in ap Ok k
+    value (Err why) q = let z : ◌≡◌ {A = ℕ} 0 1 = cc in absurd (omega (arith, z))
 
-    go : (b : Bool) → is_full (view l).rule ≡ b → n ≡ cond b 0x100 (byte_shown (port_read (view l) port)) → value_outcome (view l) (Value n) ≡ handle_read (view l) port 1
-    go true f q = absurd (omega arith)
+    go : (b : Bool) → is_full (view l).rule ≡ b → Some n ≡ cond b None (byte_shown (port_read (view l) port)) → value_outcome (view l) (Ok n) ≡ handle_read (view l) port 1
+    go true f q = let z : ◌≡◌ {A = ℕ} 0 1 = cc in absurd (omega (arith, z))
     go false f q =
-        read_plain l port 1 false (Value n) refl (sym f) refl (value (port_read (view l) port) q ∙ ap (λ (p : PicState). port_read p port) (view_plain l f))
+        read_plain l port 1 false (Ok n) refl (sym f) refl (value (port_read (view l) port) q ∙ ap (λ (p : PicState). port_read p port) (view_plain l f))
 
 -- the pair's four ports
 pub port_one : (port : ℕ) → port ≡ 0x20 → true ≡ is_port port

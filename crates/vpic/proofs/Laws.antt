@@ -1,4 +1,5 @@
 -- A law for each way out of the pair's functions, in views alone: p is the pair before, and each later one is said from the last. Assumes nothing.
+use Rattle.std.proofs.Common.{Option, Some, None, Ok, Err}
 use mathlib.Core.Path.{◌≡◌, refl, sym, ap, ap₂, ◌∙◌}
 use mathlib.Core.Bool.{Bool, true, false, not, cond, ◌&&◌}
 use mathlib.Core.List.{List, [], ◌∷◌}
@@ -8,35 +9,28 @@ use native.Mathlib.Nat.{zero-div}
 use lib.Dec.{ltb, eqb}
 use lib.ListN.{set, length}
 use borrow.Author.Tests.{lt-ltb, ltb-true, ltb-false, not-true, not-false, ne_eqb, eq-eqb, eqb-true}
+use Rattle.types.specs.declared.Vector.{Vector}
 use Rattle.utils.specs.Set.{bit, with, outside}
 use Rattle.utils.specs.Cases.{cases}
 use Rattle.utils.proofs.Bools.{never}
 use Rattle.utils.proofs.Laws.{bit_outside, bit_with_same, with_member, set_of_same}
 use Rattle.types.specs.declared.PicLine.{PicLine}
 use Rattle.types.specs.declared.PicPlace.{PicPlace}
-use Rattle.types.specs.declared.PicPlace.TheVariants.{Master, Slave, Nowhere}
+use Rattle.types.specs.declared.PicPlace.TheVariants.{Master, Slave}
 use Rattle.types.specs.declared.Refusal.TheVariants.{Unsupported, OutOfRange}
 use Rattle.types.specs.Counters.{place_of, line_vector}
 use Rattle.types.specs.declared.Reply.{Reply}
 use Rattle.types.specs.declared.Reply.TheVariants as reply
 use Rattle.types.specs.Reply.{Outcome}
 use Rattle.vpic_chip.specs.declared.PicChip.{PicChip}
-use Rattle.vpic_chip.specs.declared.PendingIrq.{PendingIrq}
-use Rattle.vpic_chip.specs.declared.PendingIrq.TheVariants.{Irq, Nothing}
-use Rattle.vpic_chip.specs.declared.PicVector.{PicVector}
-use Rattle.vpic_chip.specs.declared.PicVector.TheVariants.{Given}
 use Rattle.vpic_chip.specs.Registers.{Chip, chip_in, as_full, placed}
 use Rattle.vpic_chip.specs.Chip.{pulsed, asks, cascade_irq, driven, pending_irq, acknowledged, acknowledge, unacknowledged, commanded, fed, command_read, opened, vector_reply, counts, is_polled, poll_shown, polled, read_shown, poll_read}
 use Rattle.vpic_chip.proofs.Laws.{asks_none, counted_idle, vector_reply_same}
 use Rattle.vpic.specs.declared.PicRule.{PicRule}
 use Rattle.vpic.specs.declared.PicRule.TheVariants.{Latch, Cascade, Full}
 use Rattle.vpic.specs.declared.PicInterruptClaim.{PicInterruptClaim}
-use Rattle.vpic.specs.declared.PicClaim.{PicClaim}
-use Rattle.vpic.specs.declared.PicClaim.TheVariants.{Nothing as NoClaim}
-use Rattle.vpic.specs.declared.PicValue.TheVariants.{Value, Refused as NotRead}
-use Rattle.vpic.specs.declared.PicDone.TheVariants.{Done, Refused}
 use Rattle.vpic.specs.Words.{PicState, plain_view, view}
-use Rattle.vpic.specs.Pair.{rule_number, rule_in, drives, chips, is_cascade, settled, Keeps, is_place, latched_at, Latched, latched, StateClaim, state_claim, grew, claim_of, master_claim, slave_claim, pending_place, claim_at, claim_pending, claim_irq, restored_at, restored, restore_interrupt, Port, master_command, master_data, slave_command, slave_data, no_port, port_at, is_there, written_to, Written, written_at, is_port, port_written, handle_write, master_read, slave_read, port_read, port_left, new_state, claim_vector, with_claim, with_vector, claim_outcome, vector_outcome, done_outcome, value_outcome}
+use Rattle.vpic.specs.Pair.{rule_number, rule_in, drives, chips, is_cascade, settled, Keeps, is_place, latched_at, latched, StateClaim, state_claim, grew, claim_of, master_claim, slave_claim, pending_place, claim_at, claim_pending, claim_irq, restored_at, restored, restore_interrupt, Port, master_command, master_data, slave_command, slave_data, no_port, port_at, is_there, written_to, Written, written_at, is_port, port_written, handle_write, master_read, slave_read, port_read, port_left, new_state, claim_vector, with_claim, with_vector, claim_outcome, vector_outcome, done_outcome, value_outcome}
 use Rattle.vpic.specs.Claim.{master_taken, slave_taken, taken_at, is_quiet, ReadOf, port_outcome}
 use Rattle.vpic.proofs.Ready.{ready_master, ready_slave, low_slave}
 use Rattle.vpic.proofs.Settled.{settled_kept, settled_twice, master_leaves, slave_leaves}
@@ -97,37 +91,31 @@ unfolding settled
 settle_on p q s m d b up e n es eu em ed eq = rw (sym e ∙ not-false b n) (cc)
 
 module _ (p q : PicState) (x : PicPlace) (m d : Chip) (k : PicLine) (em : m ≡ p.master) (eq : q ≡ chips p d p.slave) where
-  pub latch_master : x ≡ Master k → d ≡ pulsed m k → Latched p q x true
-  latch_master ex ed = record { state = rw ex (cc); known = rw ex }
+  pub latch_master : x ≡ Master k → d ≡ pulsed m k → q ≡ latched_at p (Some x)
+  latch_master ex ed = rw ex (cc)
 
-  pub latch_slave : (r : PicState) (s e : Chip) → x ≡ Slave k → d ≡ pulsed m cascade_irq → s ≡ q.slave → e ≡ pulsed s k → r ≡ chips q q.master e → Latched p r x true
-  latch_slave r s e ex ed es ee er = record { state = rw ex (cc); known = rw ex }
+  pub latch_slave : (r : PicState) (s e : Chip) → x ≡ Slave k → d ≡ pulsed m cascade_irq → s ≡ q.slave → e ≡ pulsed s k → r ≡ chips q q.master e → r ≡ latched_at p (Some x)
+  latch_slave r s e ex ed es ee er = rw ex (cc)
 
-  pub back_master : (f g : Bool) → x ≡ Master k → d ≡ unacknowledged m k f → q ≡ restored_at p x f g
+  pub back_master : (f g : Bool) → x ≡ Master k → d ≡ unacknowledged m k f → q ≡ restored_at p (Some x) f g
   back_master f g ex ed = rw ex (cc)
 
-  pub back_slave : (r : PicState) (s e : Chip) (f g : Bool) → x ≡ Slave k → d ≡ unacknowledged m cascade_irq f → s ≡ q.slave → e ≡ unacknowledged s k g → r ≡ chips q q.master e → r ≡ restored_at p x f g
+  pub back_slave : (r : PicState) (s e : Chip) (f g : Bool) → x ≡ Slave k → d ≡ unacknowledged m cascade_irq f → s ≡ q.slave → e ≡ unacknowledged s k g → r ≡ chips q q.master e → r ≡ restored_at p (Some x) f g
   back_slave r s e f g ex ed es ee er = rw ex (cc)
-
-pub latch_nowhere : (p : PicState) (x : PicPlace) → x ≡ Nowhere → Latched p p x false
-latch_nowhere p x e = record { state = rw e; known = rw e }
-
-pub back_nowhere : (p : PicState) (x : PicPlace) (f g : Bool) → x ≡ Nowhere → p ≡ restored_at p x f g
-back_nowhere p x f g e = rw e
 
 -- ---- whose line is pending
 
-module _ (p : PicState) (m : Chip) (a : PendingIrq) (em : m ≡ p.master) (ea : a ≡ pending_irq m) where
-  pub place_nowhere : a ≡ Nothing → Nowhere ≡ pending_place p
+module _ (p : PicState) (m : Chip) (a : Option PicLine) (em : m ≡ p.master) (ea : a ≡ pending_irq m) where
+  pub place_nowhere : a ≡ None → None ≡ pending_place p
   place_nowhere e = rw (← em, ← ea, e)
 
-  pub place_master : (k : PicLine) → a ≡ Irq k → (k.0 ≡ 2 → ⊥) → Master k ≡ pending_place p
+  pub place_master : (k : PicLine) → a ≡ Some k → (k.0 ≡ 2 → ⊥) → Some (Master k) ≡ pending_place p
   place_master k e n = rw (← em, ← ea, e, ne_eqb k.0 2 n)
 
-  pub place_cascade : (k : PicLine) (s : Chip) (b : PendingIrq) → a ≡ Irq k → k.0 ≡ 2 → s ≡ p.slave → b ≡ pending_irq s → b ≡ Nothing → Master cascade_irq ≡ pending_place p
+  pub place_cascade : (k : PicLine) (s : Chip) (b : Option PicLine) → a ≡ Some k → k.0 ≡ 2 → s ≡ p.slave → b ≡ pending_irq s → b ≡ None → Some (Master cascade_irq) ≡ pending_place p
   place_cascade k s b e n es eb f = rw (← em, ← ea, e, n, ← es, ← eb, f)
 
-  pub place_slave : (k : PicLine) (s : Chip) (b : PendingIrq) (j : PicLine) → a ≡ Irq k → k.0 ≡ 2 → s ≡ p.slave → b ≡ pending_irq s → b ≡ Irq j → Slave j ≡ pending_place p
+  pub place_slave : (k : PicLine) (s : Chip) (b : Option PicLine) (j : PicLine) → a ≡ Some k → k.0 ≡ 2 → s ≡ p.slave → b ≡ pending_irq s → b ≡ Some j → Some (Slave j) ≡ pending_place p
   place_slave k s b j e n es eb f = rw (← em, ← ea, e, n, ← es, ← eb, f)
 
 -- ---- a line is taken
@@ -177,15 +165,15 @@ pub plain_idle : (c : Chip) (k : ℕ) → c.full ≡ false → counts c k ≡ tr
 plain_idle c k f e = counted_idle c k e (rw f)
 
 -- what a chip's acknowledgement of one of its lines left
-module _ (c a : Chip) (k : PicLine) (v : PicVector) (l : k.0 < 8) (e : ◌≡◌ {A = Outcome Chip} (record { state = a; reply = vector_reply v }) (acknowledge c k)) where
-  ack_is : ◌≡◌ {A = Outcome Chip} (record { state = a; reply = vector_reply v }) (record { state = acknowledged c k.0; reply = vector_reply (Given (line_vector c.vector_base k)) })
+module _ (c a : Chip) (k : PicLine) (v : Option Vector) (l : k.0 < 8) (e : ◌≡◌ {A = Outcome Chip} (record { state = a; reply = vector_reply v }) (acknowledge c k)) where
+  ack_is : ◌≡◌ {A = Outcome Chip} (record { state = a; reply = vector_reply v }) (record { state = acknowledged c k.0; reply = vector_reply (Some (line_vector c.vector_base k)) })
   unfolding acknowledge
   ack_is = e ∙ rw (lt-ltb k.0 8 l)
 
   ack_chip : a ≡ acknowledged c k.0
   ack_chip = ap (λ (o : Outcome Chip). o.state) ack_is
 
-  ack_vector : v ≡ Given (line_vector c.vector_base k)
+  ack_vector : v ≡ Some (line_vector c.vector_base k)
   ack_vector = vector_reply_same _ _ (ap (λ (o : Outcome Chip). o.reply) ack_is)
 
   -- its flag: by the set, and without the full profile by the mode
@@ -196,43 +184,43 @@ module _ (c a : Chip) (k : PicLine) (v : PicVector) (l : k.0 < 8) (e : ◌≡◌
   mode_flag g eg f n = ap not eg ∙ sym (grew_taken c k.0 l (plain_idle c k.0 f n))
 
 -- the master answers: f is whether its in-service set grew
-module _ (p q : PicState) (m a : Chip) (k : PicLine) (v : PicVector) (c : PicClaim) (em : m ≡ p.master) (eq : q ≡ chips p a p.slave) where
-  master_is : (f : Bool) → pending_place p ≡ Master k → ◌≡◌ {A = Outcome Chip} (record { state = a; reply = vector_reply v }) (acknowledge m k) → f ≡ grew m (acknowledged m k.0) → c ≡ claim_of v k f false
+module _ (p q : PicState) (m a : Chip) (k : PicLine) (v : Option Vector) (c : Option PicInterruptClaim) (em : m ≡ p.master) (eq : q ≡ chips p a p.slave) where
+  master_is : (f : Bool) → pending_place p ≡ Some (Master k) → ◌≡◌ {A = Outcome Chip} (record { state = a; reply = vector_reply v }) (acknowledge m k) → f ≡ grew m (acknowledged m k.0) → c ≡ claim_of v k f false
       → state_claim q c ≡ master_taken p k
   unfolding master_claim
   master_is f ep ea ef ec =
       let low : k.0 < 8 = (ready_master p k ep).low in
       let b : a ≡ acknowledged m k.0 = ack_chip m a k v low ea in
-      let w : v ≡ Given (line_vector m.vector_base k) = ack_vector m a k v low ea in
+      let w : v ≡ Some (line_vector m.vector_base k) = ack_vector m a k v low ea in
       let i : f ≡ grew p.master (acknowledged p.master k.0) = ef ∙ ap (λ (d : Chip). grew d (acknowledged d k.0)) em in
-      let n : c ≡ claim_of (Given (line_vector m.vector_base k)) k f false = ec ∙ ap (λ (x : PicVector). claim_of x k f false) w in
+      let n : c ≡ claim_of (Some (line_vector m.vector_base k)) k f false = ec ∙ ap (λ (x : Option Vector). claim_of x k f false) w in
       rw (none_new p.slave.in_service) (cc)
 
   -- the slave answers
-  slave_is : (r : PicState) (s b : Chip) (u : PicVector) (f g : Bool) → pending_place p ≡ Slave k → ◌≡◌ {A = Outcome Chip} (record { state = a; reply = vector_reply u }) (acknowledge m cascade_irq)
+  slave_is : (r : PicState) (s b : Chip) (u : Option Vector) (f g : Bool) → pending_place p ≡ Some (Slave k) → ◌≡◌ {A = Outcome Chip} (record { state = a; reply = vector_reply u }) (acknowledge m cascade_irq)
       → s ≡ p.slave → ◌≡◌ {A = Outcome Chip} (record { state = b; reply = vector_reply v }) (acknowledge s k) → r ≡ chips q q.master b
       → f ≡ grew m (acknowledged m 2) → g ≡ grew s (acknowledged s k.0) → c ≡ claim_of v (record { 0 = k.0 + 8 }) f g → state_claim r c ≡ slave_taken p k
   unfolding slave_claim
   slave_is r s b u f g ep ea es eb er ef eg ec =
       let x : a ≡ acknowledged m 2 = ack_chip m a cascade_irq u (omega arith) ea in
       let y : b ≡ acknowledged s k.0 = ack_chip s b k v (low_slave p k ep) eb in
-      let w : v ≡ Given (line_vector s.vector_base k) = ack_vector s b k v (low_slave p k ep) eb in
+      let w : v ≡ Some (line_vector s.vector_base k) = ack_vector s b k v (low_slave p k ep) eb in
       let i : f ≡ grew p.master (acknowledged p.master 2) = ef ∙ ap (λ (d : Chip). grew d (acknowledged d 2)) em in
       let j : g ≡ grew p.slave (acknowledged p.slave k.0) = eg ∙ ap (λ (d : Chip). grew d (acknowledged d k.0)) es in
-      let n : c ≡ claim_of (Given (line_vector s.vector_base k)) (record { 0 = k.0 + 8 }) f g = ec ∙ ap (λ (z : PicVector). claim_of z (record { 0 = k.0 + 8 }) f g) w in
+      let n : c ≡ claim_of (Some (line_vector s.vector_base k)) (record { 0 = k.0 + 8 }) f g = ec ∙ ap (λ (z : Option Vector). claim_of z (record { 0 = k.0 + 8 }) f g) w in
       let z : r ≡ chips p (acknowledged p.master 2) (acknowledged p.slave k.0) =
       er ∙ ap (λ (o : PicState). chips o o.master b) eq
       ∙ ap₂ (λ (d f : Chip). chips p d f) (x ∙ ap (λ (d : Chip). acknowledged d 2) em) (y ∙ ap (λ (d : Chip). acknowledged d k.0) es) in
       let o : c ≡ (slave_claim p k).claim = cc in
       ap₂ state_claim z o
 
-  pub master_taken_lem : (g : Bool) → m.full ≡ false → g ≡ m.auto_eoi → pending_place p ≡ Master k → ◌≡◌ {A = Outcome Chip} (record { state = a; reply = vector_reply v }) (acknowledge m k) → c ≡ claim_of v k (not g) false
+  pub master_taken_lem : (g : Bool) → m.full ≡ false → g ≡ m.auto_eoi → pending_place p ≡ Some (Master k) → ◌≡◌ {A = Outcome Chip} (record { state = a; reply = vector_reply v }) (acknowledge m k) → c ≡ claim_of v k (not g) false
       → state_claim q c ≡ master_taken p k
   master_taken_lem g f eg ep ea ec =
       let h = ready_master p k ep in
       master_is (not g) ep ea (mode_flag m a k v h.low ea g eg f (ap (λ (d : Chip). counts d k.0) em ∙ h.counted)) ec
 
-  pub slave_taken_lem : (g : Bool) (r : PicState) (s b : Chip) (u : PicVector) (h : Bool) → m.full ≡ false → g ≡ m.auto_eoi → pending_place p ≡ Slave k
+  pub slave_taken_lem : (g : Bool) (r : PicState) (s b : Chip) (u : Option Vector) (h : Bool) → m.full ≡ false → g ≡ m.auto_eoi → pending_place p ≡ Some (Slave k)
       → ◌≡◌ {A = Outcome Chip} (record { state = a; reply = vector_reply u }) (acknowledge m cascade_irq) → s ≡ p.slave → s.full ≡ false
       → ◌≡◌ {A = Outcome Chip} (record { state = b; reply = vector_reply v }) (acknowledge s k) → r ≡ chips q q.master b → h ≡ s.auto_eoi → c ≡ claim_of v (record { 0 = k.0 + 8 }) (not g) (not h)
       → state_claim r c ≡ slave_taken p k
@@ -242,11 +230,11 @@ module _ (p q : PicState) (m a : Chip) (k : PicLine) (v : PicVector) (c : PicCla
       (mode_flag m a cascade_irq u (omega arith) ea g eg fm (ap (λ (d : Chip). counts d 2) em ∙ y.0.counted))
       (mode_flag s b k v y.1.low eb h eh fs (ap (λ (d : Chip). counts d k.0) es ∙ y.1.counted)) ec
 
-  pub full_master_taken : (g : Bool) → g ≡ not (eqb a.in_service m.in_service) → pending_place p ≡ Master k → ◌≡◌ {A = Outcome Chip} (record { state = a; reply = vector_reply v }) (acknowledge m k)
+  pub full_master_taken : (g : Bool) → g ≡ not (eqb a.in_service m.in_service) → pending_place p ≡ Some (Master k) → ◌≡◌ {A = Outcome Chip} (record { state = a; reply = vector_reply v }) (acknowledge m k)
       → c ≡ claim_of v k g false → state_claim q c ≡ master_taken p k
   full_master_taken g eg ep ea ec = master_is g ep ea (ack_flag m a k v (ready_master p k ep).low ea g eg) ec
 
-  pub full_slave_taken : (g : Bool) (r : PicState) (s b : Chip) (u : PicVector) (h : Bool) → g ≡ not (eqb a.in_service m.in_service) → pending_place p ≡ Slave k
+  pub full_slave_taken : (g : Bool) (r : PicState) (s b : Chip) (u : Option Vector) (h : Bool) → g ≡ not (eqb a.in_service m.in_service) → pending_place p ≡ Some (Slave k)
       → ◌≡◌ {A = Outcome Chip} (record { state = a; reply = vector_reply u }) (acknowledge m cascade_irq) → s ≡ p.slave
       → ◌≡◌ {A = Outcome Chip} (record { state = b; reply = vector_reply v }) (acknowledge s k) → r ≡ chips q q.master b → h ≡ not (eqb b.in_service s.in_service)
       → c ≡ claim_of v (record { 0 = k.0 + 8 }) g h → state_claim r c ≡ slave_taken p k
@@ -254,30 +242,30 @@ module _ (p q : PicState) (m a : Chip) (k : PicLine) (v : PicVector) (c : PicCla
       slave_is r s b u g h ep ea es eb er (ack_flag m a cascade_irq u (omega arith) ea g eg) (ack_flag s b k v (low_slave p k ep) eb h eh) ec
 
 -- a slave's line is taken, and the pair settled; or it is in service, and nothing is left to settle
-module _ (p q : PicState) (k : PicLine) (c : PicClaim) (e : state_claim q c ≡ slave_taken p k) where
+module _ (p q : PicState) (k : PicLine) (c : Option PicInterruptClaim) (e : state_claim q c ≡ slave_taken p k) where
   pub slave_settled : (r : PicState) → r ≡ settled q → state_claim r c ≡ slave_claim p k
   unfolding slave_claim
   slave_settled r er = ap (λ (x : PicState). state_claim x c) er ∙ ap (λ (x : StateClaim). state_claim (settled x.state) x.claim) e
 
-  pub slave_quiet : (s : Chip) (b : Bool) → pending_place p ≡ Slave k → s ≡ p.slave → b ≡ s.auto_eoi → b ≡ false → state_claim q c ≡ slave_claim p k
+  pub slave_quiet : (s : Chip) (b : Bool) → pending_place p ≡ Some (Slave k) → s ≡ p.slave → b ≡ s.auto_eoi → b ≡ false → state_claim q c ≡ slave_claim p k
   slave_quiet s b ep es eb f = e ∙ slave_leaves p k ep (ap (λ (d : Chip). d.auto_eoi) (sym es) ∙ sym eb ∙ f)
 
 -- a claim at the place that is pending
-pub place_known : (p : PicState) (a b : PicPlace) → a ≡ pending_place p → a ≡ b → pending_place p ≡ b
+pub place_known : (p : PicState) (a b : Option PicPlace) → a ≡ pending_place p → a ≡ b → pending_place p ≡ b
 place_known p a b e f = sym e ∙ f
 
-pub takes_at : (p : PicState) (a b : PicPlace) (x : StateClaim) → a ≡ pending_place p → a ≡ b → x ≡ taken_at p b → x ≡ taken_at p (pending_place p)
+pub takes_at : (p : PicState) (a b : Option PicPlace) (x : StateClaim) → a ≡ pending_place p → a ≡ b → x ≡ taken_at p b → x ≡ taken_at p (pending_place p)
 takes_at p a b x e f h = h ∙ ap (taken_at p) (sym f ∙ e)
 
-pub takes_none : (p : PicState) (a : PicPlace) → a ≡ pending_place p → a ≡ Nowhere → state_claim p NoClaim ≡ taken_at p (pending_place p)
-takes_none p a e f = takes_at p a Nowhere (state_claim p NoClaim) e f refl
+pub takes_none : (p : PicState) (a : Option PicPlace) → a ≡ pending_place p → a ≡ None → state_claim p None ≡ taken_at p (pending_place p)
+takes_none p a e f = takes_at p a None (state_claim p None) e f refl
 
 -- the claim of what is pending, by its place. Here and below the place is made a variable first: to find that two sides differ in what is stuck on `pending_place p` takes the check very long
-pub claim_known : (p : PicState) (x : PicPlace) → pending_place p ≡ x → claim_at p x ≡ claim_pending p
+pub claim_known : (p : PicState) (x : Option PicPlace) → pending_place p ≡ x → claim_at p x ≡ claim_pending p
 unfolding claim_pending
 claim_known p x e = ap (claim_at p) (sym e) ∙ known x e
   where
-    known : (y : PicPlace) → pending_place p ≡ y → claim_at p (pending_place p) ≡ claim_pending p
+    known : (y : Option PicPlace) → pending_place p ≡ y → claim_at p (pending_place p) ≡ claim_pending p
     known y f = rw f
 
 -- from a settled pair all is claimed with that
@@ -285,65 +273,71 @@ taken_kept : (p : PicState) → settled p ≡ p → taken_at p (pending_place p)
 unfolding claim_pending
 taken_kept p s = known (pending_place p) refl
   where
-    go : (x : PicPlace) → pending_place p ≡ x → taken_at p x ≡ claim_at p x
-    go (Master k) e = master_leaves p k s e
-    go (Slave k) e = refl
-    go Nowhere e = cc
+    go : (x : Option PicPlace) → pending_place p ≡ x → taken_at p x ≡ claim_at p x
+    go (Some (Master k)) e = master_leaves p k s e
+    go (Some (Slave k)) e = refl
+    go None e = cc
 
-    known : (x : PicPlace) → pending_place p ≡ x → taken_at p (pending_place p) ≡ claim_pending p
+    known : (x : Option PicPlace) → pending_place p ≡ x → taken_at p (pending_place p) ≡ claim_pending p
     known x e = rw e (go x e)
 
 -- from any pair what is taken is claimed, and the pair is settled then
-pub taken_settled : (p q r : PicState) (c : PicClaim) → state_claim q c ≡ taken_at p (pending_place p) → r ≡ settled q → state_claim r c ≡ claim_pending p
+pub taken_settled : (p q r : PicState) (c : Option PicInterruptClaim) → state_claim q c ≡ taken_at p (pending_place p) → r ≡ settled q → state_claim r c ≡ claim_pending p
 unfolding master_claim slave_claim
 taken_settled p q r c e er =
     ap (λ (x : PicState). state_claim x c) er ∙ ap (λ (x : StateClaim). state_claim (settled x.state) x.claim) e ∙ go (pending_place p) ∙ claim_known p (pending_place p) refl
   where
-    go : (x : PicPlace) → state_claim (settled (taken_at p x).state) (taken_at p x).claim ≡ claim_at p x
-    go (Master k) = refl
-    go (Slave k) = ap (λ (x : PicState). state_claim x (slave_claim p k).claim) (settled_twice _ (slave_claim p k).state refl)
-    go Nowhere = refl
+    go : (x : Option PicPlace) → state_claim (settled (taken_at p x).state) (taken_at p x).claim ≡ claim_at p x
+    go (Some (Master k)) = refl
+    go (Some (Slave k)) = ap (λ (x : PicState). state_claim x (slave_claim p k).claim) (settled_twice _ (slave_claim p k).state refl)
+    go None = refl
 
 place_there : (l : PicLine) → is_place (place_of l) ≡ ltb l.0 16
 place_there l = go (ltb l.0 8) refl (ltb l.0 16) refl
   where
-    go : (a : Bool) → ltb l.0 8 ≡ a → (b : Bool) → ltb l.0 16 ≡ b → is_place (cond a (Master l) (cond b (Slave (record { 0 = l.0 - 8 })) Nowhere)) ≡ b
+    go : (a : Bool) → ltb l.0 8 ≡ a → (b : Bool) → ltb l.0 16 ≡ b → is_place (cond a (Some (Master l)) (cond b (Some (Slave (record { 0 = l.0 - 8 }))) None)) ≡ b
     go true h true k = refl
     go true h false k = absurd (omega (arith, ltb-true l.0 8 h, ltb-false l.0 16 k))
     go false h true k = refl
     go false h false k = refl
 
-nowhere_same : (p : PicState) (a : PicPlace) → is_place a ≡ false → latched_at p a ≡ p
-nowhere_same p (Master k) e = never refl e
-nowhere_same p (Slave k) e = never refl e
-nowhere_same p Nowhere e = refl
+is_there' : (x : PicPlace) → is_place (Some x) ≡ true
+is_there' (Master k) = refl
+is_there' (Slave k) = refl
 
-module _ (p q : PicState) (l : PicLine) (a : PicPlace) (b : Bool) (ea : a ≡ place_of l) (e : Latched p q a b) where
-  there : ltb l.0 16 ≡ b
-  there = sym (place_there l) ∙ ap is_place (sym ea) ∙ sym e.known
+-- a line that the pair has is below 16, and its edge is latched
+module _ (l : PicLine) (o : Option PicPlace) (eo : o ≡ place_of l) where
+  there : (b : Option PicPlace) → o ≡ b → ltb l.0 16 ≡ is_place b
+  there b h = sym (place_there l) ∙ ap is_place (sym eo ∙ h)
 
-  pub irq_none : not b ≡ true → state_claim q NoClaim ≡ claim_irq p l
+  there_some : (x : PicPlace) → o ≡ Some x → ltb l.0 16 ≡ true
+  there_some x h = there (Some x) h ∙ is_there' x
+
+  pub irq_none : (p : PicState) → o ≡ None → state_claim p None ≡ claim_irq p l
   unfolding claim_irq
-  irq_none n =
-      let f : is_place a ≡ false = sym e.known ∙ not-true b n in
-      ap (λ (x : PicState). state_claim x NoClaim) (e.state ∙ nowhere_same p a f) ∙ rw (there ∙ not-true b n)
+  irq_none p h = rw (there None h)
 
-  pub irq_some : (r : PicState) (x : StateClaim) → not b ≡ false → r ≡ settled q → x ≡ taken_at r (pending_place r) → x ≡ claim_irq p l
-  unfolding claim_irq latched
-  irq_some r x n er ex = ex ∙ taken_kept r (settled_twice q r er) ∙ ap claim_pending (er ∙ ap settled (e.state ∙ ap (latched_at p) ea)) ∙ rw (there ∙ not-false b n)
+  module _ (p q r : PicState) (x : PicPlace) (s : StateClaim) (ex : o ≡ Some x) (eq : q ≡ latched_at p (Some x)) (er : r ≡ settled q) where
+    line_latched : r ≡ latched p l
+    unfolding latched
+    line_latched = er ∙ ap settled (eq ∙ ap (latched_at p) (sym ex ∙ eo))
 
-  pub irq_claimed : (r : PicState) (x : StateClaim) → not b ≡ false → r ≡ settled q → x ≡ claim_pending r → x ≡ claim_irq p l
-  unfolding claim_irq latched
-  irq_claimed r x n er ex = ex ∙ ap claim_pending (er ∙ ap settled (e.state ∙ ap (latched_at p) ea)) ∙ rw (there ∙ not-false b n)
+    pub irq_some : s ≡ taken_at r (pending_place r) → s ≡ claim_irq p l
+    unfolding claim_irq
+    irq_some es = es ∙ taken_kept r (settled_twice q r er) ∙ ap claim_pending line_latched ∙ rw (there_some x ex)
+
+    pub irq_claimed : s ≡ claim_pending r → s ≡ claim_irq p l
+    unfolding claim_irq
+    irq_claimed es = es ∙ ap claim_pending line_latched ∙ rw (there_some x ex)
 
 -- where the master doesn't ask, nothing is claimed, and the pair is settled too
 module _ (p q : PicState) (m : Chip) (b : Bool) (em : m ≡ p.master) (eb : b ≡ asks m) (n : not b ≡ true) (eq : q ≡ settled p) where
-  place_unasked : pending_place p ≡ Nowhere
+  place_unasked : pending_place p ≡ None
   unfolding pending_irq asks
   place_unasked = let a : asks p.master ≡ b = ap asks (sym em) ∙ sym eb in rw (a ∙ not-true b n)
 
-  pub unasked : state_claim q NoClaim ≡ claim_pending p
-  unasked = ap (λ (x : PicState). state_claim x NoClaim) eq ∙ claim_known p Nowhere place_unasked
+  pub unasked : state_claim q None ≡ claim_pending p
+  unasked = ap (λ (x : PicState). state_claim x None) eq ∙ claim_known p None place_unasked
 
 -- where nothing is requested, the master doesn't ask, and nothing is left to settle
 module _ (p : PicState) (b : Bool) (eb : b ≡ is_quiet p) (t : b ≡ true) where
@@ -356,7 +350,7 @@ module _ (p : PicState) (b : Bool) (eb : b ≡ is_quiet p) (t : b ≡ true) wher
       let s : p.slave.request ≡ 0 = omega (arith, none_asked) in
       ap (λ (n : ℕ). bit n 2) m ∙ asks_none p.slave p.slave.request refl s
 
-  pub quiet : state_claim p NoClaim ≡ claim_pending p
+  pub quiet : state_claim p None ≡ claim_pending p
   quiet =
       let m : p.master.request ≡ 0 = omega (arith, none_asked) in
       unasked p p p.master (asks p.master) refl refl (ap not (sym (asks_none p.master p.master.request refl m))) (sym (settled_kept p quiet_kept))
@@ -373,31 +367,31 @@ module _ (p : PicState) (m : Chip) (a : ℕ) (em : m ≡ p.master) (ea : a ≡ m
       ap (λ (n : ℕ). eqb n 0) t
 
 -- the public calls say the same by the reply
-module _ (p q : PicState) (c d : PicClaim) (e : d ≡ c) where
+module _ (p q : PicState) (c d : Option PicInterruptClaim) (e : d ≡ c) where
   pub irq_reply : (l : PicLine) → state_claim q c ≡ claim_irq p l → claim_outcome q d ≡ with_claim (claim_irq p l)
   irq_reply l h = ap (claim_outcome q) e ∙ ap with_claim h
 
   pub pending_reply_lem : state_claim q c ≡ claim_pending p → claim_outcome q d ≡ with_claim (claim_pending p)
   pending_reply_lem h = ap (claim_outcome q) e ∙ ap with_claim h
 
-  pub irq_vector : (l : PicLine) (v : PicVector) → v ≡ claim_vector d → state_claim q c ≡ claim_irq p l → vector_outcome q v ≡ with_vector (claim_irq p l)
+  pub irq_vector : (l : PicLine) (v : Option Vector) → v ≡ claim_vector d → state_claim q c ≡ claim_irq p l → vector_outcome q v ≡ with_vector (claim_irq p l)
   irq_vector l v w h = ap (vector_outcome q) (w ∙ ap claim_vector e) ∙ ap with_vector h
 
-  pub pending_vector : (v : PicVector) → v ≡ claim_vector d → state_claim q c ≡ claim_pending p → vector_outcome q v ≡ with_vector (claim_pending p)
+  pub pending_vector : (v : Option Vector) → v ≡ claim_vector d → state_claim q c ≡ claim_pending p → vector_outcome q v ≡ with_vector (claim_pending p)
   pending_vector v w h = ap (vector_outcome q) (w ∙ ap claim_vector e) ∙ ap with_vector h
 
 -- ---- a claim is restored
 
-pub restore_out : (p : PicState) (c : PicInterruptClaim) → 16 ≤ c.irq.0 → done_outcome p (Refused OutOfRange) ≡ restore_interrupt p c
-restore_out p c l = search cases
+module _ (p : PicState) (c : PicInterruptClaim) (o : Option PicPlace) (eo : o ≡ place_of c.irq) where
+  pub restore_out : o ≡ None → done_outcome p (Err OutOfRange) ≡ restore_interrupt p c
+  restore_out h = rw (there c.irq o eo None h)
 
-pub restore_way : (p q r : PicState) (c : PicInterruptClaim) (x : PicPlace) → x ≡ place_of c.irq → q ≡ restored_at p x c.master_in_service c.slave_in_service → r ≡ settled q
-    → r ≡ restored p c
-unfolding restored
-restore_way p q r c x ex eq er = er ∙ ap settled (eq ∙ ap (λ (y : PicPlace). restored_at p y c.master_in_service c.slave_in_service) ex)
+  pub restore_way : (q r : PicState) (x : PicPlace) → o ≡ Some x → q ≡ restored_at p (Some x) c.master_in_service c.slave_in_service → r ≡ settled q → r ≡ restored p c
+  unfolding restored
+  restore_way q r x ex eq er = er ∙ ap settled (eq ∙ ap (λ (y : Option PicPlace). restored_at p y c.master_in_service c.slave_in_service) (sym ex ∙ eo))
 
-pub restore_done : (p r : PicState) (c : PicInterruptClaim) → c.irq.0 < 16 → r ≡ restored p c → done_outcome r Done ≡ restore_interrupt p c
-restore_done p r c l er = ap (λ (s : PicState). done_outcome s Done) er ∙ rw (lt-ltb c.irq.0 16 l)
+  pub restore_done : (r : PicState) (x : PicPlace) → o ≡ Some x → r ≡ restored p c → done_outcome r (Ok tt) ≡ restore_interrupt p c
+  restore_done r x ex er = ap (λ (s : PicState). done_outcome s (Ok tt)) er ∙ rw (there_some c.irq o eo x ex)
 
 -- ---- the ports
 
@@ -442,29 +436,29 @@ module _ (p q : PicState) (port byte : ℕ) (b : Bool) (e : Written p q port byt
   write_settled r er = er ∙ ap settled e.state
 
 module _ (p q : PicState) (port width value : ℕ) (b : Bool) (w : width ≡ 1) (known : b ≡ is_port port) where
-  pub write_out : b ≡ false → q ≡ p → done_outcome q (Refused Unsupported) ≡ handle_write p port width value
-  write_out n e = rw (w, sym known ∙ n) (ap (λ (s : PicState). done_outcome s (Refused Unsupported)) e)
+  pub write_out : b ≡ false → q ≡ p → done_outcome q (Err Unsupported) ≡ handle_write p port width value
+  write_out n e = rw (w, sym known ∙ n) (ap (λ (s : PicState). done_outcome s (Err Unsupported)) e)
 
-  pub write_done : b ≡ true → q ≡ port_written p port (value % 256) → done_outcome q Done ≡ handle_write p port width value
-  write_done n e = rw (w, sym known ∙ n) (ap (λ (s : PicState). done_outcome s Done) e)
+  pub write_done : b ≡ true → q ≡ port_written p port (value % 256) → done_outcome q (Ok tt) ≡ handle_write p port width value
+  write_done n e = rw (w, sym known ∙ n) (ap (λ (s : PicState). done_outcome s (Ok tt)) e)
 
 -- a read without a poll shows its register
 module _ (p : PicState) (port v : ℕ) (m : Chip) (f : m.full ≡ false) where
-  pub read_master_command : port ≡ 0x20 → m ≡ p.master → v ≡ command_read m → Value v ≡ port_read p port
+  pub read_master_command : port ≡ 0x20 → m ≡ p.master → v ≡ command_read m → Ok v ≡ port_read p port
   unfolding port_read read_shown command_read
-  read_master_command h em ev = rw (h, ← em, f) (ap Value ev)
+  read_master_command h em ev = rw (h, ← em, f) (ap Ok ev)
 
-  pub read_master_data : port ≡ 0x21 → m ≡ p.master → v ≡ m.mask → Value v ≡ port_read p port
+  pub read_master_data : port ≡ 0x21 → m ≡ p.master → v ≡ m.mask → Ok v ≡ port_read p port
   unfolding port_read read_shown
-  read_master_data h em ev = rw (h, ← em, f) (ap Value ev)
+  read_master_data h em ev = rw (h, ← em, f) (ap Ok ev)
 
-  pub read_slave_command : port ≡ 0xa0 → m ≡ p.slave → v ≡ command_read m → Value v ≡ port_read p port
+  pub read_slave_command : port ≡ 0xa0 → m ≡ p.slave → v ≡ command_read m → Ok v ≡ port_read p port
   unfolding port_read read_shown command_read
-  read_slave_command h em ev = rw (h, ← em, f) (ap Value ev)
+  read_slave_command h em ev = rw (h, ← em, f) (ap Ok ev)
 
-  pub read_slave_data : port ≡ 0xa1 → m ≡ p.slave → v ≡ m.mask → Value v ≡ port_read p port
+  pub read_slave_data : port ≡ 0xa1 → m ≡ p.slave → v ≡ m.mask → Ok v ≡ port_read p port
   unfolding port_read read_shown
-  read_slave_data h em ev = rw (h, ← em, f) (ap Value ev)
+  read_slave_data h em ev = rw (h, ← em, f) (ap Ok ev)
 
 -- a read of a port of the full profile's: no poll waits, or the poll is answered and the pair settled
 module _ (p : PicState) (c : Chip) (b : Bool) (register : ℕ) (f : c.full ≡ true) (eb : b ≡ c.poll) where
@@ -516,27 +510,27 @@ unfolding command_read
 full_status b x v e = e
 
 module _ (p q : PicState) (port register shown : ℕ) (m : Chip) where
-  pub full_master_command : port ≡ 0x20 → m ≡ p.master → register ≡ command_read m → ReadOf p.master (master_read p) q register shown → value_outcome q (Value shown) ≡ port_outcome p port
+  pub full_master_command : port ≡ 0x20 → m ≡ p.master → register ≡ command_read m → ReadOf p.master (master_read p) q register shown → value_outcome q (Ok shown) ≡ port_outcome p port
   unfolding port_read port_left
   full_master_command h em er e =
-      rw h (ap₂ (λ (x : PicState) (n : ℕ). value_outcome x (Value n)) e.state (e.answer ∙ ap (read_shown p.master) (er ∙ ap command_read em)))
+      rw h (ap₂ (λ (x : PicState) (n : ℕ). value_outcome x (Ok n)) e.state (e.answer ∙ ap (read_shown p.master) (er ∙ ap command_read em)))
 
-  pub full_master_data : port ≡ 0x21 → m ≡ p.master → register ≡ m.mask → ReadOf p.master (master_read p) q register shown → value_outcome q (Value shown) ≡ port_outcome p port
+  pub full_master_data : port ≡ 0x21 → m ≡ p.master → register ≡ m.mask → ReadOf p.master (master_read p) q register shown → value_outcome q (Ok shown) ≡ port_outcome p port
   unfolding port_read port_left
   full_master_data h em er e =
-      rw h (ap₂ (λ (x : PicState) (n : ℕ). value_outcome x (Value n)) e.state (e.answer ∙ ap (read_shown p.master) (er ∙ ap (λ (c : Chip). c.mask) em)))
+      rw h (ap₂ (λ (x : PicState) (n : ℕ). value_outcome x (Ok n)) e.state (e.answer ∙ ap (read_shown p.master) (er ∙ ap (λ (c : Chip). c.mask) em)))
 
-  pub full_slave_command : port ≡ 0xa0 → m ≡ p.slave → register ≡ command_read m → ReadOf p.slave (slave_read p) q register shown → value_outcome q (Value shown) ≡ port_outcome p port
+  pub full_slave_command : port ≡ 0xa0 → m ≡ p.slave → register ≡ command_read m → ReadOf p.slave (slave_read p) q register shown → value_outcome q (Ok shown) ≡ port_outcome p port
   unfolding port_read port_left
   full_slave_command h em er e =
-      rw h (ap₂ (λ (x : PicState) (n : ℕ). value_outcome x (Value n)) e.state (e.answer ∙ ap (read_shown p.slave) (er ∙ ap command_read em)))
+      rw h (ap₂ (λ (x : PicState) (n : ℕ). value_outcome x (Ok n)) e.state (e.answer ∙ ap (read_shown p.slave) (er ∙ ap command_read em)))
 
-  pub full_slave_data : port ≡ 0xa1 → m ≡ p.slave → register ≡ m.mask → ReadOf p.slave (slave_read p) q register shown → value_outcome q (Value shown) ≡ port_outcome p port
+  pub full_slave_data : port ≡ 0xa1 → m ≡ p.slave → register ≡ m.mask → ReadOf p.slave (slave_read p) q register shown → value_outcome q (Ok shown) ≡ port_outcome p port
   unfolding port_read port_left
   full_slave_data h em er e =
-      rw h (ap₂ (λ (x : PicState) (n : ℕ). value_outcome x (Value n)) e.state (e.answer ∙ ap (read_shown p.slave) (er ∙ ap (λ (c : Chip). c.mask) em)))
+      rw h (ap₂ (λ (x : PicState) (n : ℕ). value_outcome x (Ok n)) e.state (e.answer ∙ ap (read_shown p.slave) (er ∙ ap (λ (c : Chip). c.mask) em)))
 
-pub full_no_port : (p : PicState) (port : ℕ) → (port ≡ 0x20 → ⊥) → (port ≡ 0x21 → ⊥) → (port ≡ 0xa0 → ⊥) → (port ≡ 0xa1 → ⊥) → value_outcome p (NotRead Unsupported) ≡ port_outcome p port
+pub full_no_port : (p : PicState) (port : ℕ) → (port ≡ 0x20 → ⊥) → (port ≡ 0x21 → ⊥) → (port ≡ 0xa0 → ⊥) → (port ≡ 0xa1 → ⊥) → value_outcome p (Err Unsupported) ≡ port_outcome p port
 unfolding port_read port_left
 full_no_port p port a b c d = rw (ne_eqb port 0x20 a, ne_eqb port 0x21 b, ne_eqb port 0xa0 c, ne_eqb port 0xa1 d)
 

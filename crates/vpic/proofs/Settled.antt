@@ -1,4 +1,5 @@
 -- Laws of a settled pair: settling leaves the rule kept, and changes nothing where it is. Assumes nothing.
+use Rattle.std.proofs.Common.{Some, Option, None}
 use mathlib.Core.Path.{◌≡◌, refl, sym, ap, ◌∙◌}
 use mathlib.Core.Bool.{Bool, true, false, cond}
 use Prim.Native.Nat.{ℕ}
@@ -10,8 +11,6 @@ use Rattle.utils.proofs.Laws.{bit_with_same, bit_without_same, bit_without_other
 use Rattle.types.specs.declared.PicLine.{PicLine}
 use Rattle.types.specs.declared.PicPlace.TheVariants.{Master, Slave}
 use Rattle.vpic_chip.specs.Registers.{Chip, with_request}
-use Rattle.vpic_chip.specs.declared.PendingIrq.{PendingIrq}
-use Rattle.vpic_chip.specs.declared.PendingIrq.TheVariants.{Irq, Nothing}
 use Rattle.vpic_chip.specs.Chip.{asks, driven, pending_line, pending_irq, acknowledged}
 use Rattle.vpic_chip.proofs.Laws.{quiet_taken}
 use Rattle.vpic.specs.Words.{PicState}
@@ -69,25 +68,25 @@ kept_settled p e i = sym (ap (λ (q : PicState). bit q.master.request 2) e) ∙ 
 -- ---- what is taken from a settled pair leaves it settled
 
 -- the master answers for line 2 only where the slave has nothing
-cascade_quiet : (p : PicState) (k : PicLine) → pending_place p ≡ Master k → k.0 ≡ 2 → asks p.slave ≡ false
+cascade_quiet : (p : PicState) (k : PicLine) → pending_place p ≡ Some (Master k) → k.0 ≡ 2 → asks p.slave ≡ false
 unfolding pending_irq asks
 cascade_quiet p k e two = by_master (pending_irq p.master) e
   where
-    by_slave : (b : Bool) → ltb (pending_line p.slave) 8 ≡ b → cascade_place (cond b (Irq (record { 0 = pending_line p.slave })) Nothing) ≡ Master k → b ≡ false
+    by_slave : (b : Bool) → ltb (pending_line p.slave) 8 ≡ b → cascade_place (cond b (Some (record { 0 = pending_line p.slave })) None) ≡ Some (Master k) → b ≡ false
     by_slave true h q = let z : ◌≡◌ {A = ℕ} 0 1 = cc in absurd (omega arith)
     by_slave false h q = refl
 
-    by_line : (j : PicLine) (b : Bool) → eqb j.0 2 ≡ b → cond b (cascade_place (pending_irq p.slave)) (Master j) ≡ Master k → ltb (pending_line p.slave) 8 ≡ false
+    by_line : (j : PicLine) (b : Bool) → eqb j.0 2 ≡ b → cond b (cascade_place (pending_irq p.slave)) (Some (Master j)) ≡ Some (Master k) → ltb (pending_line p.slave) 8 ≡ false
     by_line j true h q = by_slave (ltb (pending_line p.slave) 8) refl q
     by_line j false h q =
         let s : j ≡ k = cc in
         absurd (eqb-false j.0 2 h (ap (λ (l : PicLine). l.0) s ∙ two))
 
-    by_master : (a : PendingIrq) → place_from p a ≡ Master k → ltb (pending_line p.slave) 8 ≡ false
-    by_master (Irq j) q = by_line j (eqb j.0 2) refl q
-    by_master Nothing q = let z : ◌≡◌ {A = ℕ} 0 1 = cc in absurd (omega arith)
+    by_master : (a : Option PicLine) → place_from p a ≡ Some (Master k) → ltb (pending_line p.slave) 8 ≡ false
+    by_master (Some j) q = by_line j (eqb j.0 2) refl q
+    by_master None q = let z : ◌≡◌ {A = ℕ} 0 1 = cc in absurd (omega arith)
 
-pub master_leaves : (p : PicState) (k : PicLine) → settled p ≡ p → pending_place p ≡ Master k → master_taken p k ≡ master_claim p k
+pub master_leaves : (p : PicState) (k : PicLine) → settled p ≡ p → pending_place p ≡ Some (Master k) → master_taken p k ≡ master_claim p k
 unfolding master_claim acknowledged
 master_leaves p k s e =
     ap (λ (q : PicState). state_claim q (master_claim p k).claim) (sym (settled_kept (chips p (acknowledged p.master k.0) p.slave) (λ i. go i (eqb k.0 2) refl)))
@@ -102,7 +101,7 @@ taken_down : (m : Chip) → bit (acknowledged m 2).request 2 ≡ false
 unfolding acknowledged
 taken_down m = bit_without_same m.request 2
 
-pub slave_leaves : (p : PicState) (k : PicLine) → pending_place p ≡ Slave k → p.slave.auto_eoi ≡ false → slave_taken p k ≡ slave_claim p k
+pub slave_leaves : (p : PicState) (k : PicLine) → pending_place p ≡ Some (Slave k) → p.slave.auto_eoi ≡ false → slave_taken p k ≡ slave_claim p k
 unfolding slave_claim
 slave_leaves p k e a =
     ap (λ (q : PicState). state_claim q (slave_claim p k).claim)

@@ -1,24 +1,22 @@
 -- A claim as one number, and what the functions below the public calls say of a claim and of a read. On its way a claim is the number that the boundary answers for it, 0 for none:
 -- `Codes.claim_kept` says that nothing is lost.
-use Rattle.std.specs.Prelude.{ℕ, ◌/◌, ◌%◌, ◌^◌, ◌+◌, Bool, cond, ◌≡◌, eqb}
+use Rattle.vpic.specs.declared.PicInterruptClaim.{PicInterruptClaim}
+use Rattle.types.specs.declared.Refusal.{Refusal}
+use Rattle.std.specs.Prelude.{ℕ, ◌/◌, ◌%◌, ◌^◌, ◌+◌, Bool, cond, ◌≡◌, eqb, Option, Some, None, Result, Ok, Err}
 use Rattle.utils.specs.Set.{bit}
 use Rattle.types.specs.declared.PicLine.{PicLine}
 use Rattle.types.specs.declared.PicPlace.{PicPlace}
-use Rattle.types.specs.declared.PicPlace.TheVariants.{Master, Slave, Nowhere}
+use Rattle.types.specs.declared.PicPlace.TheVariants.{Master, Slave}
 use Rattle.types.specs.Reply.{Outcome}
 use Rattle.reply_code.specs.Lent.{reply_code}
 use Rattle.vpic_chip.specs.Registers.{Chip}
 use Rattle.vpic_chip.specs.Chip.{cascade_irq, acknowledged, read_shown}
-use Rattle.vpic.specs.declared.PicClaim.{PicClaim}
-use Rattle.vpic.specs.declared.PicClaim.TheVariants.{Claimed, Nothing}
-use Rattle.vpic.specs.declared.PicValue.{PicValue}
-use Rattle.vpic.specs.declared.PicValue.TheVariants.{Value, Refused as NotRead}
 use Rattle.vpic.specs.Words.{PicState, is_full}
 use Rattle.vpic.specs.Pair.{StateClaim, state_claim, chips, nothing_claimed, master_claim, slave_claim, claim_reply, port_left, port_read, value_reply}
 
 -- the vector in bits 0 to 7, the line in 16 to 23, and the two flags in 32 and 33
-abbrev pub claim_in : ℕ → PicClaim
-claim_in n = cond (eqb n 0) Nothing (Claimed (record {
+abbrev pub claim_in : ℕ → Option PicInterruptClaim
+claim_in n = cond (eqb n 0) None (Some (record {
   vector = record { 0 = n % 2 ^ 8 };
   irq = record { 0 = n / 2 ^ 16 % 2 ^ 8 };
   master_in_service = bit n 32;
@@ -26,7 +24,7 @@ claim_in n = cond (eqb n 0) Nothing (Claimed (record {
 }))
 
 -- the number of a claim: the code of its reply
-abbrev pub claim_number : PicClaim → ℕ
+abbrev pub claim_number : Option PicInterruptClaim → ℕ
 claim_number c = reply_code (claim_reply c)
 
 -- the pair after a claim, and the claim's number
@@ -47,10 +45,10 @@ master_taken p k = state_claim (chips p (acknowledged p.master k.0) p.slave) (ma
 abbrev pub slave_taken : PicState → PicLine → StateClaim
 slave_taken p k = state_claim (chips p (acknowledged p.master cascade_irq.0) (acknowledged p.slave k.0)) (slave_claim p k).claim
 
-abbrev pub taken_at : PicState → PicPlace → StateClaim
-taken_at p (Master k) = master_taken p k
-taken_at p (Slave k) = slave_claim p k
-taken_at p Nowhere = nothing_claimed p
+abbrev pub taken_at : PicState → Option PicPlace → StateClaim
+taken_at p (Some (Master k)) = master_taken p k
+taken_at p (Some (Slave k)) = slave_claim p k
+taken_at p None = nothing_claimed p
 
 -- nothing is requested: a claim then takes nothing and leaves the pair as it is (`Laws.quiet`)
 abbrev pub is_quiet : PicState → Bool
@@ -65,10 +63,10 @@ pub record ReadOf (c : Chip) (left q : PicState) (register shown : ℕ) : Type 0
 abbrev pub port_outcome : PicState → ℕ → Outcome PicState
 port_outcome p port = record { state = port_left p port; reply = value_reply (port_read p port) }
 
--- what a read of a port, of one byte, shows where that is all that it does, and 0x100 elsewhere: a full pair's read may be a poll's, and a port that the pair hasn't is refused
-abbrev pub byte_shown : PicValue → ℕ
-byte_shown (Value byte) = byte
-byte_shown (NotRead why) = 0x100
+-- what a read of a port, of one byte, shows where that is all that it does, and nothing elsewhere: a full pair's read may be a poll's, and a port that the pair hasn't is refused
+abbrev pub byte_shown : Result ℕ Refusal → Option ℕ
+byte_shown (Ok byte) = Some byte
+byte_shown (Err why) = None
 
-abbrev pub plain_shown : PicState → ℕ → ℕ
-plain_shown p port = cond (is_full p.rule) 0x100 (byte_shown (port_read p port))
+abbrev pub plain_shown : PicState → ℕ → Option ℕ
+plain_shown p port = cond (is_full p.rule) None (byte_shown (port_read p port))

@@ -2,33 +2,23 @@
 -- sequence; the four ports. Departures from the data sheet are marked D-nn and stand in docs/DIFFERENCES.md. By rule 1 (document 02,
 -- T-02) the slave's output drives the master's line 2, as in the data sheet but for D-18; by rule 0, the Rust's, it doesn't (D-13). By rule 2 (T-04, T-06) it does, and the chips are
 -- full 8259As: rotation, special mask mode, poll command, special fully nested mode.
-use Rattle.std.specs.Prelude.{ℕ, ◌+◌, ◌*◌, ◌/◌, ◌%◌, Bool, true, false, not, cond, ◌≡◌, ltb, eqb}
+use Rattle.std.specs.Prelude.{ℕ, ◌+◌, ◌*◌, ◌/◌, ◌%◌, Bool, true, false, not, cond, ◌≡◌, ltb, eqb, Option, Some, None, Result, Ok, Err}
 use Rattle.utils.specs.Set.{bit, outside}
 use Rattle.types.specs.declared.PicLine.{PicLine}
 use Rattle.types.specs.declared.PicPlace.{PicPlace}
-use Rattle.types.specs.declared.PicPlace.TheVariants.{Master, Slave, Nowhere}
+use Rattle.types.specs.declared.PicPlace.TheVariants.{Master, Slave}
 use Rattle.types.specs.declared.Vector.{Vector}
 use Rattle.types.specs.declared.Refusal.{Refusal}
 use Rattle.types.specs.declared.Refusal.TheVariants.{Unsupported, OutOfRange}
 use Rattle.types.specs.declared.Reply.{Reply}
 use Rattle.types.specs.declared.Reply.TheVariants as reply
 use Rattle.types.specs.Counters.{place_of, line_vector}
-use Rattle.types.specs.Reply.{Outcome, flag}
-use Rattle.vpic_chip.specs.declared.PendingIrq.{PendingIrq}
-use Rattle.vpic_chip.specs.declared.PendingIrq.TheVariants.{Irq, Nothing}
-use Rattle.vpic_chip.specs.declared.PicVector.{PicVector}
-use Rattle.vpic_chip.specs.declared.PicVector.TheVariants.{Given, Nothing as NoVector}
+use Rattle.types.specs.Reply.{Outcome, flag, number_reply, option_reply, result_reply, done_reply as nothing_reply}
 use Rattle.vpic_chip.specs.Registers.{Chip, as_full, placed}
 use Rattle.vpic_chip.specs.Chip.{opened, commanded, fed, command_read, pulsed, asks, cascade_irq, driven, pending_irq, acknowledged, unacknowledged, vector_reply, is_polled, polled, read_shown}
 use Rattle.vpic.specs.declared.PicRule.{PicRule}
 use Rattle.vpic.specs.declared.PicRule.TheVariants.{Latch, Cascade, Full}
 use Rattle.vpic.specs.declared.PicInterruptClaim.{PicInterruptClaim}
-use Rattle.vpic.specs.declared.PicClaim.{PicClaim}
-use Rattle.vpic.specs.declared.PicClaim.TheVariants.{Claimed, Nothing as NoClaim}
-use Rattle.vpic.specs.declared.PicDone.{PicDone}
-use Rattle.vpic.specs.declared.PicDone.TheVariants.{Done, Refused}
-use Rattle.vpic.specs.declared.PicValue.{PicValue}
-use Rattle.vpic.specs.declared.PicValue.TheVariants.{Value, Refused as NotRead}
 use Rattle.vpic.specs.declared.PortRanges.{PortRanges}
 use Rattle.vpic.specs.Words.{PicState}
 
@@ -50,6 +40,10 @@ rule_in n = cond (eqb n 1) Cascade (cond (eqb n 2) Full Latch)
 -- the numbers that a rule has
 abbrev pub is_rule : ℕ → Bool
 is_rule n = ltb n 3
+
+-- the rule of a number from outside
+abbrev pub rule_of : ℕ → Result PicRule Refusal
+rule_of n = cond (is_rule n) (Ok (rule_in n)) (Err Unsupported)
 
 -- whether the slave's output drives the master's line 2
 abbrev pub drives : PicRule → Bool
@@ -82,20 +76,15 @@ Keeps p = is_cascade p ≡ true → bit p.master.request cascade_irq.0 ≡ asks 
 
 -- ---- an edge on a line of the pair
 
-abbrev pub is_place : PicPlace → Bool
-is_place (Master k) = true
-is_place (Slave k) = true
-is_place Nowhere = false
+abbrev pub is_place : Option PicPlace → Bool
+is_place (Some (Master k)) = true
+is_place (Some (Slave k)) = true
+is_place None = false
 
-abbrev pub latched_at : PicState → PicPlace → PicState
-latched_at p (Master k) = chips p (pulsed p.master k) p.slave
-latched_at p (Slave k) = chips p (pulsed p.master cascade_irq) (pulsed p.slave k)
-latched_at p Nowhere = p
-
--- q is p after the edge, and the answer whether the pair has that line
-pub record Latched (p q : PicState) (place : PicPlace) (answer : Bool) : Type 0 where
-  pub state : q ≡ latched_at p place
-  pub known : answer ≡ is_place place
+abbrev pub latched_at : PicState → Option PicPlace → PicState
+latched_at p (Some (Master k)) = chips p (pulsed p.master k) p.slave
+latched_at p (Some (Slave k)) = chips p (pulsed p.master cascade_irq) (pulsed p.slave k)
+latched_at p None = p
 
 unfoldable pub latched : PicState → PicLine → PicState
 latched p l = settled (latched_at p (place_of l))
@@ -105,9 +94,9 @@ latched p l = settled (latched_at p (place_of l))
 -- the pair after a claim, and the claim
 pub record StateClaim : Type 0 where
   pub state : PicState
-  pub claim : PicClaim
+  pub claim : Option PicInterruptClaim
 
-abbrev pub state_claim : PicState → PicClaim → StateClaim
+abbrev pub state_claim : PicState → Option PicInterruptClaim → StateClaim
 state_claim p c = record { state = p; claim = c }
 
 -- a claim says what it did: the vector, the line, and which chip's in-service set grew by it: some line is in service after, and wasn't before
@@ -118,7 +107,7 @@ grew before after = not (eqb (outside 8 after.in_service before.in_service) 0)
 abbrev pub claimed : PicState → PicState → Vector → PicLine → StateClaim
 claimed p q v l = record {
   state = settled q;
-  claim = Claimed (record {
+  claim = Some (record {
     vector = v;
     irq = l;
     master_in_service = grew p.master q.master;
@@ -136,25 +125,25 @@ slave_claim p k =
     claimed p (chips p (acknowledged p.master cascade_irq.0) (acknowledged p.slave k.0)) (line_vector p.slave.vector_base k) (record { 0 = k.0 + 8 })
 
 -- the master's line 2 is acknowledged. D-16: with no slave request that counts the master answers for line 2 (in the data sheet the slave, for its line 7)
-abbrev pub cascade_place : PendingIrq → PicPlace
-cascade_place (Irq k) = Slave k
-cascade_place Nothing = Master cascade_irq
+abbrev pub cascade_place : Option PicLine → Option PicPlace
+cascade_place (Some k) = Some (Slave k)
+cascade_place None = Some (Master cascade_irq)
 
-abbrev pub place_from : PicState → PendingIrq → PicPlace
-place_from p (Irq k) = cond (eqb k.0 cascade_irq.0) (cascade_place (pending_irq p.slave)) (Master k)
-place_from p Nothing = Nowhere
+abbrev pub place_from : PicState → Option PicLine → Option PicPlace
+place_from p (Some k) = cond (eqb k.0 cascade_irq.0) (cascade_place (pending_irq p.slave)) (Some (Master k))
+place_from p None = None
 
 -- whose line answers for the highest request of the master that counts
-abbrev pub pending_place : PicState → PicPlace
+abbrev pub pending_place : PicState → Option PicPlace
 pending_place p = place_from p (pending_irq p.master)
 
 abbrev pub nothing_claimed : PicState → StateClaim
-nothing_claimed p = record { state = p; claim = NoClaim }
+nothing_claimed p = record { state = p; claim = None }
 
-abbrev pub claim_at : PicState → PicPlace → StateClaim
-claim_at p (Master k) = master_claim p k
-claim_at p (Slave k) = slave_claim p k
-claim_at p Nowhere = nothing_claimed (settled p)
+abbrev pub claim_at : PicState → Option PicPlace → StateClaim
+claim_at p (Some (Master k)) = master_claim p k
+claim_at p (Some (Slave k)) = slave_claim p k
+claim_at p None = nothing_claimed (settled p)
 
 -- the highest request of the master that counts is claimed; where none does, the pair is settled all the same
 unfoldable pub claim_pending : PicState → StateClaim
@@ -166,10 +155,10 @@ claim_irq p l = cond (ltb l.0 16) (claim_pending (latched p l)) (nothing_claimed
 
 -- ---- a claim that couldn't be published is put back (not in the data sheet: the Rust's). Below line 8 the slave's flag is ignored
 
-abbrev pub restored_at : PicState → PicPlace → Bool → Bool → PicState
-restored_at p (Master k) m s = chips p (unacknowledged p.master k m) p.slave
-restored_at p (Slave k) m s = chips p (unacknowledged p.master cascade_irq m) (unacknowledged p.slave k s)
-restored_at p Nowhere m s = p
+abbrev pub restored_at : PicState → Option PicPlace → Bool → Bool → PicState
+restored_at p (Some (Master k)) m s = chips p (unacknowledged p.master k m) p.slave
+restored_at p (Some (Slave k)) m s = chips p (unacknowledged p.master cascade_irq m) (unacknowledged p.slave k s)
+restored_at p None m s = p
 
 unfoldable pub restored : PicState → PicInterruptClaim → PicState
 restored p c = settled (restored_at p (place_of c.irq) c.master_in_service c.slave_in_service)
@@ -199,12 +188,12 @@ is_there slave_data = true
 is_there no_port = false
 
 -- what a read shows: the poll's answer where one waits on the chip, else the port's register
-abbrev pub read_from : PicState → Port → PicValue
-read_from p master_command = Value (read_shown p.master (command_read p.master))
-read_from p master_data = Value (read_shown p.master p.master.mask)
-read_from p slave_command = Value (read_shown p.slave (command_read p.slave))
-read_from p slave_data = Value (read_shown p.slave p.slave.mask)
-read_from p no_port = NotRead Unsupported
+abbrev pub read_from : PicState → Port → Result ℕ Refusal
+read_from p master_command = Ok (read_shown p.master (command_read p.master))
+read_from p master_data = Ok (read_shown p.master p.master.mask)
+read_from p slave_command = Ok (read_shown p.slave (command_read p.slave))
+read_from p slave_data = Ok (read_shown p.slave p.slave.mask)
+read_from p no_port = Err Unsupported
 
 -- what it leaves: a poll acknowledges on its chip alone; another read changes nothing
 abbrev pub master_read : PicState → PicState
@@ -230,7 +219,7 @@ written_to p no_port byte = p
 abbrev pub is_port : ℕ → Bool
 is_port port = is_there (port_at port)
 
-unfoldable pub port_read : PicState → ℕ → PicValue
+unfoldable pub port_read : PicState → ℕ → Result ℕ Refusal
 port_read p port = read_from p (port_at port)
 
 unfoldable pub port_left : PicState → ℕ → PicState
@@ -254,39 +243,40 @@ abbrev pub claim_flags : PicInterruptClaim → ℕ
 claim_flags c = flag c.master_in_service + 2 * flag c.slave_in_service
 
 -- vector, line, flags
-abbrev pub claim_reply : PicClaim → Reply
-claim_reply (Claimed c) = reply.Three c.vector.0 c.irq.0 (claim_flags c)
-claim_reply NoClaim = reply.Nothing
+abbrev pub interrupt_reply : PicInterruptClaim → Reply
+interrupt_reply c = reply.Three c.vector.0 c.irq.0 (claim_flags c)
 
-abbrev pub claim_vector : PicClaim → PicVector
-claim_vector (Claimed c) = Given c.vector
-claim_vector NoClaim = NoVector
+-- or nothing
+abbrev pub claim_reply : Option PicInterruptClaim → Reply
+claim_reply = option_reply interrupt_reply
+
+abbrev pub claim_vector : Option PicInterruptClaim → Option Vector
+claim_vector (Some c) = Some c.vector
+claim_vector None = None
 
 -- the claim of a line by the vector that its chip gave
-abbrev pub claim_of : PicVector → PicLine → Bool → Bool → PicClaim
-claim_of (Given v) l m s = Claimed (record { vector = v; irq = l; master_in_service = m; slave_in_service = s })
-claim_of NoVector l m s = NoClaim
+abbrev pub claim_of : Option Vector → PicLine → Bool → Bool → Option PicInterruptClaim
+claim_of (Some v) l m s = Some (record { vector = v; irq = l; master_in_service = m; slave_in_service = s })
+claim_of None l m s = None
 
-abbrev pub done_reply : PicDone → Reply
-done_reply Done = reply.Nothing
-done_reply (Refused why) = reply.Refused why
+abbrev pub done_reply : Result (Unit {0}) Refusal → Reply
+done_reply = result_reply nothing_reply
 
-abbrev pub value_reply : PicValue → Reply
-value_reply (Value byte) = reply.One byte
-value_reply (NotRead why) = reply.Refused why
+abbrev pub value_reply : Result ℕ Refusal → Reply
+value_reply = result_reply number_reply
 
 -- ---- what each public call leaves: the whole pair, and the reply
 
-abbrev pub claim_outcome : PicState → PicClaim → Outcome PicState
+abbrev pub claim_outcome : PicState → Option PicInterruptClaim → Outcome PicState
 claim_outcome p c = record { state = p; reply = claim_reply c }
 
-abbrev pub vector_outcome : PicState → PicVector → Outcome PicState
+abbrev pub vector_outcome : PicState → Option Vector → Outcome PicState
 vector_outcome p v = record { state = p; reply = vector_reply v }
 
-abbrev pub done_outcome : PicState → PicDone → Outcome PicState
+abbrev pub done_outcome : PicState → Result (Unit {0}) Refusal → Outcome PicState
 done_outcome p d = record { state = p; reply = done_reply d }
 
-abbrev pub value_outcome : PicState → PicValue → Outcome PicState
+abbrev pub value_outcome : PicState → Result ℕ Refusal → Outcome PicState
 value_outcome p v = record { state = p; reply = value_reply v }
 
 abbrev pub refused : PicState → Refusal → Outcome PicState

@@ -1,23 +1,23 @@
 // Ported to Rattle from vpic.rs of the Rust crate x86_vlapic 0.5.4 (Apache License, Version 2.0; the text stands in LICENSE).
 //
 // Changed: the pair's state is four words that the caller lends, `specs/Words.antt`; each call works in place on them, and `EmulatedPic` lends its own: state in and out by
-// value, and no lock. Lines and vectors are `PicLine` and `Vector`; `Option` and `Result` became enums, and panics and logs went; T-02's rule, and the full profile
+// value, and no lock. Lines and vectors are `PicLine` and `Vector`, and panics and logs went; T-02's rule, and the full profile
 // of T-04 and T-06, which is rule 2, were added; each function has its contract.
 
 #![tactic(auto)]
 
-ghost use Rattle.std.specs.Prelude.{◌≡◌, true, false, not, ◌%◌, eqb};
+ghost use Rattle.std.specs.Prelude.{◌≡◌, true, false, not, ◌%◌, eqb, Some};
 ghost use Rattle.types.specs.Counters.{place_of};
 ghost use Rattle.types.specs.declared.PicPlace.TheVariants as place;
 ghost use Rattle.vpic_chip.specs.Registers.{chip_in, full_in, placed};
 ghost use Rattle.vpic.specs.Words.{is_full, plain_view, full_view, view};
 ghost use Rattle.vpic.specs.Claim.{claim_in, claim_number, numbered, with_number, master_taken, slave_taken, taken_at, is_quiet, ReadOf, port_outcome, plain_shown};
 ghost use Rattle.vpic.specs.declared.PicRule.TheVariants as rules;
-ghost use Rattle.vpic.specs.Pair.{rule_in, rule_number, is_rule, chips, is_cascade, settled, Latched, state_claim, claim_of, slave_claim, pending_place, claim_pending, claim_irq, restored_at, port_read, master_read, slave_read, Written, is_port, port_written, claim_flags, claim_reply, claim_vector, done_reply, value_reply, with_claim, with_vector, claim_outcome, vector_outcome, done_outcome, value_outcome, new_state, port_ranges, restore_interrupt, handle_read, handle_write};
+ghost use Rattle.vpic.specs.Pair.{rule_in, rule_number, is_rule, chips, is_cascade, settled, latched_at, state_claim, claim_of, slave_claim, pending_place, claim_pending, claim_irq, restored_at, port_read, master_read, slave_read, Written, is_port, port_written, rule_of, claim_flags, interrupt_reply, claim_vector, with_claim, with_vector, claim_outcome, vector_outcome, done_outcome, value_outcome, new_state, port_ranges, restore_interrupt, handle_read, handle_write};
 
-use types::{PicLine, PicPlace, Refusal, Reply, Vector};
+use types::{PicLine, PicPlace, Refusal, Reply, ToReply, Vector};
 use utils::seen;
-use vpic_chip::{CASCADE_IRQ, PendingIrq, PicChip, PicVector, digit};
+use vpic_chip::{CASCADE_IRQ, PicChip};
 
 pub const MASTER_COMMAND: u16 = 0x20;
 
@@ -28,7 +28,7 @@ pub const SLAVE_COMMAND: u16 = 0xa0;
 pub const SLAVE_DATA: u16 = 0xa1;
 
 // What the slave's output does to the master's line 2, and whether the chips are full 8259As.
-#[derive(Clone, Copy)]
+#[derive(Clone, Copy, Debug, PartialEq, Eq, Hash)]
 pub enum PicRule {
     // Nothing: the Rust's rule, number 0. A slave's edge sets the line's request, and an acknowledgement clears it.
     Latch,
@@ -39,7 +39,7 @@ pub enum PicRule {
 }
 
 // A pending legacy PIC interrupt removed from the requests for delivery. It can be restored where its vector couldn't be published.
-#[derive(Clone, Copy)]
+#[derive(Clone, Copy, Debug, PartialEq, Eq, Hash)]
 pub struct PicInterruptClaim {
     pub vector: Vector,
     pub irq: PicLine,
@@ -47,42 +47,21 @@ pub struct PicInterruptClaim {
     pub slave_in_service: bool,
 }
 
-// The Rust's `Option<PicInterruptClaim>`.
-#[derive(Clone, Copy)]
-pub enum PicClaim {
-    Claimed(PicInterruptClaim),
-    Nothing,
-}
-
-// The Rust's `X86VlapicResult`: done, or why not.
-#[derive(Clone, Copy)]
-pub enum PicDone {
-    Done,
-    Refused(Refusal),
-}
-
-// The Rust's `X86VlapicResult<usize>`.
-#[derive(Clone, Copy)]
-pub enum PicValue {
-    Value(u8),
-    Refused(Refusal),
-}
-
 // The first and the last port of a range.
-#[derive(Clone, Copy)]
+#[derive(Clone, Copy, Debug, PartialEq, Eq, Hash)]
 pub struct PortRange {
     pub start: u16,
     pub end: u16,
 }
 
-#[derive(Clone, Copy)]
+#[derive(Clone, Copy, Debug, PartialEq, Eq, Hash)]
 pub struct PortRanges {
     pub master: PortRange,
     pub slave: PortRange,
 }
 
 impl PicRule {
-    // Whether a rule has this number.
+    // Whether a rule has this number. Of words that are lent this is asked alone, with no need of the rule.
     pub fn is_number(number: u64) -> bool
         ensures { result ≡ is_rule number }
     {
@@ -113,6 +92,20 @@ impl PicRule {
     }
 }
 
+// The rule of a number from outside: `Unsupported` where no rule has it.
+impl TryFrom<u64> for PicRule {
+    type Error = Refusal;
+
+    ghost try_from_gives = { λ number rule. rule ≡ rule_of number };
+
+    fn try_from(number: u64) -> Result<PicRule, Refusal> {
+        if !PicRule::is_number(number) {
+            return Err(Refusal::Unsupported);
+        }
+        Ok(PicRule::from_number(number))
+    }
+}
+
 // ---- Answers in the numbers of document 01.
 
 impl PicInterruptClaim {
@@ -124,98 +117,65 @@ impl PicInterruptClaim {
     }
 
     // Which in-service bits the claim set: 1 the master's, 2 the slave's.
+    #[tactic(auto, using(crate::proofs::Codes::flags_sum, crate::proofs::Codes::digit_le))]
     pub fn flags(self) -> u64
         ensures { result ≡ claim_flags self }
     {
-        if self.master_in_service {
-            if self.slave_in_service {
-                return 3;
-            }
-            return 1;
-        }
-        if self.slave_in_service {
-            return 2;
-        }
-        0
+        u64::from(self.master_in_service) + 2 * u64::from(self.slave_in_service)
     }
 }
 
-impl PicClaim {
-    pub fn reply(self) -> Reply
-        ensures { result ≡ claim_reply self }
-    {
-        match self {
-            PicClaim::Claimed(c) => {
-                let vector = c.vector;
-                let irq = c.irq;
-                Reply::Three(vector.0 as u64, irq.0 as u64, c.flags())
-            }
-            PicClaim::Nothing => Reply::Nothing,
-        }
-    }
+// The vector, the line, and the flags.
+impl ToReply for PicInterruptClaim {
+    ghost reply_of = { interrupt_reply };
 
-    fn vector(self) -> PicVector
-        ensures { result ≡ claim_vector self }
-    {
-        match self {
-            PicClaim::Claimed(c) => {
-                let vector = c.vector;
-                PicVector::Given(vector)
-            }
-            PicClaim::Nothing => PicVector::Nothing,
-        }
+    fn reply(self) -> Reply {
+        Reply::Three(
+            u64::from(self.vector.0),
+            u64::from(self.irq.0),
+            self.flags(),
+        )
     }
 }
 
-impl PicDone {
-    pub fn reply(self) -> Reply
-        ensures { result ≡ done_reply self }
-    {
-        match self {
-            PicDone::Done => Reply::Nothing,
-            PicDone::Refused(why) => Reply::Refused(why),
-        }
-    }
-}
-
-impl PicValue {
-    pub fn reply(self) -> Reply
-        ensures { result ≡ value_reply self }
-    {
-        match self {
-            PicValue::Value(byte) => Reply::One(byte as u64),
-            PicValue::Refused(why) => Reply::Refused(why),
-        }
-    }
+fn vector_of(claim: Option<PicInterruptClaim>) -> Option<Vector>
+    ensures { result ≡ claim_vector claim }
+{
+    Some(claim?.vector)
 }
 
 // ---- A claim on its way through the private functions: one number, so that it stays in a register, and no struct of it, which would come back through memory. 0 is none;
 // `specs/Claim.antt` has its bits.
 
 // A claim of a line with its vector, and which in-service bits it set; without a vector none was taken.
-fn claimed(vector: PicVector, irq: PicLine, master_in_service: bool, slave_in_service: bool) -> u64
+fn claimed(
+    vector: Option<Vector>,
+    irq: PicLine,
+    master_in_service: bool,
+    slave_in_service: bool,
+) -> u64
     ensures { (claim_in result ≡ claim_of vector irq master_in_service slave_in_service) × (result ≡ claim_number (claim_in result)) }
 {
     match vector {
-        PicVector::Given(v) => {
+        Some(v) => {
             0x3_0000_0000_0000
-                + digit(slave_in_service) * 0x2_0000_0000
-                + digit(master_in_service) * 0x1_0000_0000
-                + irq.0 as u64 * 0x1_0000
-                + v.0 as u64
+                + u64::from(slave_in_service) * 0x2_0000_0000
+                + u64::from(master_in_service) * 0x1_0000_0000
+                + u64::from(irq.0) * 0x1_0000
+                + u64::from(v.0)
         }
-        PicVector::Nothing => 0,
+        None => 0,
     }
 }
 
 // The claim of a number.
-fn claim_in(number: u64) -> PicClaim
+fn claim_in(number: u64) -> Option<PicInterruptClaim>
     ensures { result ≡ claim_in number }
 {
     if number == 0 {
-        return PicClaim::Nothing;
+        return None;
     }
-    PicClaim::Claimed(PicInterruptClaim {
+    Some(PicInterruptClaim {
         vector: Vector((number % 0x100) as u8),
         irq: PicLine((number / 0x1_0000 % 0x100) as u8),
         master_in_service: number / 0x1_0000_0000 % 2 == 1,
@@ -263,14 +223,14 @@ pub fn rule(words: &[u64; 4]) -> PicRule
 fn set_master(words: &mut [u64; 4], chip: PicChip)
     ensures { plain_view words.new ≡ chips (plain_view words.old) (chip_in chip.0) (plain_view words.old).slave }
 {
-    seen(&*words);
+    seen(words);
     words[0] = chip.0;
 }
 
 fn set_slave(words: &mut [u64; 4], chip: PicChip)
     ensures { plain_view words.new ≡ chips (plain_view words.old) (plain_view words.old).master (chip_in chip.0) }
 {
-    seen(&*words);
+    seen(words);
     words[1] = chip.0;
 }
 
@@ -279,7 +239,7 @@ fn set_slave(words: &mut [u64; 4], chip: PicChip)
 pub fn new_rule(words: &mut [u64; 4], rule: PicRule)
     ensures { view words.new ≡ new_state rule }
 {
-    seen(&*words);
+    seen(words);
     let first = PicChip::new(0x08);
     let second = PicChip::new(0x70);
     words[0] = first.0;
@@ -292,7 +252,7 @@ pub fn new_rule(words: &mut [u64; 4], rule: PicRule)
 pub fn new(words: &mut [u64; 4])
     ensures { view words.new ≡ new_state rules.Cascade }
 {
-    new_rule(&mut *words, PicRule::Cascade);
+    new_rule(words, PicRule::Cascade);
 }
 
 // The two command and data port ranges.
@@ -317,81 +277,76 @@ pub fn port_ranges() -> PortRanges
 fn settle(words: &mut [u64; 4])
     ensures { plain_view words.new ≡ settled (plain_view words.old) }
 {
-    if !is_cascade(&*words) {
+    if !is_cascade(words) {
         return;
     }
-    let second = slave(&*words);
+    let second = slave(words);
     // As mostly, and found at once.
     if second.request() == 0 {
-        let lowered = master(&*words).drive_cascade(false);
-        set_master(&mut *words, lowered);
+        let lowered = master(words).drive_cascade(false);
+        set_master(words, lowered);
         return;
     }
-    let driven = master(&*words).drive_cascade(second.asks());
-    set_master(&mut *words, driven);
+    let driven = master(words).drive_cascade(second.asks());
+    set_master(words, driven);
 }
 
-// An edge on a line of one of the chips; whether the pair has that line.
-fn latch(words: &mut [u64; 4], place: PicPlace) -> bool
-    ensures { Latched (plain_view words.old) (plain_view words.new) place result }
+// An edge on a line of one of the chips.
+fn latch(words: &mut [u64; 4], place: PicPlace)
+    ensures { plain_view words.new ≡ latched_at (plain_view words.old) (Some place) }
 {
     match place {
         PicPlace::Master(k) => {
-            let edge = master(&*words).pulse(k);
-            set_master(&mut *words, edge);
-            true
+            let edge = master(words).pulse(k);
+            set_master(words, edge);
         }
         PicPlace::Slave(k) => {
-            let cascade = master(&*words).pulse(PicLine(CASCADE_IRQ));
-            set_master(&mut *words, cascade);
-            let edge = slave(&*words).pulse(k);
-            set_slave(&mut *words, edge);
-            true
+            let cascade = master(words).pulse(PicLine(CASCADE_IRQ));
+            set_master(words, cascade);
+            let edge = slave(words).pulse(k);
+            set_slave(words, edge);
         }
-        PicPlace::Nowhere => false,
     }
 }
 
 // Whose line a claim takes: one of the master's, or one of the slave's through the master's line 2.
-fn pending_place(words: &[u64; 4]) -> PicPlace
+fn pending_place(words: &[u64; 4]) -> Option<PicPlace>
     ensures { result ≡ pending_place (plain_view words.now) }
 {
-    let PendingIrq::Irq(master_irq) = master(words).pending_irq() else {
-        return PicPlace::Nowhere;
+    let Some(master_irq) = master(words).pending_irq() else {
+        return None;
     };
     if master_irq.0 != CASCADE_IRQ {
-        return PicPlace::Master(master_irq);
+        return Some(PicPlace::Master(master_irq));
     }
-    let PendingIrq::Irq(slave_irq) = slave(words).pending_irq() else {
-        return PicPlace::Master(PicLine(CASCADE_IRQ));
+    let Some(slave_irq) = slave(words).pending_irq() else {
+        return Some(PicPlace::Master(PicLine(CASCADE_IRQ)));
     };
-    PicPlace::Slave(slave_irq)
+    Some(PicPlace::Slave(slave_irq))
 }
 
 // The master answers for one of its lines; the pair isn't settled yet.
 fn take_master(words: &mut [u64; 4], irq: PicLine) -> u64
-    requires { pending_place (plain_view words.old) ≡ place.Master irq }
+    requires { pending_place (plain_view words.old) ≡ Some (place.Master irq) }
     ensures { (state_claim (plain_view words.new) (claim_in result) ≡ master_taken (plain_view words.old) irq) × (result ≡ claim_number (claim_in result)) }
 {
-    let first = master(&*words);
-    let taken = first.acknowledge(irq);
-    set_master(&mut *words, taken.chip);
-    let vector = taken.vector;
+    let first = master(words);
+    let (taken, vector) = first.acknowledge(irq);
+    set_master(words, taken);
     claimed(vector, irq, !first.auto_eoi(), false)
 }
 
 // The slave answers for one of its lines, through the master's line 2.
 fn take_slave(words: &mut [u64; 4], irq: PicLine) -> u64
-    requires { pending_place (plain_view words.old) ≡ place.Slave irq }
+    requires { pending_place (plain_view words.old) ≡ Some (place.Slave irq) }
     ensures { (state_claim (plain_view words.new) (claim_in result) ≡ slave_taken (plain_view words.old) irq) × (result ≡ claim_number (claim_in result)) }
 {
-    let first = master(&*words);
-    let second = slave(&*words);
-    let cascade = first.acknowledge(PicLine(CASCADE_IRQ));
-    let taken = second.acknowledge(irq);
-    set_master(&mut *words, cascade.chip);
-    set_slave(&mut *words, taken.chip);
-    let vector = taken.vector;
+    let first = master(words);
+    let second = slave(words);
+    let (cascade, _) = first.acknowledge(PicLine(CASCADE_IRQ));
+    let (taken, vector) = second.acknowledge(irq);
+    set_master(words, cascade);
+    set_slave(words, taken);
     claimed(
         vector,
         PicLine(irq.0 + 8),
@@ -403,28 +358,28 @@ fn take_slave(words: &mut [u64; 4], irq: PicLine) -> u64
 // A slave's line that goes into service leaves nothing to settle: no other of the slave's lines counts then. Where one call stands in two arms of a test, both say the
 // same: the compiler then knows the claim's flags.
 fn claim_slave(words: &mut [u64; 4], irq: PicLine) -> u64
-    requires { pending_place (plain_view words.old) ≡ place.Slave irq }
+    requires { pending_place (plain_view words.old) ≡ Some (place.Slave irq) }
     ensures { (state_claim (plain_view words.new) (claim_in result) ≡ slave_claim (plain_view words.old) irq) × (result ≡ claim_number (claim_in result)) }
 {
-    if slave(&*words).auto_eoi() {
-        let taken = take_slave(&mut *words, irq);
-        settle(&mut *words);
+    if slave(words).auto_eoi() {
+        let taken = take_slave(words, irq);
+        settle(words);
         return taken;
     }
-    if master(&*words).auto_eoi() {
-        return take_slave(&mut *words, irq);
+    if master(words).auto_eoi() {
+        return take_slave(words, irq);
     }
-    take_slave(&mut *words, irq)
+    take_slave(words, irq)
 }
 
 // What can be delivered is taken. A master's line is taken without settling the pair.
 fn take(words: &mut [u64; 4]) -> u64
     ensures { (state_claim (plain_view words.new) (claim_in result) ≡ taken_at (plain_view words.old) (pending_place (plain_view words.old))) × (result ≡ claim_number (claim_in result)) }
 {
-    match pending_place(&*words) {
-        PicPlace::Master(k) => take_master(&mut *words, k),
-        PicPlace::Slave(k) => claim_slave(&mut *words, k),
-        PicPlace::Nowhere => 0,
+    match pending_place(words) {
+        Some(PicPlace::Master(k)) => take_master(words, k),
+        Some(PicPlace::Slave(k)) => claim_slave(words, k),
+        None => 0,
     }
 }
 
@@ -442,8 +397,8 @@ fn is_quiet(words: &[u64; 4]) -> bool
 fn claim_pending(words: &mut [u64; 4]) -> u64
     ensures { (state_claim (plain_view words.new) (claim_in result) ≡ claim_pending (plain_view words.old)) × (result ≡ claim_number (claim_in result)) }
 {
-    let taken = take(&mut *words);
-    settle(&mut *words);
+    let taken = take(words);
+    settle(words);
     taken
 }
 
@@ -451,31 +406,32 @@ fn claim_pending(words: &mut [u64; 4]) -> u64
 fn claim_line(words: &mut [u64; 4], irq: PicLine) -> u64
     ensures { (state_claim (plain_view words.new) (claim_in result) ≡ claim_irq (plain_view words.old) irq) × (result ≡ claim_number (claim_in result)) }
 {
-    if !latch(&mut *words, irq.place()) {
+    let Some(place) = irq.place() else {
         return 0;
-    }
-    settle(&mut *words);
-    take(&mut *words)
+    };
+    latch(words, place);
+    settle(words);
+    take(words)
 }
 
 // Latches an edge on one line and claims what can be delivered at once.
-pub fn claim_irq(words: &mut [u64; 4], irq: PicLine) -> PicClaim
+pub fn claim_irq(words: &mut [u64; 4], irq: PicLine) -> Option<PicInterruptClaim>
     ensures { claim_outcome (view words.new) result ≡ with_claim (claim_irq (view words.old) irq) }
 {
-    if is_full(&*words) {
-        return claim_in(full_claim_line(&mut *words, irq));
+    if is_full(words) {
+        return claim_in(full_claim_line(words, irq));
     }
-    claim_in(claim_line(&mut *words, irq))
+    claim_in(claim_line(words, irq))
 }
 
 // The same, and the claim as one number.
 pub fn claim_irq_number(words: &mut [u64; 4], irq: PicLine) -> u64
     ensures { numbered (view words.new) result ≡ with_number (claim_irq (view words.old) irq) }
 {
-    if is_full(&*words) {
-        return full_claim_line(&mut *words, irq);
+    if is_full(words) {
+        return full_claim_line(words, irq);
     }
-    claim_line(&mut *words, irq)
+    claim_line(words, irq)
 }
 
 // What can be delivered is claimed, by either road. Called by several, so that it stays a function of its own: a claim that finds nothing requested then doesn't begin
@@ -483,189 +439,171 @@ pub fn claim_irq_number(words: &mut [u64; 4], irq: PicLine) -> u64
 fn claim_open(words: &mut [u64; 4]) -> u64
     ensures { (state_claim (view words.new) (claim_in result) ≡ claim_pending (view words.old)) × (result ≡ claim_number (claim_in result)) }
 {
-    if is_full(&*words) {
-        return full_claim_pending(&mut *words);
+    if is_full(words) {
+        return full_claim_pending(words);
     }
-    if !master(&*words).asks() {
-        settle(&mut *words);
+    if !master(words).asks() {
+        settle(words);
         return 0;
     }
-    claim_pending(&mut *words)
+    claim_pending(words)
 }
 
 // Claims a request that became deliverable after the guest changed the chips.
-pub fn claim_pending_interrupt(words: &mut [u64; 4]) -> PicClaim
+pub fn claim_pending_interrupt(words: &mut [u64; 4]) -> Option<PicInterruptClaim>
     ensures { claim_outcome (view words.new) result ≡ with_claim (claim_pending (view words.old)) }
 {
     // As mostly, and found at once.
-    if is_quiet(&*words) {
-        return PicClaim::Nothing;
+    if is_quiet(words) {
+        return None;
     }
-    claim_in(claim_open(&mut *words))
+    claim_in(claim_open(words))
 }
 
 // The same, and the claim as one number.
 pub fn claim_pending_number(words: &mut [u64; 4]) -> u64
     ensures { numbered (view words.new) result ≡ with_number (claim_pending (view words.old)) }
 {
-    if is_quiet(&*words) {
+    if is_quiet(words) {
         return 0;
     }
-    claim_open(&mut *words)
+    claim_open(words)
 }
 
 // Latches an edge and answers the vector alone: such a claim can't be restored.
-pub fn pulse_irq(words: &mut [u64; 4], irq: PicLine) -> PicVector
+pub fn pulse_irq(words: &mut [u64; 4], irq: PicLine) -> Option<Vector>
     ensures { vector_outcome (view words.new) result ≡ with_vector (claim_irq (view words.old) irq) }
 {
-    if is_full(&*words) {
-        return claim_in(full_claim_line(&mut *words, irq)).vector();
+    if is_full(words) {
+        return vector_of(claim_in(full_claim_line(words, irq)));
     }
-    claim_in(claim_line(&mut *words, irq)).vector()
+    vector_of(claim_in(claim_line(words, irq)))
 }
 
-pub fn next_interrupt(words: &mut [u64; 4]) -> PicVector
+pub fn next_interrupt(words: &mut [u64; 4]) -> Option<Vector>
     ensures { vector_outcome (view words.new) result ≡ with_vector (claim_pending (view words.old)) }
 {
-    if is_quiet(&*words) {
-        return PicVector::Nothing;
+    if is_quiet(words) {
+        return None;
     }
-    if is_full(&*words) {
-        return claim_in(claim_open(&mut *words)).vector();
+    if is_full(words) {
+        return vector_of(claim_in(claim_open(words)));
     }
     // The other rules' road as in `claim_open`: called, it costs a stack frame.
-    if !master(&*words).asks() {
-        settle(&mut *words);
-        return PicVector::Nothing;
+    if !master(words).asks() {
+        settle(words);
+        return None;
     }
-    claim_in(claim_pending(&mut *words)).vector()
+    vector_of(claim_in(claim_pending(words)))
 }
 
 // A claim taken back at its place.
-fn restore_at(
-    words: &mut [u64; 4],
-    place: PicPlace,
-    master_in_service: bool,
-    slave_in_service: bool,
-)
-    ensures { plain_view words.new ≡ restored_at (plain_view words.old) place master_in_service slave_in_service }
+fn restore_at(words: &mut [u64; 4], place: PicPlace, claim: PicInterruptClaim)
+    ensures { plain_view words.new ≡ restored_at (plain_view words.old) (Some place) claim.master_in_service claim.slave_in_service }
 {
     match place {
         PicPlace::Master(k) => {
-            let back = master(&*words).unacknowledge(k, master_in_service);
-            set_master(&mut *words, back);
+            let back = master(words).unacknowledge(k, claim.master_in_service);
+            set_master(words, back);
         }
         PicPlace::Slave(k) => {
-            let cascade = master(&*words).unacknowledge(PicLine(CASCADE_IRQ), master_in_service);
-            set_master(&mut *words, cascade);
-            let back = slave(&*words).unacknowledge(k, slave_in_service);
-            set_slave(&mut *words, back);
+            let cascade = master(words).unacknowledge(
+                PicLine(CASCADE_IRQ),
+                claim.master_in_service,
+            );
+            set_master(words, cascade);
+            let back = slave(words).unacknowledge(k, claim.slave_in_service);
+            set_slave(words, back);
         }
-        PicPlace::Nowhere => {}
     }
 }
 
 // Restores a claim whose vector couldn't be published.
-pub fn restore_interrupt(words: &mut [u64; 4], claim: PicInterruptClaim) -> PicDone
+pub fn restore_interrupt(words: &mut [u64; 4], claim: PicInterruptClaim) -> Result<(), Refusal>
     ensures { done_outcome (view words.new) result ≡ restore_interrupt (view words.old) claim }
 {
     let irq = claim.irq;
-    if irq.0 >= 16 {
-        return PicDone::Refused(Refusal::OutOfRange);
-    }
-    if is_full(&*words) {
+    let Some(place) = irq.place() else {
+        return Err(Refusal::OutOfRange);
+    };
+    if is_full(words) {
         // Called in two arms, so that it stays a function of its own, and the other rules' road as short as it was: the compiler takes in what is called once.
         if irq.0 < 8 {
-            full_restore(
-                &mut *words,
-                PicPlace::Master(irq),
-                claim.master_in_service,
-                claim.slave_in_service,
-            );
-            return PicDone::Done;
+            full_restore(words, PicPlace::Master(irq), claim);
+            return Ok(());
         }
-        full_restore(
-            &mut *words,
-            irq.place(),
-            claim.master_in_service,
-            claim.slave_in_service,
-        );
-        return PicDone::Done;
+        full_restore(words, place, claim);
+        return Ok(());
     }
-    restore_at(
-        &mut *words,
-        irq.place(),
-        claim.master_in_service,
-        claim.slave_in_service,
-    );
-    settle(&mut *words);
-    PicDone::Done
+    restore_at(words, place, claim);
+    settle(words);
+    Ok(())
 }
 
 // ---- The ports.
 
 // What a byte read of a port shows, where no poll can wait.
-fn read_port(words: &[u64; 4], port: u64) -> PicValue
+fn read_port(words: &[u64; 4], port: u64) -> Result<u8, Refusal>
     ensures { result ≡ port_read (plain_view words.now) port }
 {
     if port == MASTER_COMMAND as u64 {
-        return PicValue::Value(master(words).read_command());
+        return Ok(master(words).read_command());
     }
     if port == MASTER_DATA as u64 {
-        return PicValue::Value(master(words).mask());
+        return Ok(master(words).mask());
     }
     if port == SLAVE_COMMAND as u64 {
-        return PicValue::Value(slave(words).read_command());
+        return Ok(slave(words).read_command());
     }
     if port == SLAVE_DATA as u64 {
-        return PicValue::Value(slave(words).mask());
+        return Ok(slave(words).mask());
     }
-    PicValue::Refused(Refusal::Unsupported)
+    Err(Refusal::Unsupported)
 }
 
 // A read of a port, `width` bytes wide. Numbers come in at their full width.
-pub fn handle_read(words: &mut [u64; 4], port: u64, width: u64) -> PicValue
+pub fn handle_read(words: &mut [u64; 4], port: u64, width: u64) -> Result<u8, Refusal>
     ensures { value_outcome (view words.new) result ≡ handle_read (view words.old) port width }
 {
     if width != 1 {
-        return PicValue::Refused(Refusal::Unsupported);
+        return Err(Refusal::Unsupported);
     }
-    if is_full(&*words) {
-        return full_read(&mut *words, port);
+    if is_full(words) {
+        return full_read(words, port);
     }
-    read_port(&*words, port)
+    read_port(words, port)
 }
 
-// What a byte read of a port shows, and 0x100 where that isn't all: the pair may have a poll that waits, or hasn't that port. The rule is asked for at each port, which keeps
+// What a byte read of a port shows, and nothing where that isn't all: the pair may have a poll that waits, or hasn't that port. The rule is asked for at each port, which keeps
 // the compiler from putting the ports' ways together.
-pub fn plain_read(words: &[u64; 4], port: u64) -> u64
+pub fn plain_read(words: &[u64; 4], port: u64) -> Option<u8>
     ensures { result ≡ plain_shown (view words.now) port }
 {
     if port == MASTER_COMMAND as u64 {
         if is_full(words) {
-            return 0x100;
+            return None;
         }
-        return master(words).read_command() as u64;
+        return Some(master(words).read_command());
     }
     if port == MASTER_DATA as u64 {
         if is_full(words) {
-            return 0x100;
+            return None;
         }
-        return master(words).mask() as u64;
+        return Some(master(words).mask());
     }
     if port == SLAVE_COMMAND as u64 {
         if is_full(words) {
-            return 0x100;
+            return None;
         }
-        return slave(words).read_command() as u64;
+        return Some(slave(words).read_command());
     }
     if port == SLAVE_DATA as u64 {
         if is_full(words) {
-            return 0x100;
+            return None;
         }
-        return slave(words).mask() as u64;
+        return Some(slave(words).mask());
     }
-    0x100
+    None
 }
 
 // A byte is written to a port; whether the pair has that port.
@@ -673,52 +611,52 @@ fn write_at(words: &mut [u64; 4], port: u64, byte: u8) -> bool
     ensures { Written (plain_view words.old) (plain_view words.new) port byte result }
 {
     if port == MASTER_COMMAND as u64 {
-        let written = master(&*words).command(byte);
-        set_master(&mut *words, written);
+        let written = master(words).command(byte);
+        set_master(words, written);
         return true;
     }
     if port == MASTER_DATA as u64 {
-        let written = master(&*words).data(byte);
-        set_master(&mut *words, written);
+        let written = master(words).data(byte);
+        set_master(words, written);
         return true;
     }
     if port == SLAVE_COMMAND as u64 {
-        let written = slave(&*words).command(byte);
-        set_slave(&mut *words, written);
+        let written = slave(words).command(byte);
+        set_slave(words, written);
         return true;
     }
     if port == SLAVE_DATA as u64 {
-        let written = slave(&*words).data(byte);
-        set_slave(&mut *words, written);
+        let written = slave(words).data(byte);
+        set_slave(words, written);
         return true;
     }
     false
 }
 
 // A write to a port, `width` bytes wide.
-pub fn handle_write(words: &mut [u64; 4], port: u64, width: u64, value: u64) -> PicDone
+pub fn handle_write(words: &mut [u64; 4], port: u64, width: u64, value: u64) -> Result<(), Refusal>
     ensures { done_outcome (view words.new) result ≡ handle_write (view words.old) port width value }
 {
     if width != 1 {
-        return PicDone::Refused(Refusal::Unsupported);
+        return Err(Refusal::Unsupported);
     }
-    if is_full(&*words) {
+    if is_full(words) {
         if !is_port(port) {
-            return PicDone::Refused(Refusal::Unsupported);
+            return Err(Refusal::Unsupported);
         }
         // In two arms, as above.
         if value >= 256 {
-            full_write(&mut *words, port, value % 256);
-            return PicDone::Done;
+            full_write(words, port, value % 256);
+            return Ok(());
         }
-        full_write(&mut *words, port, value);
-        return PicDone::Done;
+        full_write(words, port, value);
+        return Ok(());
     }
-    if !write_at(&mut *words, port, (value % 256) as u8) {
-        return PicDone::Refused(Refusal::Unsupported);
+    if !write_at(words, port, (value % 256) as u8) {
+        return Err(Refusal::Unsupported);
     }
-    settle(&mut *words);
-    PicDone::Done
+    settle(words);
+    Ok(())
 }
 
 // ---- The same in the full profile, whose chips are full 8259As. Each public call asks once which of the two roads is the pair's: the other rules' road stays as short as it is.
@@ -738,61 +676,58 @@ fn full_slave(words: &[u64; 4]) -> PicChip
 fn full_set_master(words: &mut [u64; 4], chip: PicChip)
     ensures { full_view words.new ≡ chips (full_view words.old) (placed true (full_in chip.0)) (full_view words.old).slave }
 {
-    seen(&*words);
+    seen(words);
     words[0] = chip.0;
 }
 
 fn full_set_slave(words: &mut [u64; 4], chip: PicChip)
     ensures { full_view words.new ≡ chips (full_view words.old) (full_view words.old).master (placed false (full_in chip.0)) }
 {
-    seen(&*words);
+    seen(words);
     words[1] = chip.0;
 }
 
 fn full_settle(words: &mut [u64; 4])
     ensures { full_view words.new ≡ settled (full_view words.old) }
 {
-    if !is_cascade(&*words) {
+    if !is_cascade(words) {
         return;
     }
-    let up = full_slave(&*words).full_asks(false);
-    let driven = full_master(&*words).drive_cascade(up);
-    full_set_master(&mut *words, driven);
+    let up = full_slave(words).full_asks(false);
+    let driven = full_master(words).drive_cascade(up);
+    full_set_master(words, driven);
 }
 
-fn full_latch(words: &mut [u64; 4], place: PicPlace) -> bool
-    ensures { Latched (full_view words.old) (full_view words.new) place result }
+fn full_latch(words: &mut [u64; 4], place: PicPlace)
+    ensures { full_view words.new ≡ latched_at (full_view words.old) (Some place) }
 {
     match place {
         PicPlace::Master(k) => {
-            let edge = full_master(&*words).pulse(k);
-            full_set_master(&mut *words, edge);
-            true
+            let edge = full_master(words).pulse(k);
+            full_set_master(words, edge);
         }
         PicPlace::Slave(k) => {
-            let cascade = full_master(&*words).pulse(PicLine(CASCADE_IRQ));
-            full_set_master(&mut *words, cascade);
-            let edge = full_slave(&*words).pulse(k);
-            full_set_slave(&mut *words, edge);
-            true
+            let cascade = full_master(words).pulse(PicLine(CASCADE_IRQ));
+            full_set_master(words, cascade);
+            let edge = full_slave(words).pulse(k);
+            full_set_slave(words, edge);
         }
-        PicPlace::Nowhere => false,
     }
 }
 
-fn full_pending_place(words: &[u64; 4]) -> PicPlace
+fn full_pending_place(words: &[u64; 4]) -> Option<PicPlace>
     ensures { result ≡ pending_place (full_view words.now) }
 {
-    let PendingIrq::Irq(master_irq) = full_master(words).full_pending_irq(true) else {
-        return PicPlace::Nowhere;
+    let Some(master_irq) = full_master(words).full_pending_irq(true) else {
+        return None;
     };
     if master_irq.0 != CASCADE_IRQ {
-        return PicPlace::Master(master_irq);
+        return Some(PicPlace::Master(master_irq));
     }
-    let PendingIrq::Irq(slave_irq) = full_slave(words).full_pending_irq(false) else {
-        return PicPlace::Master(PicLine(CASCADE_IRQ));
+    let Some(slave_irq) = full_slave(words).full_pending_irq(false) else {
+        return Some(PicPlace::Master(PicLine(CASCADE_IRQ)));
     };
-    PicPlace::Slave(slave_irq)
+    Some(PicPlace::Slave(slave_irq))
 }
 
 // Whether an acknowledgement put a line into service: in special fully nested mode the master's line 2 may be there before.
@@ -803,32 +738,30 @@ fn grew(before: PicChip, after: PicChip) -> bool
 }
 
 fn full_take_master(words: &mut [u64; 4], irq: PicLine) -> u64
-    requires { pending_place (full_view words.old) ≡ place.Master irq }
+    requires { pending_place (full_view words.old) ≡ Some (place.Master irq) }
     ensures { (state_claim (full_view words.new) (claim_in result) ≡ master_taken (full_view words.old) irq) × (result ≡ claim_number (claim_in result)) }
 {
-    let first = full_master(&*words);
-    let taken = first.full_acknowledge(irq);
-    full_set_master(&mut *words, taken.chip);
-    let vector = taken.vector;
-    claimed(vector, irq, grew(first, taken.chip), false)
+    let first = full_master(words);
+    let (taken, vector) = first.full_acknowledge(irq);
+    full_set_master(words, taken);
+    claimed(vector, irq, grew(first, taken), false)
 }
 
 fn full_take_slave(words: &mut [u64; 4], irq: PicLine) -> u64
-    requires { pending_place (full_view words.old) ≡ place.Slave irq }
+    requires { pending_place (full_view words.old) ≡ Some (place.Slave irq) }
     ensures { (state_claim (full_view words.new) (claim_in result) ≡ slave_taken (full_view words.old) irq) × (result ≡ claim_number (claim_in result)) }
 {
-    let first = full_master(&*words);
-    let second = full_slave(&*words);
-    let cascade = first.full_acknowledge(PicLine(CASCADE_IRQ));
-    let taken = second.full_acknowledge(irq);
-    full_set_master(&mut *words, cascade.chip);
-    full_set_slave(&mut *words, taken.chip);
-    let vector = taken.vector;
+    let first = full_master(words);
+    let second = full_slave(words);
+    let (cascade, _) = first.full_acknowledge(PicLine(CASCADE_IRQ));
+    let (taken, vector) = second.full_acknowledge(irq);
+    full_set_master(words, cascade);
+    full_set_slave(words, taken);
     claimed(
         vector,
         PicLine(irq.0 + 8),
-        grew(first, cascade.chip),
-        grew(second, taken.chip),
+        grew(first, cascade),
+        grew(second, taken),
     )
 }
 
@@ -836,19 +769,19 @@ fn full_take_slave(words: &mut [u64; 4], irq: PicLine) -> u64
 fn full_claim_pending(words: &mut [u64; 4]) -> u64
     ensures { (state_claim (full_view words.new) (claim_in result) ≡ claim_pending (full_view words.old)) × (result ≡ claim_number (claim_in result)) }
 {
-    match full_pending_place(&*words) {
-        PicPlace::Master(k) => {
-            let taken = full_take_master(&mut *words, k);
-            full_settle(&mut *words);
+    match full_pending_place(words) {
+        Some(PicPlace::Master(k)) => {
+            let taken = full_take_master(words, k);
+            full_settle(words);
             taken
         }
-        PicPlace::Slave(k) => {
-            let taken = full_take_slave(&mut *words, k);
-            full_settle(&mut *words);
+        Some(PicPlace::Slave(k)) => {
+            let taken = full_take_slave(words, k);
+            full_settle(words);
             taken
         }
-        PicPlace::Nowhere => {
-            full_settle(&mut *words);
+        None => {
+            full_settle(words);
             0
         }
     }
@@ -857,36 +790,31 @@ fn full_claim_pending(words: &mut [u64; 4]) -> u64
 fn full_claim_line(words: &mut [u64; 4], irq: PicLine) -> u64
     ensures { (state_claim (full_view words.new) (claim_in result) ≡ claim_irq (full_view words.old) irq) × (result ≡ claim_number (claim_in result)) }
 {
-    if !full_latch(&mut *words, irq.place()) {
+    let Some(place) = irq.place() else {
         return 0;
-    }
-    full_settle(&mut *words);
-    full_claim_pending(&mut *words)
+    };
+    full_latch(words, place);
+    full_settle(words);
+    full_claim_pending(words)
 }
 
-fn full_restore_at(
-    words: &mut [u64; 4],
-    place: PicPlace,
-    master_in_service: bool,
-    slave_in_service: bool,
-)
-    ensures { full_view words.new ≡ restored_at (full_view words.old) place master_in_service slave_in_service }
+fn full_restore_at(words: &mut [u64; 4], place: PicPlace, claim: PicInterruptClaim)
+    ensures { full_view words.new ≡ restored_at (full_view words.old) (Some place) claim.master_in_service claim.slave_in_service }
 {
     match place {
         PicPlace::Master(k) => {
-            let back = full_master(&*words).unacknowledge(k, master_in_service);
-            full_set_master(&mut *words, back);
+            let back = full_master(words).unacknowledge(k, claim.master_in_service);
+            full_set_master(words, back);
         }
         PicPlace::Slave(k) => {
-            let cascade = full_master(&*words).unacknowledge(
+            let cascade = full_master(words).unacknowledge(
                 PicLine(CASCADE_IRQ),
-                master_in_service,
+                claim.master_in_service,
             );
-            full_set_master(&mut *words, cascade);
-            let back = full_slave(&*words).unacknowledge(k, slave_in_service);
-            full_set_slave(&mut *words, back);
+            full_set_master(words, cascade);
+            let back = full_slave(words).unacknowledge(k, claim.slave_in_service);
+            full_set_slave(words, back);
         }
-        PicPlace::Nowhere => {}
     }
 }
 
@@ -894,97 +822,90 @@ fn full_write_at(words: &mut [u64; 4], port: u64, byte: u8) -> bool
     ensures { Written (full_view words.old) (full_view words.new) port byte result }
 {
     if port == MASTER_COMMAND as u64 {
-        let written = full_master(&*words).full_command(byte);
-        full_set_master(&mut *words, written);
+        let written = full_master(words).full_command(byte);
+        full_set_master(words, written);
         return true;
     }
     if port == MASTER_DATA as u64 {
-        let written = full_master(&*words).full_data(byte);
-        full_set_master(&mut *words, written);
+        let written = full_master(words).full_data(byte);
+        full_set_master(words, written);
         return true;
     }
     if port == SLAVE_COMMAND as u64 {
-        let written = full_slave(&*words).full_command(byte);
-        full_set_slave(&mut *words, written);
+        let written = full_slave(words).full_command(byte);
+        full_set_slave(words, written);
         return true;
     }
     if port == SLAVE_DATA as u64 {
-        let written = full_slave(&*words).full_data(byte);
-        full_set_slave(&mut *words, written);
+        let written = full_slave(words).full_data(byte);
+        full_set_slave(words, written);
         return true;
     }
     false
 }
 
-fn full_restore(
-    words: &mut [u64; 4],
-    place: PicPlace,
-    master_in_service: bool,
-    slave_in_service: bool,
-)
-    ensures { full_view words.new ≡ settled (restored_at (full_view words.old) place master_in_service slave_in_service) }
+fn full_restore(words: &mut [u64; 4], place: PicPlace, claim: PicInterruptClaim)
+    ensures { full_view words.new ≡ settled (restored_at (full_view words.old) (Some place) claim.master_in_service claim.slave_in_service) }
 {
-    full_restore_at(&mut *words, place, master_in_service, slave_in_service);
-    full_settle(&mut *words);
+    full_restore_at(words, place, claim);
+    full_settle(words);
 }
 
 // A read of a port of the master's, which shows a register where no poll waits. A poll acknowledges on its chip alone.
 fn full_read_master(words: &mut [u64; 4], register: u8) -> u8
     ensures { ReadOf (full_view words.old).master (master_read (full_view words.old)) (full_view words.new) register result }
 {
-    let chip = full_master(&*words);
+    let chip = full_master(words);
     if !chip.poll() {
         return register;
     }
-    let polled = chip.full_poll(true);
-    let after = polled.chip;
-    full_set_master(&mut *words, after);
-    full_settle(&mut *words);
-    polled.shown
+    let (after, shown) = chip.full_poll(true);
+    full_set_master(words, after);
+    full_settle(words);
+    shown
 }
 
 fn full_read_slave(words: &mut [u64; 4], register: u8) -> u8
     ensures { ReadOf (full_view words.old).slave (slave_read (full_view words.old)) (full_view words.new) register result }
 {
-    let chip = full_slave(&*words);
+    let chip = full_slave(words);
     if !chip.poll() {
         return register;
     }
-    let polled = chip.full_poll(false);
-    let after = polled.chip;
-    full_set_slave(&mut *words, after);
-    full_settle(&mut *words);
-    polled.shown
+    let (after, shown) = chip.full_poll(false);
+    full_set_slave(words, after);
+    full_settle(words);
+    shown
 }
 
-fn full_read(words: &mut [u64; 4], port: u64) -> PicValue
+fn full_read(words: &mut [u64; 4], port: u64) -> Result<u8, Refusal>
     ensures { value_outcome (full_view words.new) result ≡ port_outcome (full_view words.old) port }
 {
     if port == MASTER_COMMAND as u64 {
-        let status = full_master(&*words).read_command();
-        return PicValue::Value(full_read_master(&mut *words, status));
+        let status = full_master(words).read_command();
+        return Ok(full_read_master(words, status));
     }
     if port == MASTER_DATA as u64 {
-        let mask = full_master(&*words).mask();
-        return PicValue::Value(full_read_master(&mut *words, mask));
+        let mask = full_master(words).mask();
+        return Ok(full_read_master(words, mask));
     }
     if port == SLAVE_COMMAND as u64 {
-        let status = full_slave(&*words).read_command();
-        return PicValue::Value(full_read_slave(&mut *words, status));
+        let status = full_slave(words).read_command();
+        return Ok(full_read_slave(words, status));
     }
     if port == SLAVE_DATA as u64 {
-        let mask = full_slave(&*words).mask();
-        return PicValue::Value(full_read_slave(&mut *words, mask));
+        let mask = full_slave(words).mask();
+        return Ok(full_read_slave(words, mask));
     }
-    PicValue::Refused(Refusal::Unsupported)
+    Err(Refusal::Unsupported)
 }
 
 // A value's low byte written.
 fn full_write(words: &mut [u64; 4], port: u64, value: u64)
     ensures { full_view words.new ≡ port_written (full_view words.old) port (value % 256) }
 {
-    full_write_at(&mut *words, port, (value % 256) as u8);
-    full_settle(&mut *words);
+    full_write_at(words, port, (value % 256) as u8);
+    full_settle(words);
 }
 
 // Whether the pair has a port.
@@ -1006,33 +927,9 @@ fn is_port(port: u64) -> bool
 // ---- The same by value: a pair lends its words, and is handed back.
 
 // The guest's pair of legacy 8259-compatible interrupt controllers.
-#[derive(Clone, Copy)]
+#[derive(Clone, Copy, Debug, PartialEq, Eq, Hash)]
 pub struct EmulatedPic {
     pub words: [u64; 4],
-}
-
-#[derive(Clone, Copy)]
-pub struct PicClaimed {
-    pub pic: EmulatedPic,
-    pub claim: PicClaim,
-}
-
-#[derive(Clone, Copy)]
-pub struct PicVectored {
-    pub pic: EmulatedPic,
-    pub vector: PicVector,
-}
-
-#[derive(Clone, Copy)]
-pub struct PicWritten {
-    pub pic: EmulatedPic,
-    pub done: PicDone,
-}
-
-#[derive(Clone, Copy)]
-pub struct PicRead {
-    pub pic: EmulatedPic,
-    pub value: PicValue,
 }
 
 impl EmulatedPic {
@@ -1056,52 +953,52 @@ impl EmulatedPic {
         port_ranges()
     }
 
-    pub fn claim_irq(mut self, irq: PicLine) -> PicClaimed
-        ensures { claim_outcome (view result.pic.words) result.claim ≡ with_claim (claim_irq (view self.words) irq) }
+    pub fn claim_irq(mut self, irq: PicLine) -> (Self, Option<PicInterruptClaim>)
+        ensures { claim_outcome (view result.0.words) result.1 ≡ with_claim (claim_irq (view self.words) irq) }
     {
         let claim = claim_irq(&mut self.words, irq);
-        PicClaimed { pic: self, claim }
+        (self, claim)
     }
 
-    pub fn claim_pending_interrupt(mut self) -> PicClaimed
-        ensures { claim_outcome (view result.pic.words) result.claim ≡ with_claim (claim_pending (view self.words)) }
+    pub fn claim_pending_interrupt(mut self) -> (Self, Option<PicInterruptClaim>)
+        ensures { claim_outcome (view result.0.words) result.1 ≡ with_claim (claim_pending (view self.words)) }
     {
         let claim = claim_pending_interrupt(&mut self.words);
-        PicClaimed { pic: self, claim }
+        (self, claim)
     }
 
-    pub fn pulse_irq(mut self, irq: PicLine) -> PicVectored
-        ensures { vector_outcome (view result.pic.words) result.vector ≡ with_vector (claim_irq (view self.words) irq) }
+    pub fn pulse_irq(mut self, irq: PicLine) -> (Self, Option<Vector>)
+        ensures { vector_outcome (view result.0.words) result.1 ≡ with_vector (claim_irq (view self.words) irq) }
     {
         let vector = pulse_irq(&mut self.words, irq);
-        PicVectored { pic: self, vector }
+        (self, vector)
     }
 
-    pub fn next_interrupt(mut self) -> PicVectored
-        ensures { vector_outcome (view result.pic.words) result.vector ≡ with_vector (claim_pending (view self.words)) }
+    pub fn next_interrupt(mut self) -> (Self, Option<Vector>)
+        ensures { vector_outcome (view result.0.words) result.1 ≡ with_vector (claim_pending (view self.words)) }
     {
         let vector = next_interrupt(&mut self.words);
-        PicVectored { pic: self, vector }
+        (self, vector)
     }
 
-    pub fn restore_interrupt(mut self, claim: PicInterruptClaim) -> PicWritten
-        ensures { done_outcome (view result.pic.words) result.done ≡ restore_interrupt (view self.words) claim }
+    pub fn restore_interrupt(mut self, claim: PicInterruptClaim) -> (Self, Result<(), Refusal>)
+        ensures { done_outcome (view result.0.words) result.1 ≡ restore_interrupt (view self.words) claim }
     {
         let done = restore_interrupt(&mut self.words, claim);
-        PicWritten { pic: self, done }
+        (self, done)
     }
 
-    pub fn handle_read(mut self, port: u16, width: u8) -> PicRead
-        ensures { value_outcome (view result.pic.words) result.value ≡ handle_read (view self.words) port width }
+    pub fn handle_read(mut self, port: u16, width: u8) -> (Self, Result<u8, Refusal>)
+        ensures { value_outcome (view result.0.words) result.1 ≡ handle_read (view self.words) port width }
     {
         let value = handle_read(&mut self.words, port as u64, width as u64);
-        PicRead { pic: self, value }
+        (self, value)
     }
 
-    pub fn handle_write(mut self, port: u16, width: u8, value: u64) -> PicWritten
-        ensures { done_outcome (view result.pic.words) result.done ≡ handle_write (view self.words) port width value }
+    pub fn handle_write(mut self, port: u16, width: u8, value: u64) -> (Self, Result<(), Refusal>)
+        ensures { done_outcome (view result.0.words) result.1 ≡ handle_write (view self.words) port width value }
     {
         let done = handle_write(&mut self.words, port as u64, width as u64, value);
-        PicWritten { pic: self, done }
+        (self, done)
     }
 }

@@ -6,18 +6,18 @@ use Prim.Native.Nat.{ℕ, ◌/◌, ◌%◌, ◌^◌, ◌<◌}
 use lib.Dec.{ltb}
 use lib.ListN.{set}
 use borrow.Author.Tests.{not-true, not-false}
+use Rattle.std.proofs.Common.{Option, Result}
+use Rattle.types.specs.declared.Refusal.{Refusal}
+use Rattle.types.specs.declared.Vector.{Vector}
 use Rattle.types.specs.declared.PicLine.{PicLine}
 use Rattle.types.specs.declared.Refusal.TheVariants.{Unsupported, OutOfRange}
 use Rattle.types.specs.declared.Reply.{Reply}
 use Rattle.types.specs.declared.Reply.TheVariants.{Nothing, One, Refused}
 use Rattle.types.specs.Reply.{Outcome}
 use Rattle.reply_code.specs.Lent.{reply_code, lent}
-use Rattle.vpic_chip.specs.declared.PicVector.{PicVector}
 use Rattle.vpic_chip.specs.Chip.{vector_reply}
 use Rattle.vpic.specs.declared.PicRule.{PicRule}
-use Rattle.vpic.specs.declared.PicDone.{PicDone}
 use Rattle.vpic.specs.declared.PicInterruptClaim.{PicInterruptClaim}
-use Rattle.vpic.specs.declared.PicValue.{PicValue}
 use Rattle.vpic.specs.declared.PortRanges.{PortRanges}
 use Rattle.vpic.specs.Words.{PicState, view}
 use Rattle.vpic.specs.Claim.{Numbered, numbered, with_number, plain_shown}
@@ -47,19 +47,19 @@ module _ (q : PicState) (x : Reply) (n : ℕ) (en : n ≡ reply_code x) where
   by_code : (o : Outcome PicState) → record { state = q; reply = x } ≡ o → shown q n ≡ coded o
   by_code o e = ap (shown q) en ∙ ap coded e
 
-  pub done_code : (d : PicDone) (o : Outcome PicState) → done_outcome q d ≡ o → x ≡ done_reply d → shown q n ≡ coded o
+  pub done_code : (d : Result (Unit {0}) Refusal) (o : Outcome PicState) → done_outcome q d ≡ o → x ≡ done_reply d → shown q n ≡ coded o
   done_code d o e ex = by_code o (ap (λ (y : Reply). record { state = q; reply = y }) ex ∙ e)
 
-  pub value_code : (v : PicValue) (o : Outcome PicState) → value_outcome q v ≡ o → x ≡ value_reply v → shown q n ≡ coded o
+  pub value_code : (v : Result ℕ Refusal) (o : Outcome PicState) → value_outcome q v ≡ o → x ≡ value_reply v → shown q n ≡ coded o
   value_code v o e ex = by_code o (ap (λ (y : Reply). record { state = q; reply = y }) ex ∙ e)
 
-  pub vector_code : (v : PicVector) (o : Outcome PicState) → vector_outcome q v ≡ o → x ≡ vector_reply v → shown q n ≡ coded o
+  pub vector_code : (v : Option Vector) (o : Outcome PicState) → vector_outcome q v ≡ o → x ≡ vector_reply v → shown q n ≡ coded o
   vector_code v o e ex = by_code o (ap (λ (y : Reply). record { state = q; reply = y }) ex ∙ e)
 
-  pub pulse_code : (p : PicState) (v : PicVector) (l : PicLine) (irq : ℕ) → l ≡ line_of irq → vector_outcome q v ≡ with_vector (claim_irq p l) → x ≡ vector_reply v → shown q n ≡ coded (with_vector (claim_irq p (line irq)))
+  pub pulse_code : (p : PicState) (v : Option Vector) (l : PicLine) (irq : ℕ) → l ≡ line_of irq → vector_outcome q v ≡ with_vector (claim_irq p l) → x ≡ vector_reply v → shown q n ≡ coded (with_vector (claim_irq p (line irq)))
   pulse_code p v l irq el e ex = vector_code v _ (e ∙ ap with_vector (ap (claim_irq p) el ∙ same_claim p irq)) ex
 
-  pub restore_code_lem : (p : PicState) (d : PicDone) (c : ℕ) (k : PicInterruptClaim) → k ≡ claim_of c → done_outcome q d ≡ restore_interrupt p k → x ≡ done_reply d → shown q n ≡ coded (restore_code p c)
+  pub restore_code_lem : (p : PicState) (d : Result (Unit {0}) Refusal) (c : ℕ) (k : PicInterruptClaim) → k ≡ claim_of c → done_outcome q d ≡ restore_interrupt p k → x ≡ done_reply d → shown q n ≡ coded (restore_code p c)
   restore_code_lem p d c k ek e ex = done_code d _ (e ∙ ap (restore_interrupt p) ek ∙ same_restore p c) ex
 
 -- a claim's number is its reply's code, by its definition

@@ -1,4 +1,5 @@
 -- What is shown loses nothing: equal pairs and codes come from equal outcomes, the pair's replies fit their codes, and a refused new pair leaves the words. Assumes nothing.
+use Rattle.std.proofs.Common.{Option, Some, None}
 use mathlib.Core.Path.{◌≡◌, refl, ap, ◌∙◌}
 use mathlib.Core.Bool.{Bool, true, false, cond}
 use mathlib.Core.List.{List}
@@ -10,7 +11,7 @@ use borrow.Author.Tests.{ltb-true}
 use Rattle.utils.specs.Set.{bit}
 use Rattle.utils.proofs.Bools.{both}
 use Rattle.types.specs.declared.PicPlace.{PicPlace}
-use Rattle.types.specs.declared.PicPlace.TheVariants.{Master, Slave, Nowhere}
+use Rattle.types.specs.declared.PicPlace.TheVariants.{Master, Slave}
 use Rattle.types.specs.declared.Refusal.TheVariants.{Unsupported}
 use Rattle.types.specs.Reply.{Outcome, flag, reply_number}
 use Rattle.reply_code.specs.Lent.{Fits}
@@ -39,20 +40,20 @@ pub fits_claim : (p : PicState) → Fits (claim_reply (claim_pending p).claim)
 unfolding claim_pending master_claim slave_claim
 fits_claim p = go (pending_place p) (pending_ready p)
   where
-    go : (x : PicPlace) → Ready p x → Fits (claim_reply (claim_at p x).claim)
-    go (Master k) r = (omega arith, omega (arith, r.low), flags_lt (grew p.master (acknowledged p.master k.0)) (grew p.slave p.slave))
-    go (Slave k) r =
+    go : (x : Option PicPlace) → Ready p x → Fits (claim_reply (claim_at p x).claim)
+    go (Some (Master k)) r = (omega arith, omega (arith, r.low), flags_lt (grew p.master (acknowledged p.master k.0)) (grew p.slave p.slave))
+    go (Some (Slave k)) r =
         (omega arith, omega (arith, r.1.low), flags_lt (grew p.master (acknowledged p.master 2)) (grew p.slave (acknowledged p.slave k.0)))
-    go Nowhere r = tt
+    go None r = tt
 
 pub fits_vector : (p : PicState) → Fits (vector_reply (claim_vector (claim_pending p).claim))
 unfolding claim_pending master_claim slave_claim
 fits_vector p = go (pending_place p)
   where
-    go : (x : PicPlace) → Fits (vector_reply (claim_vector (claim_at p x).claim))
-    go (Master k) = omega arith
-    go (Slave k) = omega arith
-    go Nowhere = tt
+    go : (x : Option PicPlace) → Fits (vector_reply (claim_vector (claim_at p x).claim))
+    go (Some (Master k)) = omega arith
+    go (Some (Slave k)) = omega arith
+    go None = tt
 
 command_lt : (w : ℕ) → command_read (chip_in w) < 2 ^ 32
 unfolding command_read chip_in

@@ -20,7 +20,8 @@ use Rattle.types.specs.declared.PicLine.{PicLine}
 use Rattle.types.specs.declared.Vector.{Vector}
 use Rattle.types.specs.declared.Reply.TheVariants as reply
 use Rattle.types.specs.Counters.{line_vector}
-use Rattle.types.specs.Reply.{Outcome}
+use Rattle.types.specs.Reply.{Outcome, vector_reply as given_reply}
+use Rattle.types.proofs.Replies.{option_reply_same, vector_same, vector_some}
 use Rattle.vpic_chip.proofs.Packing.{plain, service_less}
 use Rattle.vpic_chip.specs.Registers.{Chip, chip_in, with_base, with_request, with_in_service, with_step, with_auto_eoi, with_read_isr, with_nested}
 use Rattle.vpic_chip.specs.Chip.{lowest_by, first_of, is_above, is_above_all, turned, is_special, is_nested, blocks, blocks_line, auto_rotated, ocw2, ocw3, non_specific_eoi, specific_eoi, after_icw3, icw2, icw3, icw4, ocw1, fed, commanded, pulsed, counts, pending_line, Highest, pending_irq, pending_reply, asks, driven, acknowledged, acknowledge, unacknowledged, vector_reply}
@@ -333,10 +334,7 @@ pending_reply_same None (Some m) e = let z : ◌≡◌ {A = ℕ} 0 1 = cc in abs
 pending_reply_same None None e = refl
 
 pub vector_reply_same : (a b : Option Vector) → vector_reply a ≡ vector_reply b → a ≡ b
-vector_reply_same (Some v) (Some w) e = let k : v.0 ≡ w.0 = cc in ap (λ (n : ℕ). Some (record { 0 = n })) k
-vector_reply_same (Some v) None e = let z : ◌≡◌ {A = ℕ} 0 1 = cc in absurd (omega arith)
-vector_reply_same None (Some w) e = let z : ◌≡◌ {A = ℕ} 0 1 = cc in absurd (omega arith)
-vector_reply_same None None e = refl
+vector_reply_same = option_reply_same given_reply vector_same vector_some
 
 -- ---- a law for each way out
 

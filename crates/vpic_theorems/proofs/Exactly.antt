@@ -1,4 +1,5 @@
 -- An acknowledgement that makes its line lowest leaves the same requests counting; so by rule 2 a claim leaves request 2 as by rule 1. Assumes nothing.
+use Rattle.std.proofs.Common.{Option, Some, None}
 use mathlib.Core.Path.{◌≡◌, refl, sym, ap, ap₂, subst, ◌∙◌}
 use mathlib.Core.Bool.{Bool, true, false, not, cond, ◌&&◌}
 use Prim.Native.Nat.{ℕ, ◌+◌, ◌%◌, ◌<◌}
@@ -12,11 +13,9 @@ use Rattle.utils.proofs.Bools.{never, both, and-false}
 use Rattle.utils.proofs.Laws.{bit_without_same, bit_without_other}
 use Rattle.types.specs.declared.PicLine.{PicLine}
 use Rattle.types.specs.declared.PicPlace.{PicPlace}
-use Rattle.types.specs.declared.PicPlace.TheVariants.{Master, Slave, Nowhere}
+use Rattle.types.specs.declared.PicPlace.TheVariants.{Master, Slave}
 use Rattle.types.specs.Counters.{place_of}
 use Rattle.types.specs.Reply.{Outcome}
-use Rattle.vpic_chip.specs.declared.PendingIrq.{PendingIrq}
-use Rattle.vpic_chip.specs.declared.PendingIrq.TheVariants.{Irq, Nothing}
 use Rattle.vpic_chip.specs.Registers.{Chip}
 use Rattle.vpic_chip.specs.Chip.{cascade_irq, lowest_by, Highest, is_above, is_above_all, is_special, is_polled, icw2, icw3, icw4, ocw1, pulsed, fed, counts, asks, driven, pending_line, pending_irq, acknowledged, unacknowledged}
 use Rattle.vpic_chip.proofs.Laws.{pended, ordinary}
@@ -164,27 +163,27 @@ settled_exact q r c a e =
 
 claim_exact : (p : PicState) → Nested p → by_rule_one (claim_pending p).state ≡ (claim_pending (by_rule_one p)).state
 unfolding claim_pending master_claim slave_claim acknowledged
-claim_exact p n = by_master (pending_irq p.master) ∙ ap (λ (a : PicPlace). (claim_at (by_rule_one p) a).state) (sym (place_alike p n))
+claim_exact p n = by_master (pending_irq p.master) ∙ ap (λ (a : Option PicPlace). (claim_at (by_rule_one p) a).state) (sym (place_alike p n))
   where
-    Exact : PicPlace → Type 0
+    Exact : Option PicPlace → Type 0
     Exact a = by_rule_one (claim_at p a).state ≡ (claim_at (by_rule_one p) a).state
 
-    of_master : (k : PicLine) → Exact (Master k)
+    of_master : (k : PicLine) → Exact (Some (Master k))
     of_master k = settled_exact (chips p (acknowledged p.master k.0) p.slave) _ n.cascade (plain_asks p.slave n.slave n.«slave-mode») refl
 
-    by_slave : (b : PendingIrq) → pending_irq p.slave ≡ b → Exact (cascade_place b)
-    by_slave (Irq k) q =
+    by_slave : (b : Option PicLine) → pending_irq p.slave ≡ b → Exact (cascade_place b)
+    by_slave (Some k) q =
         settled_exact (chips p (acknowledged p.master cascade_irq.0) (acknowledged p.slave k.0)) _ n.cascade
         (highest_asks p.slave k.0 (pended p.slave k q) n.slave n.«slave-mode») refl
-    by_slave Nothing q = of_master cascade_irq
+    by_slave None q = of_master cascade_irq
 
-    by_line : (k : PicLine) (b : Bool) → Exact (cond b (cascade_place (pending_irq p.slave)) (Master k))
+    by_line : (k : PicLine) (b : Bool) → Exact (cond b (cascade_place (pending_irq p.slave)) (Some (Master k)))
     by_line k true = by_slave (pending_irq p.slave) refl
     by_line k false = of_master k
 
-    by_master : (a : PendingIrq) → Exact (place_from p a)
-    by_master (Irq k) = by_line k (eqb k.0 cascade_irq.0)
-    by_master Nothing = settled_exact p _ n.cascade (plain_asks p.slave n.slave n.«slave-mode») refl
+    by_master : (a : Option PicLine) → Exact (place_from p a)
+    by_master (Some k) = by_line k (eqb k.0 cascade_irq.0)
+    by_master None = settled_exact p _ n.cascade (plain_asks p.slave n.slave n.«slave-mode») refl
 
 raise_exact : (p : PicState) (l : PicLine) → Nested p → by_rule_one (claim_irq p l).state ≡ (claim_irq (by_rule_one p) l).state
 unfolding claim_irq
@@ -200,10 +199,10 @@ unfolding unacknowledged
 restored_lowest c l f =
     both (λ (x : Chip). lowest_by x ≡ lowest_by c) f _ _ (both (λ (x : Chip). lowest_by x ≡ lowest_by c) (ltb l.0 8) _ _ (raise_becomes c l).lowest (raise_becomes c l).lowest) (raise_becomes c l).lowest
 
-restore_slave : (p : PicState) (a : PicPlace) (m s : Bool) → Nested p → lowest_by (restored_at p a m s).slave ≡ 7
-restore_slave p (Master k) m s n = n.slave
-restore_slave p (Slave k) m s n = restored_lowest p.slave k s ∙ n.slave
-restore_slave p Nowhere m s n = n.slave
+restore_slave : (p : PicState) (a : Option PicPlace) (m s : Bool) → Nested p → lowest_by (restored_at p a m s).slave ≡ 7
+restore_slave p (Some (Master k)) m s n = n.slave
+restore_slave p (Some (Slave k)) m s n = restored_lowest p.slave k s ∙ n.slave
+restore_slave p None m s n = n.slave
 
 restored_ordinary : (c : Chip) (l : PicLine) (f : Bool) → is_ordinary c ≡ true → is_ordinary (unacknowledged c l f) ≡ true
 unfolding unacknowledged pulsed
@@ -213,12 +212,12 @@ restored_ordinary c l f o =
     Fine : Chip → Type 0
     Fine x = is_ordinary x ≡ true
 
-restore_mode : (p : PicState) (a : PicPlace) (m s : Bool) → Nested p → is_ordinary (restored_at p a m s).slave ≡ true
-restore_mode p (Master k) m s n = n.«slave-mode»
-restore_mode p (Slave k) m s n = restored_ordinary p.slave k s n.«slave-mode»
-restore_mode p Nowhere m s n = n.«slave-mode»
+restore_mode : (p : PicState) (a : Option PicPlace) (m s : Bool) → Nested p → is_ordinary (restored_at p a m s).slave ≡ true
+restore_mode p (Some (Master k)) m s n = n.«slave-mode»
+restore_mode p (Some (Slave k)) m s n = restored_ordinary p.slave k s n.«slave-mode»
+restore_mode p None m s n = n.«slave-mode»
 
-restore_exact : (p : PicState) (a : PicPlace) (m s : Bool) → Nested p → by_rule_one (settled (restored_at p a m s)) ≡ settled (restored_at (by_rule_one p) a m s)
+restore_exact : (p : PicState) (a : Option PicPlace) (m s : Bool) → Nested p → by_rule_one (settled (restored_at p a m s)) ≡ settled (restored_at (by_rule_one p) a m s)
 restore_exact p a m s n =
     settled_exact (restored_at p a m s) (restored_at (by_rule_one p) a m s) (restore_cascade p a m s ∙ n.cascade) (plain_asks (restored_at p a m s).slave (restore_slave p a m s n) (restore_mode p a m s n))
     (restore_alike p a m s)

@@ -1,4 +1,5 @@
 -- No call changes the rule's number, a chip's profile, nor what stands for nothing. Assumes nothing.
+use Rattle.std.proofs.Common.{Option, Some, None}
 use mathlib.Core.Path.{◌≡◌, refl, sym, ap, ◌∙◌}
 use mathlib.Core.Bool.{Bool, true, false, cond}
 use Prim.Native.Nat.{ℕ, ◌/◌, ◌%◌, ◌^◌}
@@ -9,7 +10,7 @@ use Rattle.utils.specs.Set.{bit}
 use Rattle.utils.proofs.Bools.{both}
 use Rattle.types.specs.declared.PicLine.{PicLine}
 use Rattle.types.specs.declared.PicPlace.{PicPlace}
-use Rattle.types.specs.declared.PicPlace.TheVariants.{Master, Slave, Nowhere}
+use Rattle.types.specs.declared.PicPlace.TheVariants.{Master, Slave}
 use Rattle.types.specs.Counters.{place_of}
 use Rattle.types.specs.Reply.{Outcome}
 use Rattle.vpic_chip.specs.Registers.{Chip, with_poll, chip_in, full_in, placed}
@@ -69,15 +70,15 @@ claim_stays : (p : PicState) → Stays p (claim_pending p).state
 unfolding claim_pending master_claim slave_claim acknowledged
 claim_stays p = go (pending_place p)
   where
-    go : (a : PicPlace) → Stays p (claim_at p a).state
-    go (Master k) = settled_stays p _ (record { rule = refl; spare = refl; master = (refl, refl); slave = (refl, refl) })
-    go (Slave k) = settled_stays p _ (record { rule = refl; spare = refl; master = (refl, refl); slave = (refl, refl) })
-    go Nowhere = settled_stays p p (same p)
+    go : (a : Option PicPlace) → Stays p (claim_at p a).state
+    go (Some (Master k)) = settled_stays p _ (record { rule = refl; spare = refl; master = (refl, refl); slave = (refl, refl) })
+    go (Some (Slave k)) = settled_stays p _ (record { rule = refl; spare = refl; master = (refl, refl); slave = (refl, refl) })
+    go None = settled_stays p p (same p)
 
-latched_stays : (p : PicState) (a : PicPlace) → Stays p (latched_at p a)
-latched_stays p (Master k) = record { rule = refl; spare = refl; master = pulsed_same p.master k; slave = (refl, refl) }
-latched_stays p (Slave k) = record { rule = refl; spare = refl; master = pulsed_same p.master cascade_irq; slave = pulsed_same p.slave k }
-latched_stays p Nowhere = same p
+latched_stays : (p : PicState) (a : Option PicPlace) → Stays p (latched_at p a)
+latched_stays p (Some (Master k)) = record { rule = refl; spare = refl; master = pulsed_same p.master k; slave = (refl, refl) }
+latched_stays p (Some (Slave k)) = record { rule = refl; spare = refl; master = pulsed_same p.master cascade_irq; slave = pulsed_same p.slave k }
+latched_stays p None = same p
 
 raise_stays : (p : PicState) (l : PicLine) → Stays p (claim_irq p l).state
 unfolding claim_irq latched
@@ -86,10 +87,10 @@ raise_stays p l =
     (then p (latched p l) _ (settled_stays p _ (latched_stays p (place_of l))) (claim_stays (latched p l)))
     (same p)
 
-restored_stays : (p : PicState) (a : PicPlace) (m s : Bool) → Stays p (restored_at p a m s)
-restored_stays p (Master k) m s = record { rule = refl; spare = refl; master = unacknowledged_same p.master k m; slave = (refl, refl) }
-restored_stays p (Slave k) m s = record { rule = refl; spare = refl; master = unacknowledged_same p.master cascade_irq m; slave = unacknowledged_same p.slave k s }
-restored_stays p Nowhere m s = same p
+restored_stays : (p : PicState) (a : Option PicPlace) (m s : Bool) → Stays p (restored_at p a m s)
+restored_stays p (Some (Master k)) m s = record { rule = refl; spare = refl; master = unacknowledged_same p.master k m; slave = (refl, refl) }
+restored_stays p (Some (Slave k)) m s = record { rule = refl; spare = refl; master = unacknowledged_same p.master cascade_irq m; slave = unacknowledged_same p.slave k s }
+restored_stays p None m s = same p
 
 written_stays : (p : PicState) (port byte : ℕ) → Stays p (written_at p port byte)
 unfolding written_at

@@ -1,4 +1,5 @@
 -- The modes of the full profile. Assumes nothing.
+use Rattle.std.proofs.Common.{Some, Option, None}
 use mathlib.Core.Path.{◌≡◌, refl, sym, ap, ap₂, ◌∙◌}
 use mathlib.Core.Bool.{Bool, true, false, not, cond, ◌&&◌, true≢false}
 use Prim.Native.Nat.{ℕ, ◌+◌, ◌-◌, ◌<◌, ◌≤◌}
@@ -11,16 +12,13 @@ use Rattle.utils.proofs.Bools.{never, both, not_is, and_true, and-false, and_one
 use Rattle.utils.proofs.Laws.{bit_without_same, bit_without_other}
 use Rattle.types.specs.declared.PicLine.{PicLine}
 use Rattle.types.specs.declared.PicPlace.{PicPlace}
-use Rattle.types.specs.declared.PicPlace.TheVariants.{Master, Slave, Nowhere}
+use Rattle.types.specs.declared.PicPlace.TheVariants.{Master, Slave}
 use Rattle.vpic_priority.specs.Ring.{rank, above, first_rank, first_by}
 use Rattle.vpic_priority.proofs.Ring.{rank_lt, rank_low, rank_out, first_rank_same, first_rank_le, by_rank, by_holds, by_is, nested_above}
-use Rattle.vpic_chip.specs.declared.PendingIrq.{PendingIrq}
-use Rattle.vpic_chip.specs.declared.PendingIrq.TheVariants.{Irq, Nothing}
 use Rattle.vpic_chip.specs.Registers.{Chip, with_in_service, with_poll, with_nested, placed}
 use Rattle.vpic_chip.specs.Chip.{cascade_irq, lowest_by, first_of, is_above, is_above_all, is_special, is_nested, blocks, blocks_line, turned, specific_eoi, non_specific_eoi, commanded, pulsed, counts, pending_line, Highest, asks, driven, pending_irq, irq_of, acknowledged, unacknowledged, command_read, poll_shown, polled, read_shown}
 use Rattle.vpic_chip.proofs.Laws.{above_each, each_above, first_top, pended, asks_not}
 use Rattle.vpic.specs.declared.PicInterruptClaim.{PicInterruptClaim}
-use Rattle.vpic.specs.declared.PicClaim.TheVariants.{Claimed, Nothing as NoClaim}
 use Rattle.vpic.specs.Words.{PicState}
 use Rattle.vpic.specs.Pair.{StateClaim, chips, is_cascade, settled, master_claim, slave_claim, cascade_place, place_from, pending_place, claim_at, claim_pending, restored, port_read, port_left, port_written, written_at}
 use Rattle.vpic_theorems.specs.Modes.{Polls, PollTakes, PollIdle, PollZero, MasterSilent, NothingToClaim, unpolled, PollsBeside, PollsAsClaims, SlavePollsAlone, CountsIf, Counted, CountsOnlyIf, MaskedLetsBy, MaskedStays, ServedBlocks, TwoLetsItselfBy, NoOtherLetBy, BelowTwoBlocked, ThreeToSevenBlocked, SlaveUnnested, FlagsKept, Computed}
@@ -70,11 +68,11 @@ poll_zero c e k = go (counts c k) refl
 
 -- ---- beside the pair's claims
 
-irq_none : (c : Chip) → asks c ≡ false → pending_irq c ≡ Nothing
+irq_none : (c : Chip) → asks c ≡ false → pending_irq c ≡ None
 unfolding pending_irq asks
 irq_none c e = rw e
 
-irq_some : (c : Chip) → asks c ≡ true → pending_irq c ≡ Irq (record { 0 = pending_line c })
+irq_some : (c : Chip) → asks c ≡ true → pending_irq c ≡ Some (record { 0 = pending_line c })
 unfolding pending_irq asks
 irq_some c e = rw e
 
@@ -86,16 +84,16 @@ pub master_silent : MasterSilent
 unfolding claim_pending master_claim slave_claim
 master_silent p e = go (asks p.master) refl
   where
-    claimed : (b : PendingIrq) → (claim_at p (cascade_place b)).claim ≡ NoClaim → ⊥
-    claimed (Irq k) q = let z : ◌≡◌ {A = ℕ} 0 1 = cc in omega arith
-    claimed Nothing q = let z : ◌≡◌ {A = ℕ} 0 1 = cc in omega arith
+    claimed : (b : Option PicLine) → (claim_at p (cascade_place b)).claim ≡ None → ⊥
+    claimed (Some k) q = let z : ◌≡◌ {A = ℕ} 0 1 = cc in omega arith
+    claimed None q = let z : ◌≡◌ {A = ℕ} 0 1 = cc in omega arith
 
-    taken : (k : PicLine) (b : Bool) → (claim_at p (cond b (cascade_place (pending_irq p.slave)) (Master k))).claim ≡ NoClaim → ⊥
+    taken : (k : PicLine) (b : Bool) → (claim_at p (cond b (cascade_place (pending_irq p.slave)) (Some (Master k)))).claim ≡ None → ⊥
     taken k true q = claimed (pending_irq p.slave) q
     taken k false q = let z : ◌≡◌ {A = ℕ} 0 1 = cc in omega arith
 
     go : (b : Bool) → asks p.master ≡ b → poll_shown p.master ≡ 0
-    go true a = absurd (taken (record { 0 = pending_line p.master }) (eqb (pending_line p.master) 2) (ap (λ (x : PendingIrq). (claim_at p (place_from p x)).claim) (sym (irq_some p.master a)) ∙ e))
+    go true a = absurd (taken (record { 0 = pending_line p.master }) (eqb (pending_line p.master) 2) (ap (λ (x : Option PicLine). (claim_at p (place_from p x)).claim) (sym (irq_some p.master a)) ∙ e))
     go false a = (silent p.master a).0
 
 -- settling and the poll's flag leave each other alone
@@ -131,10 +129,10 @@ slave_beside p k m h =
 pub polls_as_claims : PollsAsClaims
 polls_as_claims p = by_claim (λ r c. PollsBeside p r.state c.irq.0) p of_master of_slave
   where
-    of_master : (k : PicLine) (c : PicInterruptClaim) → Highest p.master k.0 → (master_claim p k).claim ≡ Claimed c → PollsBeside p (master_claim p k).state c.irq.0
+    of_master : (k : PicLine) (c : PicInterruptClaim) → Highest p.master k.0 → (master_claim p k).claim ≡ Some c → PollsBeside p (master_claim p k).state c.irq.0
     of_master k c h e = rw (master_line p k c e) (master_beside p k h)
 
-    of_slave : (k : PicLine) (c : PicInterruptClaim) → Highest p.master 2 → Highest p.slave k.0 → (slave_claim p k).claim ≡ Claimed c → PollsBeside p (slave_claim p k).state c.irq.0
+    of_slave : (k : PicLine) (c : PicInterruptClaim) → Highest p.master 2 → Highest p.slave k.0 → (slave_claim p k).claim ≡ Some c → PollsBeside p (slave_claim p k).state c.irq.0
     of_slave k c m h e = rw (slave_line p k c e) (slave_beside p k m h)
 
 pub slave_polls_alone : SlavePollsAlone

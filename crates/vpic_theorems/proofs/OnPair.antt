@@ -1,4 +1,5 @@
 -- What calls on the pair do to its master, event by event. Assumes nothing.
+use Rattle.std.proofs.Common.{Option, Some, None}
 use Prim.Native.Nat.{ℕ, suc, ◌+◌, ◌-◌, ◌%◌, ◌<◌}
 use mathlib.Core.Path.{◌≡◌, refl, sym, ap, subst, ◌∙◌}
 use mathlib.Core.Bool.{Bool, true, false, cond}
@@ -9,12 +10,10 @@ use native.Mathlib.Omega.{arith}
 use borrow.Author.Tests.{lt-ltb, ltb-true, eqb-true}
 use Rattle.types.specs.declared.PicLine.{PicLine}
 use Rattle.types.specs.declared.PicPlace.{PicPlace}
-use Rattle.types.specs.declared.PicPlace.TheVariants.{Master, Slave, Nowhere}
+use Rattle.types.specs.declared.PicPlace.TheVariants.{Master, Slave}
 use Rattle.types.specs.Counters.{place_of}
 use Rattle.utils.specs.Set.{with, without, outside}
 use Rattle.vpic_priority.specs.Ring.{rank, first_rank, first_by}
-use Rattle.vpic_chip.specs.declared.PendingIrq.{PendingIrq}
-use Rattle.vpic_chip.specs.declared.PendingIrq.TheVariants.{Irq, Nothing}
 use Rattle.vpic_chip.specs.Registers.{Chip}
 use Rattle.vpic_chip.specs.Chip.{cascade_irq, lowest_by, is_polled, asks, driven, counts, pending_line, pending_irq, acknowledged, poll_shown, polled, pulsed, commanded}
 use Rattle.types.specs.declared.Reply.TheVariants as reply
@@ -104,19 +103,19 @@ master_latched : (p : PicState) (l : PicLine) → is_cascade p ≡ true → Mast
 unfolding latched
 master_latched p l e = go (place_of l)
   where
-    go : (a : PicPlace) → MasterDoes p (settled (latched_at p a)) (edges_at a ++ drive cascade_irq (asks (settled (latched_at p a)).slave) ∷ []) []
-    go (Master k) = record { state = settled_master (latched_at p (Master k)) e; lines = refl }
-    go (Slave k) = record { state = settled_master (latched_at p (Slave k)) e; lines = refl }
-    go Nowhere = record { state = settled_master p e; lines = refl }
+    go : (a : Option PicPlace) → MasterDoes p (settled (latched_at p a)) (edges_at a ++ drive cascade_irq (asks (settled (latched_at p a)).slave) ∷ []) []
+    go (Some (Master k)) = record { state = settled_master (latched_at p (Some (Master k))) e; lines = refl }
+    go (Some (Slave k)) = record { state = settled_master (latched_at p (Some (Slave k))) e; lines = refl }
+    go None = record { state = settled_master p e; lines = refl }
 
 latched_still : (p : PicState) (l : PicLine) → is_cascade p ≡ true → is_cascade (latched p l) ≡ true
 unfolding latched
 latched_still p l e = go (place_of l)
   where
-    go : (a : PicPlace) → is_cascade (settled (latched_at p a)) ≡ true
-    go (Master k) = settled_still (latched_at p (Master k)) e
-    go (Slave k) = settled_still (latched_at p (Slave k)) e
-    go Nowhere = settled_still p e
+    go : (a : Option PicPlace) → is_cascade (settled (latched_at p a)) ≡ true
+    go (Some (Master k)) = settled_still (latched_at p (Some (Master k))) e
+    go (Some (Slave k)) = settled_still (latched_at p (Some (Slave k))) e
+    go None = settled_still p e
 
 -- ---- a claim
 
@@ -154,11 +153,11 @@ module _ (p : PicState) (e : is_cascade p ≡ true) where
     line = ap (λ (x : ℕ). x ∷ []) (sym i) ∙ sym (slave_line j.0);
   }
 
-  by_two : (s : PendingIrq) → 2 ≡ pending_line p.master → ClaimIs p (claim_at p (cascade_place s)) true
-  by_two (Irq j) i = by_slave j i
-  by_two Nothing i = by_master cascade_irq (omega arith) i
+  by_two : (s : Option PicLine) → 2 ≡ pending_line p.master → ClaimIs p (claim_at p (cascade_place s)) true
+  by_two (Some j) i = by_slave j i
+  by_two None i = by_master cascade_irq (omega arith) i
 
-  by_line : (k : PicLine) → k.0 < 8 → k.0 ≡ pending_line p.master → (b : Bool) → eqb k.0 2 ≡ b → ClaimIs p (claim_at p (cond b (cascade_place (pending_irq p.slave)) (Master k))) true
+  by_line : (k : PicLine) → k.0 < 8 → k.0 ≡ pending_line p.master → (b : Bool) → eqb k.0 2 ≡ b → ClaimIs p (claim_at p (cond b (cascade_place (pending_irq p.slave)) (Some (Master k)))) true
   by_line k h i true t = by_two (pending_irq p.slave) (sym (eqb-true k.0 2 t) ∙ i)
   by_line k h i false t = by_master k h i
 
@@ -166,7 +165,7 @@ module _ (p : PicState) (e : is_cascade p ≡ true) where
   unfolding claim_pending asks pending_irq
   claim_is = go (ltb (pending_line p.master) 8) refl
     where
-      go : (a : Bool) → ltb (pending_line p.master) 8 ≡ a → ClaimIs p (claim_at p (place_from p (cond a (Irq (record { 0 = pending_line p.master })) Nothing))) a
+      go : (a : Bool) → ltb (pending_line p.master) 8 ≡ a → ClaimIs p (claim_at p (place_from p (cond a (Some (record { 0 = pending_line p.master })) None))) a
       go true h = by_line (record { 0 = pending_line p.master }) (ltb-true (pending_line p.master) 8 h) refl (eqb (pending_line p.master) 2) refl
       go false h = record { state = settled_master p e; line = refl }
 
@@ -190,14 +189,14 @@ master_restore : (p : PicState) (c : PicInterruptClaim) → is_cascade p ≡ tru
 unfolding restored
 master_restore p c e = go (ltb c.irq.0 16) (place_of c.irq)
   where
-    go : (b : Bool) (a : PicPlace)
+    go : (b : Bool) (a : Option PicPlace)
         → MasterDoes p
         (cond b (record { state = settled (restored_at p a c.master_in_service c.slave_in_service); reply = reply.Nothing }) (refused p OutOfRange)).state
         (cond b (back_at a c.master_in_service ++ drive cascade_irq (asks (settled (restored_at p a c.master_in_service c.slave_in_service)).slave) ∷ []) [])
         []
-    go true (Master k) = record { state = settled_master (restored_at p (Master k) c.master_in_service c.slave_in_service) e; lines = refl }
-    go true (Slave k) = record { state = settled_master (restored_at p (Slave k) c.master_in_service c.slave_in_service) e; lines = refl }
-    go true Nowhere = record { state = settled_master p e; lines = refl }
+    go true (Some (Master k)) = record { state = settled_master (restored_at p (Some (Master k)) c.master_in_service c.slave_in_service) e; lines = refl }
+    go true (Some (Slave k)) = record { state = settled_master (restored_at p (Some (Slave k)) c.master_in_service c.slave_in_service) e; lines = refl }
+    go true None = record { state = settled_master p e; lines = refl }
     go false a = record { state = refl; lines = refl }
 
 driven_by : (q : PicState) → is_cascade q ≡ true → (settled q).master ≡ driven q.master 2 (asks q.slave)
@@ -296,8 +295,8 @@ module _ (p : PicState) where
 
   -- one that comes through line 2
   through : (b : Bool) → asks p.slave ≡ b
-      → SlaveDoes p (claim_at p (cascade_place (cond b (Irq (record { 0 = pending_line p.slave })) Nothing))).state (slave_claims (cascade_place (cond b (Irq (record { 0 = pending_line p.slave })) Nothing)))
-      (on_slave (claim_line (claim_at p (cascade_place (cond b (Irq (record { 0 = pending_line p.slave })) Nothing))).claim))
+      → SlaveDoes p (claim_at p (cascade_place (cond b (Some (record { 0 = pending_line p.slave })) None))).state (slave_claims (cascade_place (cond b (Some (record { 0 = pending_line p.slave })) None)))
+      (on_slave (claim_line (claim_at p (cascade_place (cond b (Some (record { 0 = pending_line p.slave })) None))).claim))
   unfolding slave_claim
   through true h =
       let k = pending_line p.slave in
@@ -312,15 +311,15 @@ module _ (p : PicState) where
   slave_claims_lem = go (ltb (pending_line p.master) 8) refl
     where
       at : (k : PicLine) → k.0 < 8 → (b : Bool)
-          → SlaveDoes p (claim_at p (cond b (cascade_place (pending_irq p.slave)) (Master k))).state (slave_claims (cond b (cascade_place (pending_irq p.slave)) (Master k)))
-          (on_slave (claim_line (claim_at p (cond b (cascade_place (pending_irq p.slave)) (Master k))).claim))
+          → SlaveDoes p (claim_at p (cond b (cascade_place (pending_irq p.slave)) (Some (Master k)))).state (slave_claims (cond b (cascade_place (pending_irq p.slave)) (Some (Master k))))
+          (on_slave (claim_line (claim_at p (cond b (cascade_place (pending_irq p.slave)) (Some (Master k)))).claim))
       at k h true = through (ltb (pending_line p.slave) 8) refl
       at k h false = beside k h
 
       go : (a : Bool) → ltb (pending_line p.master) 8 ≡ a
-          → SlaveDoes p (claim_at p (place_from p (cond a (Irq (record { 0 = pending_line p.master })) Nothing))).state
-          (slave_claims (place_from p (cond a (Irq (record { 0 = pending_line p.master })) Nothing)))
-          (on_slave (claim_line (claim_at p (place_from p (cond a (Irq (record { 0 = pending_line p.master })) Nothing))).claim))
+          → SlaveDoes p (claim_at p (place_from p (cond a (Some (record { 0 = pending_line p.master })) None))).state
+          (slave_claims (place_from p (cond a (Some (record { 0 = pending_line p.master })) None)))
+          (on_slave (claim_line (claim_at p (place_from p (cond a (Some (record { 0 = pending_line p.master })) None))).claim))
       go true h = at (record { 0 = pending_line p.master }) (ltb-true (pending_line p.master) 8 h) (eqb (pending_line p.master) 2)
       go false h = record { state = settled_slave p; lines = refl }
 
@@ -328,10 +327,10 @@ slave_latched : (p : PicState) (l : PicLine) → SlaveDoes p (latched p l) (slav
 unfolding latched
 slave_latched p l = go (place_of l)
   where
-    go : (a : PicPlace) → SlaveDoes p (settled (latched_at p a)) (slave_edges a) []
-    go (Master k) = record { state = settled_slave (latched_at p (Master k)); lines = refl }
-    go (Slave k) = record { state = settled_slave (latched_at p (Slave k)); lines = refl }
-    go Nowhere = record { state = settled_slave p; lines = refl }
+    go : (a : Option PicPlace) → SlaveDoes p (settled (latched_at p a)) (slave_edges a) []
+    go (Some (Master k)) = record { state = settled_slave (latched_at p (Some (Master k))); lines = refl }
+    go (Some (Slave k)) = record { state = settled_slave (latched_at p (Some (Slave k))); lines = refl }
+    go None = record { state = settled_slave p; lines = refl }
 
 slave_irq_lem : (p : PicState) (l : PicLine) → SlaveDoes p (claim_irq p l).state (slave_irq p l) (on_slave (claim_line (claim_irq p l).claim))
 unfolding claim_irq
@@ -346,14 +345,14 @@ slave_restore : (p : PicState) (c : PicInterruptClaim) → SlaveDoes p (restore_
 unfolding restored
 slave_restore p c = go (ltb c.irq.0 16) (place_of c.irq)
   where
-    go : (b : Bool) (a : PicPlace)
+    go : (b : Bool) (a : Option PicPlace)
         → SlaveDoes p
         (cond b (record { state = settled (restored_at p a c.master_in_service c.slave_in_service); reply = reply.Nothing }) (refused p OutOfRange)).state
         (cond b (slave_back a c.slave_in_service) [])
         []
-    go true (Master k) = record { state = settled_slave (restored_at p (Master k) c.master_in_service c.slave_in_service); lines = refl }
-    go true (Slave k) = record { state = settled_slave (restored_at p (Slave k) c.master_in_service c.slave_in_service); lines = refl }
-    go true Nowhere = record { state = settled_slave p; lines = refl }
+    go true (Some (Master k)) = record { state = settled_slave (restored_at p (Some (Master k)) c.master_in_service c.slave_in_service); lines = refl }
+    go true (Some (Slave k)) = record { state = settled_slave (restored_at p (Some (Slave k)) c.master_in_service c.slave_in_service); lines = refl }
+    go true None = record { state = settled_slave p; lines = refl }
     go false a = record { state = refl; lines = refl }
 
 slave_read_lem : (p : PicState) (port width : ℕ) → SlaveDoes p (handle_read p port width).state (slave_events p (call_handle_read port width)) (slave_served p (call_handle_read port width))

@@ -1,14 +1,16 @@
 -- Where line 7 is lowest before a call, rule 2 answers as rule 1. Assumes nothing.
+use Rattle.std.proofs.Common.{Option, Some, None, Ok}
 use mathlib.Core.Path.{◌≡◌, refl, sym, ap, ap₂, subst, ◌∙◌}
 use mathlib.Core.Bool.{Bool, true, false, not, cond, ◌&&◌, ◌||◌}
 use Prim.Native.Nat.{ℕ, ◌%◌}
 use lib.Dec.{ltb, eqb}
+use Rattle.vpic.specs.declared.PicInterruptClaim.{PicInterruptClaim}
 use Rattle.utils.specs.Set.{bit, with, without, outside}
 use Rattle.utils.proofs.Bools.{never, both}
 use Rattle.utils.proofs.Laws.{bit_without_same, without_with, with_member, without_member}
 use Rattle.types.specs.declared.PicLine.{PicLine}
 use Rattle.types.specs.declared.PicPlace.{PicPlace}
-use Rattle.types.specs.declared.PicPlace.TheVariants.{Master, Slave, Nowhere}
+use Rattle.types.specs.declared.PicPlace.TheVariants.{Master, Slave}
 use Rattle.types.specs.declared.Refusal.{Refusal}
 use Rattle.types.specs.declared.Refusal.TheVariants.{Unsupported, OutOfRange}
 use Rattle.types.specs.declared.Reply.TheVariants as reply
@@ -17,14 +19,10 @@ use Rattle.types.specs.Reply.{Outcome}
 use Rattle.vpic_priority.specs.Ring.{rank, first_rank, first_by, above}
 use Rattle.vpic_priority.proofs.Ring.{by_same}
 use Rattle.vpic_chip.specs.Registers.{Chip, with_request}
-use Rattle.vpic_chip.specs.declared.PendingIrq.{PendingIrq}
-use Rattle.vpic_chip.specs.declared.PendingIrq.TheVariants.{Irq, Nothing}
 use Rattle.vpic_chip.proofs.Laws.{ordinary, ordinary_blocks}
 use Rattle.vpic_theorems.proofs.Ordinary.{plainly_counts, ordinary_plainly, ordinary_ended, ended_highest}
 use Rattle.vpic_chip.specs.Chip.{vector_reply, lowest_by, first_of, blocks, is_polled, poll_shown, polled, read_shown, icw1, ocw3, ocw2, cascade_irq, turned, opened, specific_eoi, non_specific_eoi, commanded, fed, command_read, pulsed, driven, counts, asks, pending_line, irq_of, pending_irq, acknowledged, unacknowledged}
 use Rattle.vpic.specs.Words.{PicState}
-use Rattle.vpic.specs.declared.PicClaim.{PicClaim}
-use Rattle.vpic.specs.declared.PicValue.TheVariants.{Value}
 use Rattle.vpic.specs.Pair.{claim_reply, claim_vector, value_reply, new_state, drives, rule_in, StateClaim, chips, is_cascade, settled, latched_at, latched, master_claim, slave_claim, cascade_place, place_from, pending_place, claim_at, claim_pending, claim_irq, nothing_claimed, restored_at, restored, refused, Port, master_command, master_data, slave_command, slave_data, no_port, port_at, is_port, read_from, left_after, port_read, port_left, written_to, written_at, port_written}
 use Rattle.vpic_theorems.proofs.Settled.{settled_cascade}
 use Rattle.vpic_theorems.proofs.Turns.{raise_becomes}
@@ -138,27 +136,27 @@ pulsed_ordinary c l o = both (λ (d : Chip). is_ordinary d ≡ true) (ltb l.0 8)
 
 -- ---- an edge
 
-latch_nested : (p : PicState) (a : PicPlace) → Nested p → Nested (latched_at p a)
-latch_nested p (Master k) h = record {
+latch_nested : (p : PicState) (a : Option PicPlace) → Nested p → Nested (latched_at p a)
+latch_nested p (Some (Master k)) h = record {
   cascade = h.cascade;
   master = pulsed_lowest p.master k h.master;
   slave = h.slave;
   «master-mode» = pulsed_ordinary p.master k h.«master-mode»;
   «slave-mode» = h.«slave-mode»;
 }
-latch_nested p (Slave k) h = record {
+latch_nested p (Some (Slave k)) h = record {
   cascade = h.cascade;
   master = pulsed_lowest p.master cascade_irq h.master;
   slave = pulsed_lowest p.slave k h.slave;
   «master-mode» = pulsed_ordinary p.master cascade_irq h.«master-mode»;
   «slave-mode» = pulsed_ordinary p.slave k h.«slave-mode»;
 }
-latch_nested p Nowhere h = h
+latch_nested p None h = h
 
-latch_alike : (p : PicState) (a : PicPlace) → by_rule_one (latched_at p a) ≡ latched_at (by_rule_one p) a
-latch_alike p (Master k) = ap (λ (m : Chip). chips (by_rule_one p) m (plain_chip p.slave)) (plain_pulsed p.master k)
-latch_alike p (Slave k) = ap₂ (λ (m s : Chip). chips (by_rule_one p) m s) (plain_pulsed p.master cascade_irq) (plain_pulsed p.slave k)
-latch_alike p Nowhere = refl
+latch_alike : (p : PicState) (a : Option PicPlace) → by_rule_one (latched_at p a) ≡ latched_at (by_rule_one p) a
+latch_alike p (Some (Master k)) = ap (λ (m : Chip). chips (by_rule_one p) m (plain_chip p.slave)) (plain_pulsed p.master k)
+latch_alike p (Some (Slave k)) = ap₂ (λ (m s : Chip). chips (by_rule_one p) m s) (plain_pulsed p.master cascade_irq) (plain_pulsed p.slave k)
+latch_alike p None = refl
 
 pub latched_nested : (p : PicState) (l : PicLine) → Nested p → Nested (latched p l)
 unfolding latched
@@ -179,15 +177,15 @@ record SameClaim (x y : StateClaim) : Type 0 where
 pub place_alike : (p : PicState) → Nested p → pending_place (by_rule_one p) ≡ pending_place p
 place_alike p h = go (pending_irq (plain_chip p.master)) ∙ ap (place_from p) (plain_irq p.master h.master h.«master-mode»)
   where
-    go : (a : PendingIrq) → place_from (by_rule_one p) a ≡ place_from p a
-    go (Irq k) = ap (λ (x : PendingIrq). cond (eqb k.0 cascade_irq.0) (cascade_place x) (Master k)) (plain_irq p.slave h.slave h.«slave-mode»)
-    go Nothing = refl
+    go : (a : Option PicLine) → place_from (by_rule_one p) a ≡ place_from p a
+    go (Some k) = ap (λ (x : Option PicLine). cond (eqb k.0 cascade_irq.0) (cascade_place x) (Some (Master k))) (plain_irq p.slave h.slave h.«slave-mode»)
+    go None = refl
 
-claim_at_alike : (p : PicState) → Nested p → (a : PicPlace) → SameClaim (claim_at p a) (claim_at (by_rule_one p) a)
+claim_at_alike : (p : PicState) → Nested p → (a : Option PicPlace) → SameClaim (claim_at p a) (claim_at (by_rule_one p) a)
 unfolding master_claim slave_claim acknowledged
-claim_at_alike p h (Master k) = record { claim = refl; state = settled_alike (chips p (acknowledged p.master k.0) p.slave) h.cascade }
-claim_at_alike p h (Slave k) = record { claim = refl; state = settled_alike (chips p (acknowledged p.master cascade_irq.0) (acknowledged p.slave k.0)) h.cascade }
-claim_at_alike p h Nowhere = record { claim = refl; state = settled_alike p h.cascade }
+claim_at_alike p h (Some (Master k)) = record { claim = refl; state = settled_alike (chips p (acknowledged p.master k.0) p.slave) h.cascade }
+claim_at_alike p h (Some (Slave k)) = record { claim = refl; state = settled_alike (chips p (acknowledged p.master cascade_irq.0) (acknowledged p.slave k.0)) h.cascade }
+claim_at_alike p h None = record { claim = refl; state = settled_alike p h.cascade }
 
 claim_alike : (p : PicState) → Nested p → SameClaim (claim_pending p) (claim_pending (by_rule_one p))
 unfolding claim_pending
@@ -206,15 +204,15 @@ raise_alike p l h = go (ltb l.0 16)
 
 -- ---- a restore, a read, a write
 
-pub restore_alike : (p : PicState) (a : PicPlace) (m s : Bool) → by_rule_one (restored_at p a m s) ≡ restored_at (by_rule_one p) a m s
-restore_alike p (Master k) m s = ap (λ (x : Chip). chips (by_rule_one p) x (plain_chip p.slave)) (plain_unacknowledged p.master k m)
-restore_alike p (Slave k) m s = ap₂ (λ (x y : Chip). chips (by_rule_one p) x y) (plain_unacknowledged p.master cascade_irq m) (plain_unacknowledged p.slave k s)
-restore_alike p Nowhere m s = refl
+pub restore_alike : (p : PicState) (a : Option PicPlace) (m s : Bool) → by_rule_one (restored_at p a m s) ≡ restored_at (by_rule_one p) a m s
+restore_alike p (Some (Master k)) m s = ap (λ (x : Chip). chips (by_rule_one p) x (plain_chip p.slave)) (plain_unacknowledged p.master k m)
+restore_alike p (Some (Slave k)) m s = ap₂ (λ (x y : Chip). chips (by_rule_one p) x y) (plain_unacknowledged p.master cascade_irq m) (plain_unacknowledged p.slave k s)
+restore_alike p None m s = refl
 
-pub restore_cascade : (p : PicState) (a : PicPlace) (m s : Bool) → is_cascade (restored_at p a m s) ≡ is_cascade p
-restore_cascade p (Master k) m s = refl
-restore_cascade p (Slave k) m s = refl
-restore_cascade p Nowhere m s = refl
+pub restore_cascade : (p : PicState) (a : Option PicPlace) (m s : Bool) → is_cascade (restored_at p a m s) ≡ is_cascade p
+restore_cascade p (Some (Master k)) m s = refl
+restore_cascade p (Some (Slave k)) m s = refl
+restore_cascade p None m s = refl
 
 -- where no poll waits
 read_alike : (p : PicState) (port : ℕ) → is_polled p.master ≡ false → is_polled p.slave ≡ false → port_read p port ≡ port_read (by_rule_one p) port
@@ -222,10 +220,10 @@ unfolding port_read command_read read_shown
 read_alike p port m s = go (port_at port)
   where
     go : (a : Port) → read_from p a ≡ read_from (by_rule_one p) a
-    go master_command = ap (λ (b : Bool). Value (cond b (poll_shown p.master) (cond p.master.read_isr p.master.in_service p.master.request))) m
-    go master_data = ap (λ (b : Bool). Value (cond b (poll_shown p.master) p.master.mask)) m
-    go slave_command = ap (λ (b : Bool). Value (cond b (poll_shown p.slave) (cond p.slave.read_isr p.slave.in_service p.slave.request))) s
-    go slave_data = ap (λ (b : Bool). Value (cond b (poll_shown p.slave) p.slave.mask)) s
+    go master_command = ap (λ (b : Bool). Ok (cond b (poll_shown p.master) (cond p.master.read_isr p.master.in_service p.master.request))) m
+    go master_data = ap (λ (b : Bool). Ok (cond b (poll_shown p.master) p.master.mask)) m
+    go slave_command = ap (λ (b : Bool). Ok (cond b (poll_shown p.slave) (cond p.slave.read_isr p.slave.in_service p.slave.request))) s
+    go slave_data = ap (λ (b : Bool). Ok (cond b (poll_shown p.slave) p.slave.mask)) s
     go no_port = refl
 
 pub left_alike : (p : PicState) (port : ℕ) → is_polled p.master ≡ false → is_polled p.slave ≡ false → (port_left p port ≡ p) × (port_left (by_rule_one p) port ≡ by_rule_one p)
@@ -280,8 +278,8 @@ call_alike : (p : PicState) (c : Call) → Nested p → is_polled p.master ≡ f
 unfolding outcome restored port_written
 call_alike p (call_claim_irq l) h x y m = let a = raise_alike p l h in record { reply = ap claim_reply a.claim; state = a.state.0; exact = a.state.1 }
 call_alike p claim_pending_interrupt h x y m = let a = claim_alike p h in record { reply = ap claim_reply a.claim; state = a.state.0; exact = a.state.1 }
-call_alike p (pulse_irq l) h x y m = let a = raise_alike p l h in record { reply = ap (λ (x : PicClaim). vector_reply (claim_vector x)) a.claim; state = a.state.0; exact = a.state.1 }
-call_alike p next_interrupt h x y m = let a = claim_alike p h in record { reply = ap (λ (x : PicClaim). vector_reply (claim_vector x)) a.claim; state = a.state.0; exact = a.state.1 }
+call_alike p (pulse_irq l) h x y m = let a = raise_alike p l h in record { reply = ap (λ (x : Option PicInterruptClaim). vector_reply (claim_vector x)) a.claim; state = a.state.0; exact = a.state.1 }
+call_alike p next_interrupt h x y m = let a = claim_alike p h in record { reply = ap (λ (x : Option PicInterruptClaim). vector_reply (claim_vector x)) a.claim; state = a.state.0; exact = a.state.1 }
 call_alike p (call_restore_interrupt c) h x y m =
     alike_cond (ltb c.irq.0 16) _ _ _ _
     (done _ _

@@ -1,4 +1,5 @@
 -- What begins a poll, and what ends it, over all calls. Assumes nothing.
+use Rattle.std.proofs.Common.{Option, Some, None}
 use mathlib.Core.Path.{◌≡◌, refl, sym, subst, ◌∙◌}
 use mathlib.Core.Bool.{Bool, true, false, not, cond, ◌&&◌, ◌||◌}
 use Prim.Native.Nat.{ℕ, ◌%◌}
@@ -8,7 +9,7 @@ use Rattle.utils.specs.Set.{bit}
 use Rattle.utils.proofs.Bools.{never, either, both, and-false, and_one}
 use Rattle.types.specs.declared.PicLine.{PicLine}
 use Rattle.types.specs.declared.PicPlace.{PicPlace}
-use Rattle.types.specs.declared.PicPlace.TheVariants.{Master, Slave, Nowhere}
+use Rattle.types.specs.declared.PicPlace.TheVariants.{Master, Slave}
 use Rattle.types.specs.declared.Refusal.TheVariants.{Unsupported}
 use Rattle.types.specs.declared.Reply.TheVariants as reply
 use Rattle.types.specs.Counters.{place_of}
@@ -91,15 +92,15 @@ claim_same : (p : PicState) → SamePolls p (claim_pending p).state
 unfolding claim_pending master_claim slave_claim acknowledged
 claim_same p = go (pending_place p)
   where
-    go : (a : PicPlace) → SamePolls p (claim_at p a).state
-    go (Master k) = settled_same p _ (refl, refl)
-    go (Slave k) = settled_same p _ (refl, refl)
-    go Nowhere = settled_same p p (refl, refl)
+    go : (a : Option PicPlace) → SamePolls p (claim_at p a).state
+    go (Some (Master k)) = settled_same p _ (refl, refl)
+    go (Some (Slave k)) = settled_same p _ (refl, refl)
+    go None = settled_same p p (refl, refl)
 
-latched_same : (p : PicState) (a : PicPlace) → SamePolls p (latched_at p a)
-latched_same p (Master k) = (pulsed_same p.master k, refl)
-latched_same p (Slave k) = (pulsed_same p.master cascade_irq, pulsed_same p.slave k)
-latched_same p Nowhere = (refl, refl)
+latched_same : (p : PicState) (a : Option PicPlace) → SamePolls p (latched_at p a)
+latched_same p (Some (Master k)) = (pulsed_same p.master k, refl)
+latched_same p (Some (Slave k)) = (pulsed_same p.master cascade_irq, pulsed_same p.slave k)
+latched_same p None = (refl, refl)
 
 raise_same : (p : PicState) (l : PicLine) → SamePolls p (claim_irq p l).state
 unfolding claim_irq latched
@@ -108,10 +109,10 @@ raise_same p l =
     let k = claim_same (latched p l) in
     both (λ (r : StateClaim). SamePolls p r.state) (ltb l.0 16) _ _ (k.0 ∙ h.0, k.1 ∙ h.1) (refl, refl)
 
-restored_same : (p : PicState) (a : PicPlace) (m s : Bool) → SamePolls p (restored_at p a m s)
-restored_same p (Master k) m s = (unacknowledged_same p.master k m, refl)
-restored_same p (Slave k) m s = (unacknowledged_same p.master cascade_irq m, unacknowledged_same p.slave k s)
-restored_same p Nowhere m s = (refl, refl)
+restored_same : (p : PicState) (a : Option PicPlace) (m s : Bool) → SamePolls p (restored_at p a m s)
+restored_same p (Some (Master k)) m s = (unacknowledged_same p.master k m, refl)
+restored_same p (Some (Slave k)) m s = (unacknowledged_same p.master cascade_irq m, unacknowledged_same p.slave k s)
+restored_same p None m s = (refl, refl)
 
 off_port : (p : PicState) (c : Call) → is_at_port c ≡ false → SamePolls p (outcome p c).state
 unfolding outcome restored

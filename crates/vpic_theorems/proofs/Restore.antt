@@ -1,4 +1,5 @@
 -- A claim that is restored at once gives back the pair as it was, and serves the highest request of each chip; what its flags say. Assumes nothing.
+use Rattle.std.proofs.Common.{Option, Some, None}
 use mathlib.Core.Path.{◌≡◌, refl, sym, ap, ap₂, subst, ◌∙◌}
 use mathlib.Core.Bool.{Bool, true, false, not, cond, ◌&&◌}
 use Prim.Native.Nat.{ℕ, ◌+◌, ◌-◌, ◌<◌}
@@ -12,16 +13,13 @@ use Rattle.utils.proofs.Laws.{with_without, without_with, with_member}
 use Rattle.types.specs.declared.PicLine.{PicLine}
 use Rattle.types.specs.declared.Vector.{Vector}
 use Rattle.types.specs.declared.PicPlace.{PicPlace}
-use Rattle.types.specs.declared.PicPlace.TheVariants.{Master, Slave, Nowhere}
+use Rattle.types.specs.declared.PicPlace.TheVariants.{Master, Slave}
 use Rattle.types.specs.declared.Reply.TheVariants as reply
 use Rattle.types.specs.Counters.{place_of, line_vector}
 use Rattle.vpic_chip.specs.Registers.{Chip, chip_in, full_in, placed, with_request, with_in_service, with_lowest}
 use Rattle.vpic_priority.specs.Ring.{first_rank, first_by}
-use Rattle.vpic_chip.specs.declared.PendingIrq.{PendingIrq}
-use Rattle.vpic_chip.specs.declared.PendingIrq.TheVariants.{Irq, Nothing}
 use Rattle.vpic.specs.Words.{PicState, is_full, view}
 use Rattle.vpic.specs.declared.PicInterruptClaim.{PicInterruptClaim}
-use Rattle.vpic.specs.declared.PicClaim.TheVariants.{Claimed, Nothing as NoClaim}
 use Rattle.vpic_chip.specs.Chip.{cascade_irq, is_nested, opened, commanded, fed, pulsed, driven, counts, pending_line, Highest, pending_irq, acknowledged, unacknowledged}
 use Rattle.vpic.specs.Pair.{StateClaim, is_cascade, Keeps, chips, grew, new_state, settled, latched_at, latched, master_claim, slave_claim, cascade_place, place_from, claim_at, claim_pending, claim_irq, port_written, written_at, restored_at, restored, restore_interrupt}
 use Rattle.vpic_chip.proofs.Laws.{pended, counted_asked, counted_idle}
@@ -70,11 +68,11 @@ chip_back c k s h =
 
 -- ---- the pair: a claim of the master's line, and of the slave's
 
-pub place_low : (k : PicLine) → k.0 < 8 → place_of k ≡ Master k
+pub place_low : (k : PicLine) → k.0 < 8 → place_of k ≡ Some (Master k)
 place_low k h = rw (lt-ltb k.0 8 h)
 
-pub place_high : (k : PicLine) → k.0 < 8 → place_of (record { 0 = k.0 + 8 }) ≡ Slave k
-place_high k h = rw (le-ltb (k.0 + 8) 8 (omega arith), lt-ltb (k.0 + 8) 16 (omega arith)) (ap (λ (n : ℕ). Slave (record { 0 = n })) e)
+pub place_high : (k : PicLine) → k.0 < 8 → place_of (record { 0 = k.0 + 8 }) ≡ Some (Slave k)
+place_high k h = rw (le-ltb (k.0 + 8) 8 (omega arith), lt-ltb (k.0 + 8) 16 (omega arith)) (ap (λ (n : ℕ). Some (Slave (record { 0 = n }))) e)
   where
     e : k.0 + 8 - 8 ≡ k.0
     e = omega arith
@@ -83,7 +81,7 @@ place_high k h = rw (le-ltb (k.0 + 8) 8 (omega arith), lt-ltb (k.0 + 8) 16 (omeg
 unfoldable pub the_claim : (p q : PicState) (v : Vector) (l : PicLine) → PicInterruptClaim
 the_claim p q v l = record { vector = v; irq = l; master_in_service = grew p.master q.master; slave_in_service = grew p.slave q.slave }
 
-master_back : (p : PicState) (k : PicLine) (c : PicInterruptClaim) → Keeps p → BothSteady p → Highest p.master k.0 → (master_claim p k).claim ≡ Claimed c
+master_back : (p : PicState) (k : PicLine) (c : PicInterruptClaim) → Keeps p → BothSteady p → Highest p.master k.0 → (master_claim p k).claim ≡ Some c
     → restored (master_claim p k).state c ≡ p
 unfolding master_claim restored the_claim
 master_back p k c keeps s h e =
@@ -94,7 +92,7 @@ master_back p k c keeps s h e =
     ∙ ap (λ (m : Chip). settled (chips p m p.slave)) (chip_back p.master k s.0 h)
     ∙ settled_kept p keeps)
 
-slave_back_lem : (p : PicState) (k : PicLine) (c : PicInterruptClaim) → Keeps p → BothSteady p → Highest p.master 2 → Highest p.slave k.0 → (slave_claim p k).claim ≡ Claimed c
+slave_back_lem : (p : PicState) (k : PicLine) (c : PicInterruptClaim) → Keeps p → BothSteady p → Highest p.master 2 → Highest p.slave k.0 → (slave_claim p k).claim ≡ Some c
     → restored (slave_claim p k).state c ≡ p
 unfolding slave_claim restored the_claim
 slave_back_lem p k c keeps s m h e =
@@ -109,36 +107,36 @@ slave_back_lem p k c keeps s m h e =
 
 -- what is shown of the master's and of the slave's claims holds of every claim
 pub by_claim : (P : StateClaim → PicInterruptClaim → Type 0) (p : PicState)
-    → ((k : PicLine) (c : PicInterruptClaim) → Highest p.master k.0 → (master_claim p k).claim ≡ Claimed c → P (master_claim p k) c)
-    → ((k : PicLine) (c : PicInterruptClaim) → Highest p.master 2 → Highest p.slave k.0 → (slave_claim p k).claim ≡ Claimed c → P (slave_claim p k) c)
-    → (c : PicInterruptClaim) → (claim_pending p).claim ≡ Claimed c → P (claim_pending p) c
+    → ((k : PicLine) (c : PicInterruptClaim) → Highest p.master k.0 → (master_claim p k).claim ≡ Some c → P (master_claim p k) c)
+    → ((k : PicLine) (c : PicInterruptClaim) → Highest p.master 2 → Highest p.slave k.0 → (slave_claim p k).claim ≡ Some c → P (slave_claim p k) c)
+    → (c : PicInterruptClaim) → (claim_pending p).claim ≡ Some c → P (claim_pending p) c
 unfolding claim_pending
 by_claim P p m s c e = by_master (pending_irq p.master) refl e
   where
-    by_slave : (b : PendingIrq) → pending_irq p.slave ≡ b → Highest p.master 2 → (claim_at p (cascade_place b)).claim ≡ Claimed c → P (claim_at p (cascade_place b)) c
-    by_slave (Irq k) q h f = s k c h (pended p.slave k q) f
-    by_slave Nothing q h f = m cascade_irq c h f
+    by_slave : (b : Option PicLine) → pending_irq p.slave ≡ b → Highest p.master 2 → (claim_at p (cascade_place b)).claim ≡ Some c → P (claim_at p (cascade_place b)) c
+    by_slave (Some k) q h f = s k c h (pended p.slave k q) f
+    by_slave None q h f = m cascade_irq c h f
 
-    by_line : (k : PicLine) (b : Bool) → eqb k.0 2 ≡ b → Highest p.master k.0 → (claim_at p (cond b (cascade_place (pending_irq p.slave)) (Master k))).claim ≡ Claimed c
-        → P (claim_at p (cond b (cascade_place (pending_irq p.slave)) (Master k))) c
+    by_line : (k : PicLine) (b : Bool) → eqb k.0 2 ≡ b → Highest p.master k.0 → (claim_at p (cond b (cascade_place (pending_irq p.slave)) (Some (Master k)))).claim ≡ Some c
+        → P (claim_at p (cond b (cascade_place (pending_irq p.slave)) (Some (Master k)))) c
     by_line k true q h f = by_slave (pending_irq p.slave) refl (subst (Highest p.master) (eqb-true k.0 2 q) h) f
     by_line k false q h f = m k c h f
 
-    by_master : (a : PendingIrq) → pending_irq p.master ≡ a → (claim_at p (place_from p a)).claim ≡ Claimed c → P (claim_at p (place_from p a)) c
-    by_master (Irq k) q f = by_line k (eqb k.0 2) refl (pended p.master k q) f
-    by_master Nothing q f = let z : ◌≡◌ {A = ℕ} 0 1 = cc in absurd (omega arith)
+    by_master : (a : Option PicLine) → pending_irq p.master ≡ a → (claim_at p (place_from p a)).claim ≡ Some c → P (claim_at p (place_from p a)) c
+    by_master (Some k) q f = by_line k (eqb k.0 2) refl (pended p.master k q) f
+    by_master None q f = let z : ◌≡◌ {A = ℕ} 0 1 = cc in absurd (omega arith)
 
 -- the line of a claim
-pub master_line : (p : PicState) (k : PicLine) (c : PicInterruptClaim) → (master_claim p k).claim ≡ Claimed c → c.irq ≡ k
+pub master_line : (p : PicState) (k : PicLine) (c : PicInterruptClaim) → (master_claim p k).claim ≡ Some c → c.irq ≡ k
 unfolding master_claim
 master_line p k c e = cc
 
-pub slave_line : (p : PicState) (k : PicLine) (c : PicInterruptClaim) → (slave_claim p k).claim ≡ Claimed c → c.irq.0 ≡ k.0 + 8
+pub slave_line : (p : PicState) (k : PicLine) (c : PicInterruptClaim) → (slave_claim p k).claim ≡ Some c → c.irq.0 ≡ k.0 + 8
 unfolding slave_claim
 slave_line p k c e = let f : c.irq ≡ record { 0 = k.0 + 8 } = cc in ap (λ (l : PicLine). l.0) f
 
 -- every claim names a line of the pair
-pub below_16 : (p : PicState) (c : PicInterruptClaim) → (claim_pending p).claim ≡ Claimed c → c.irq.0 < 16
+pub below_16 : (p : PicState) (c : PicInterruptClaim) → (claim_pending p).claim ≡ Some c → c.irq.0 < 16
 below_16 p =
     by_claim (λ r c. c.irq.0 < 16) p (λ k c h e. omega (arith, h.low, ap (λ (l : PicLine). l.0) (master_line p k c e)))
     (λ k c m h e. omega (arith, h.low, slave_line p k c e))
@@ -169,17 +167,17 @@ latched_steady : (p : PicState) (l : PicLine) → BothSteady p → BothSteady (l
 unfolding latched settled driven
 latched_steady p l s = both BothSteady (is_cascade (latched_at p (place_of l))) _ _ (go (place_of l)) (go (place_of l))
   where
-    go : (a : PicPlace) → BothSteady (latched_at p a)
-    go (Master k) = (pulsed_steady p.master k s.0, s.1)
-    go (Slave k) = (pulsed_steady p.master cascade_irq s.0, pulsed_steady p.slave k s.1)
-    go Nowhere = s
+    go : (a : Option PicPlace) → BothSteady (latched_at p a)
+    go (Some (Master k)) = (pulsed_steady p.master k s.0, s.1)
+    go (Some (Slave k)) = (pulsed_steady p.master cascade_irq s.0, pulsed_steady p.slave k s.1)
+    go None = s
 
 pub restored_after_raise : RestoredAfterRaise
 unfolding claim_irq
 restored_after_raise p l c steady e = go (ltb l.0 16) e
   where
-    go : (b : Bool) → (cond b (claim_pending (latched p l)) (record { state = p; claim = NoClaim })).claim ≡ Claimed c
-        → restore_interrupt (cond b (claim_pending (latched p l)) (record { state = p; claim = NoClaim })).state c ≡ record { state = latched p l; reply = reply.Nothing }
+    go : (b : Bool) → (cond b (claim_pending (latched p l)) (record { state = p; claim = None })).claim ≡ Some c
+        → restore_interrupt (cond b (claim_pending (latched p l)) (record { state = p; claim = None })).state c ≡ record { state = latched p l; reply = reply.Nothing }
     go true f = restored_at_once (latched p l) c (latched_keeps p l) (latched_steady p l steady) f
     go false f = let z : ◌≡◌ {A = ℕ} 0 1 = cc in absurd (omega arith)
 
@@ -244,7 +242,7 @@ second_caller_unheard = (refl, refl, refl)
 
 -- ---- what a claim's flags say
 
-master_flagged : (p : PicState) (k : PicLine) (c : PicInterruptClaim) → Highest p.master k.0 → (master_claim p k).claim ≡ Claimed c → Flagged p c
+master_flagged : (p : PicState) (k : PicLine) (c : PicInterruptClaim) → Highest p.master k.0 → (master_claim p k).claim ≡ Some c → Flagged p c
 unfolding master_claim the_claim
 master_flagged p k c h e =
     let f : c ≡ the_claim p (chips p (acknowledged p.master k.0) p.slave) (line_vector p.master.vector_base k) k = cc in
@@ -256,7 +254,7 @@ master_flagged p k c h e =
       alone = λ m. ap not (none_new p.slave.in_service);
     })
 
-slave_flagged : (p : PicState) (k : PicLine) (c : PicInterruptClaim) → Highest p.master 2 → Highest p.slave k.0 → (slave_claim p k).claim ≡ Claimed c → Flagged p c
+slave_flagged : (p : PicState) (k : PicLine) (c : PicInterruptClaim) → Highest p.master 2 → Highest p.slave k.0 → (slave_claim p k).claim ≡ Some c → Flagged p c
 unfolding slave_claim the_claim
 slave_flagged p k c m h e =
     let f : c ≡ the_claim p (chips p (acknowledged p.master 2) (acknowledged p.slave k.0)) (line_vector p.slave.vector_base k) (record { 0 = k.0 + 8 }) = cc in
@@ -279,13 +277,13 @@ idle_sets c k h n =
 pub flags_by_mode : FlagsByMode
 flags_by_mode p = by_claim (λ r c. FlaggedByMode p c) p by_master by_slave
   where
-    by_master : (k : PicLine) (c : PicInterruptClaim) → Highest p.master k.0 → (master_claim p k).claim ≡ Claimed c → FlaggedByMode p c
+    by_master : (k : PicLine) (c : PicInterruptClaim) → Highest p.master k.0 → (master_claim p k).claim ≡ Some c → FlaggedByMode p c
     by_master k c h e =
         let f = master_flagged p k c h e in
         let l : c.irq.0 ≡ k.0 = ap (λ (x : PicLine). x.0) (master_line p k c e) in
         record { master = λ n. f.master (omega (arith, l, h.low)) ∙ ap (sets p.master) l ∙ idle_sets p.master k.0 h n; slave = λ n m. absurd (omega (arith, l, h.low)) }
 
-    by_slave : (k : PicLine) (c : PicInterruptClaim) → Highest p.master 2 → Highest p.slave k.0 → (slave_claim p k).claim ≡ Claimed c → FlaggedByMode p c
+    by_slave : (k : PicLine) (c : PicInterruptClaim) → Highest p.master 2 → Highest p.slave k.0 → (slave_claim p k).claim ≡ Some c → FlaggedByMode p c
     by_slave k c m h e =
         let f = slave_flagged p k c m h e in
         let l : c.irq.0 ≡ k.0 + 8 = slave_line p k c e in
@@ -310,10 +308,10 @@ latched_mode : (p : PicState) (l : PicLine) → SameMode p (latched p l)
 unfolding latched settled driven
 latched_mode p l = both (SameMode p) (is_cascade (latched_at p (place_of l))) _ _ (go (place_of l)) (go (place_of l))
   where
-    go : (a : PicPlace) → SameMode p (latched_at p a)
-    go (Master k) = (pulsed_sets p.master k, (refl, refl))
-    go (Slave k) = (pulsed_sets p.master cascade_irq, pulsed_sets p.slave k)
-    go Nowhere = ((refl, refl), (refl, refl))
+    go : (a : Option PicPlace) → SameMode p (latched_at p a)
+    go (Some (Master k)) = (pulsed_sets p.master k, (refl, refl))
+    go (Some (Slave k)) = (pulsed_sets p.master cascade_irq, pulsed_sets p.slave k)
+    go None = ((refl, refl), (refl, refl))
 
 sets_same : (c d : Chip) (k : ℕ) → SameSets c d → sets d k ≡ sets c k
 sets_same c d k s = ap₂ (λ (b : Bool) (n : ℕ). not b && not (bit n k)) s.0 s.1
@@ -322,7 +320,7 @@ pub flags_say_after_raise : FlagsSayAfterRaise
 unfolding claim_irq
 flags_say_after_raise p l c e = go (ltb l.0 16) e
   where
-    go : (b : Bool) → (cond b (claim_pending (latched p l)) (record { state = p; claim = NoClaim })).claim ≡ Claimed c → Flagged p c
+    go : (b : Bool) → (cond b (claim_pending (latched p l)) (record { state = p; claim = None })).claim ≡ Some c → Flagged p c
     go true f =
         let r = flags_say (latched p l) c f in
         let s = latched_mode p l in

@@ -1,4 +1,5 @@
 -- Rotation on the pair is fair. Assumes nothing.
+use Rattle.std.proofs.Common.{Option, Some, None}
 use mathlib.Core.Path.{◌≡◌, refl, sym, ap, ap₂, subst, ◌∙◌}
 use mathlib.Core.Bool.{Bool, true, false, not, cond, ◌||◌}
 use mathlib.Core.List.{List, [], ◌∷◌, ◌++◌}
@@ -12,9 +13,8 @@ use Rattle.utils.proofs.Bools.{and_true}
 use Rattle.utils.proofs.Laws.{bit_with_same, bit_with_other, bit_without_same, bit_without_other}
 use Rattle.types.specs.declared.PicLine.{PicLine}
 use Rattle.types.specs.declared.PicPlace.{PicPlace}
-use Rattle.types.specs.declared.PicPlace.TheVariants.{Master, Slave, Nowhere}
+use Rattle.types.specs.declared.PicPlace.TheVariants.{Master, Slave}
 use Rattle.types.specs.Counters.{place_of}
-use Rattle.vpic_chip.specs.declared.PendingIrq.TheVariants.{Irq}
 use Rattle.vpic_chip.specs.Registers.{Chip}
 use Rattle.vpic_priority.specs.Ring.{rank, first_rank, first_by}
 use Rattle.vpic_priority.proofs.Ring.{rank_lt}
@@ -206,7 +206,7 @@ slave_claim_lem p j h m n =
     }))
 
 -- where the master asks, there is a claim
-pending_is : (c : Chip) → asks c ≡ true → pending_irq c ≡ Irq (record { 0 = pending_line c })
+pending_is : (c : Chip) → asks c ≡ true → pending_irq c ≡ Some (record { 0 = pending_line c })
 unfolding pending_irq asks
 pending_is c e = rw e
 
@@ -217,7 +217,7 @@ claim_made p h a = rw (pending_is p.master a) (go (eqb (pending_line p.master) 2
     line : PicLine
     line = record { 0 = pending_line p.master }
 
-    go : (b : Bool) → eqb (pending_line p.master) 2 ≡ b → Claim p (claim_at p (cond b (cascade_place (pending_irq p.slave)) (Master (record { 0 = pending_line p.master }))))
+    go : (b : Bool) → eqb (pending_line p.master) 2 ≡ b → Claim p (claim_at p (cond b (cascade_place (pending_irq p.slave)) (Some (Master (record { 0 = pending_line p.master })))))
     go true e =
         let n = next p.master (idle_plainly p.master h.«master-idle») a in
         let two : pending_line p.master ≡ 2 = eqb-true (pending_line p.master) 2 e in
@@ -260,11 +260,11 @@ latched_prepared : (p : PicState) (l : PicLine) → Rotating p → Prepared p (l
 unfolding latched
 latched_prepared p l h = go (place_of l)
   where
-    go : (a : PicPlace) → Prepared p (settled (latched_at p a))
-    go (Master k) = settled_prepared p _ _ h (raise_becomes p.master k) (becomes_same p.slave) (raise_keeps p.master k) (λ n z. z)
-    go (Slave k) =
+    go : (a : Option PicPlace) → Prepared p (settled (latched_at p a))
+    go (Some (Master k)) = settled_prepared p _ _ h (raise_becomes p.master k) (becomes_same p.slave) (raise_keeps p.master k) (λ n z. z)
+    go (Some (Slave k)) =
         settled_prepared p _ _ h (raise_becomes p.master cascade_irq) (raise_becomes p.slave k) (raise_keeps p.master cascade_irq) (raise_keeps p.slave k)
-    go Nowhere = settled_prepared p p.master p.slave h (becomes_same p.master) (becomes_same p.slave) (λ n z. z) (λ n z. z)
+    go None = settled_prepared p p.master p.slave h (becomes_same p.master) (becomes_same p.slave) (λ n z. z) (λ n z. z)
 
 -- the pair that the claim is made of
 before_claim : PicState → Round → PicState

@@ -1,4 +1,5 @@
 -- Every call keeps the cascade rule, and by it no slave request that counts goes unheard. Assumes nothing.
+use Rattle.std.proofs.Common.{Option, Some, None}
 use mathlib.Core.Path.{◌≡◌, refl, sym, ap, subst, ◌∙◌}
 use mathlib.Core.Bool.{Bool, true, false, cond, not, ◌&&◌, true≢false}
 use mathlib.Core.List.{List, [], ◌∷◌}
@@ -13,7 +14,7 @@ use Rattle.vpic_priority.proofs.Ring.{rank_out, rank_lt, rank_low, first_rank_le
 use Rattle.vpic_chip.proofs.Laws.{counted_above}
 use Rattle.types.specs.declared.PicLine.{PicLine}
 use Rattle.types.specs.declared.PicPlace.{PicPlace}
-use Rattle.types.specs.declared.PicPlace.TheVariants.{Master, Slave, Nowhere}
+use Rattle.types.specs.declared.PicPlace.TheVariants.{Master, Slave}
 use Rattle.types.specs.declared.Reply.TheVariants as reply
 use Rattle.types.specs.declared.Refusal.{Refusal}
 use Rattle.types.specs.declared.Refusal.TheVariants.{Unsupported, OutOfRange}
@@ -75,10 +76,10 @@ claim_keeps : (p : PicState) → Keeps (claim_pending p).state
 unfolding claim_pending master_claim slave_claim
 claim_keeps p = go (pending_place p)
   where
-    go : (a : PicPlace) → Keeps (claim_at p a).state
-    go (Master k) = settled_keeps (chips p (acknowledged p.master k.0) p.slave)
-    go (Slave k) = settled_keeps (chips p (acknowledged p.master 2) (acknowledged p.slave k.0))
-    go Nowhere = settled_keeps p
+    go : (a : Option PicPlace) → Keeps (claim_at p a).state
+    go (Some (Master k)) = settled_keeps (chips p (acknowledged p.master k.0) p.slave)
+    go (Some (Slave k)) = settled_keeps (chips p (acknowledged p.master 2) (acknowledged p.slave k.0))
+    go None = settled_keeps p
 
 raise_keeps : (p : PicState) (l : PicLine) → Keeps p → Keeps (claim_irq p l).state
 unfolding claim_irq
@@ -181,7 +182,7 @@ reads_unchanged p port width e = go (eqb width 1)
 pub line_two_latches_nothing : LineTwoLatchesNothing
 unfolding latched pulsed
 line_two_latches_nothing p e keeps =
-    settled_cascade (latched_at p (Master cascade_irq)) e
+    settled_cascade (latched_at p (Some (Master cascade_irq))) e
     ∙ ap (λ (m : Chip). chips p m p.slave) (driven_with p.master 2 (asks p.slave))
     ∙ sym (settled_cascade p e)
     ∙ settled_kept p keeps

@@ -5,6 +5,7 @@ use Prim.Native.Nat.{ℕ, ◌+◌}
 use native.Mathlib.Omega.{arith}
 use lib.Dec.{ltb}
 use borrow.Author.Tests.{lt-ltb}
+use Rattle.std.proofs.Common.{Some}
 use Rattle.utils.specs.Set.{bit, with, without, outside}
 use Rattle.utils.proofs.Bools.{both}
 use Rattle.utils.proofs.Laws.{with_without, without_with, with_member}
@@ -13,12 +14,10 @@ use Rattle.types.specs.declared.Reply.TheVariants as reply
 use Rattle.types.specs.Counters.{line_vector}
 use Rattle.vpic_priority.specs.Ring.{above, first_rank, first_by}
 use Rattle.vpic_chip.specs.Registers.{Chip, with_request, with_in_service, with_lowest}
-use Rattle.vpic_chip.specs.declared.PendingIrq.TheVariants.{Nothing}
 use Rattle.vpic_chip.specs.Chip.{Highest, cascade_irq, pulsed, driven, counts, asks, pending_line, pending_irq, acknowledged, unacknowledged}
 use Rattle.vpic_chip.proofs.Laws.{counted_asked}
 use Rattle.vpic.specs.Words.{PicState}
 use Rattle.vpic.specs.declared.PicInterruptClaim.{PicInterruptClaim}
-use Rattle.vpic.specs.declared.PicClaim.TheVariants.{Claimed}
 use Rattle.vpic.specs.Pair.{StateClaim, chips, grew, is_cascade, settled, master_claim, slave_claim, claim_pending, claim_irq, nothing_claimed, latched, restored, restore_interrupt}
 use Rattle.vpic_theorems.proofs.Settled.{settled_between}
 use Rattle.vpic_theorems.proofs.Restore.{grew_sets, place_low, place_high, the_claim, by_claim, below_16}
@@ -58,7 +57,7 @@ settled_slave q = both (λ (x : PicState). x.slave ≡ q.slave) (is_cascade q) _
 abbrev Back : PicState → StateClaim → PicInterruptClaim → Type 0
 Back p r c = restored r.state c ≡ settled (with_priorities p r.state)
 
-master_back : (p : PicState) (k : PicLine) (c : PicInterruptClaim) → Highest p.master k.0 → (master_claim p k).claim ≡ Claimed c → Back p (master_claim p k) c
+master_back : (p : PicState) (k : PicLine) (c : PicInterruptClaim) → Highest p.master k.0 → (master_claim p k).claim ≡ Some c → Back p (master_claim p k) c
 unfolding master_claim restored the_claim
 master_back p k c h e =
     let q = chips p (acknowledged p.master k.0) p.slave in
@@ -68,7 +67,7 @@ master_back p k c h e =
     ∙ ap₂ (λ (m s : Chip). settled (chips p m s)) (chip_back p.master k h ∙ ap (with_lowest p.master) (sym (settled_master q)))
     (ap (λ (s : Chip). with_lowest p.slave s.lowest_line) (sym (settled_slave q))))
 
-slave_back_lem : (p : PicState) (k : PicLine) (c : PicInterruptClaim) → Highest p.master cascade_irq.0 → Highest p.slave k.0 → (slave_claim p k).claim ≡ Claimed c → Back p (slave_claim p k) c
+slave_back_lem : (p : PicState) (k : PicLine) (c : PicInterruptClaim) → Highest p.master cascade_irq.0 → Highest p.slave k.0 → (slave_claim p k).claim ≡ Some c → Back p (slave_claim p k) c
 unfolding slave_claim restored the_claim
 slave_back_lem p k c m h e =
     let q = chips p (acknowledged p.master cascade_irq.0) (acknowledged p.slave k.0) in
@@ -86,7 +85,7 @@ pub restored_after_raise_but_priorities : RestoredAfterRaiseButPriorities
 unfolding claim_irq
 restored_after_raise_but_priorities p l c e = go (ltb l.0 16) e
   where
-    go : (b : Bool) → (cond b (claim_pending (latched p l)) (nothing_claimed p)).claim ≡ Claimed c
+    go : (b : Bool) → (cond b (claim_pending (latched p l)) (nothing_claimed p)).claim ≡ Some c
         → restore_interrupt (cond b (claim_pending (latched p l)) (nothing_claimed p)).state c
         ≡ record { state = settled (with_priorities (latched p l) (cond b (claim_pending (latched p l)) (nothing_claimed p)).state); reply = reply.Nothing }
     go true f = restored_but_priorities (latched p l) c f

@@ -1,11 +1,10 @@
 -- Theorems about the full profile's modes (8259A: poll command; special mask mode; special fully nested mode; OCW3, ICW4): what a poll answers, on one chip and beside the pair's
 -- claims, what begins one and what ends it; what each mode lets by, and what it leaves blocked; that a claim restored at once stays exact though line 2 was in service before. Computed examples.
-use Rattle.std.specs.Prelude.{ℕ, ◌+◌, ◌-◌, ◌%◌, ◌<◌, ◌≤◌, ◌≡◌, Bool, true, false, not, ◌&&◌, ◌||◌, [], ◌∷◌, eqb}
+use Rattle.std.specs.Prelude.{ℕ, ◌+◌, ◌-◌, ◌%◌, ◌<◌, ◌≤◌, ◌≡◌, Bool, true, false, not, ◌&&◌, ◌||◌, [], ◌∷◌, eqb, Some, None}
 use Rattle.utils.specs.Set.{bit, without}
 use Rattle.vpic_chip.specs.Registers.{Chip, with_in_service, with_poll, with_nested, with_special_mask, placed}
 use Rattle.vpic_chip.specs.Chip.{cascade_irq, lowest_by, is_above, is_special, is_nested, blocks_line, non_specific_eoi, commanded, counts, pending_line, Highest, acknowledged, is_polled, poll_shown, polled}
 use Rattle.vpic.specs.declared.PicInterruptClaim.{PicInterruptClaim}
-use Rattle.vpic.specs.declared.PicClaim.TheVariants.{Claimed, Nothing as NoClaim}
 use Rattle.vpic.specs.Words.{PicState}
 use Rattle.vpic.specs.Pair.{chips, settled, claim_pending, restore_interrupt, handle_read, port_written}
 use Rattle.vpic.specs.Departures.{pair}
@@ -31,10 +30,10 @@ PollZero = (c : Chip) → poll_shown c ≡ 0 → (k : ℕ) → counts c k ≡ fa
 
 -- beside the pair's claims, on any pair. A poll of the master shows 0 exactly if a claim finds nothing
 abbrev pub MasterSilent : Type 0
-MasterSilent = (p : PicState) → (claim_pending p).claim ≡ NoClaim → poll_shown p.master ≡ 0
+MasterSilent = (p : PicState) → (claim_pending p).claim ≡ None → poll_shown p.master ≡ 0
 
 abbrev pub NothingToClaim : Type 0
-NothingToClaim = (p : PicState) → poll_shown p.master ≡ 0 → (claim_pending p).claim ≡ NoClaim
+NothingToClaim = (p : PicState) → poll_shown p.master ≡ 0 → (claim_pending p).claim ≡ None
 
 -- the pair with no poll waiting on the master
 abbrev pub unpolled : PicState → PicState
@@ -49,14 +48,14 @@ pub record PollsBeside (p q : PicState) (k : ℕ) : Type 0 where
   pub slave : 8 ≤ k → poll_shown p.slave ≡ 0x80 + (k - 8)
 
 abbrev pub PollsAsClaims : Type 0
-PollsAsClaims = (p : PicState) (c : PicInterruptClaim) → (claim_pending p).claim ≡ Claimed c → PollsBeside p (claim_pending p).state c.irq.0
+PollsAsClaims = (p : PicState) (c : PicInterruptClaim) → (claim_pending p).claim ≡ Some c → PollsBeside p (claim_pending p).state c.irq.0
 
 -- but a poll of the slave doesn't show what the pair's claim takes: the master's lines are masked, and the slave's line 0 asks
 abbrev pub masked : PicState
 masked = pair 2 (placed true (full_at 4 255 0 false)) (full_at 1 0 0 false)
 
 abbrev pub SlavePollsAlone : Type 0
-SlavePollsAlone = (poll_shown masked.slave ≡ 0x80) × ((claim_pending masked).claim ≡ NoClaim)
+SlavePollsAlone = (poll_shown masked.slave ≡ 0x80) × ((claim_pending masked).claim ≡ None)
 
 -- ---- what begins a poll, and what ends it
 
@@ -183,7 +182,7 @@ abbrev pub second_slave : Bool → PicInterruptClaim
 second_slave m = record { vector = record { 0 = 0 }; irq = record { 0 = 8 }; master_in_service = m; slave_in_service = true }
 
 pub record FlagsKept : Type 0 where
-  pub claim : (claim_pending nested_pair).claim ≡ Claimed (second_slave false)
+  pub claim : (claim_pending nested_pair).claim ≡ Some (second_slave false)
   pub restored : (restore_interrupt (claim_pending nested_pair).state (second_slave false)).state ≡ nested_pair
   -- with the flags of before, which said that automatic EOI mode was off, the restore took line 2 out of service, though line 1's handler still runs
   pub before : (restore_interrupt (claim_pending nested_pair).state (second_slave true)).state.master.in_service ≡ 0

@@ -1,9 +1,9 @@
 -- The chips of a pair (8259A, cascade mode): what any call does to each is a list of one chip's events, so that rotation is fair there too, on the premises of one chip, with nested
 -- handlers, a slave that comes and goes, and polls.
-use Rattle.std.specs.Prelude.{ℕ, suc, ◌-◌, ◌%◌, ◌<◌, ◌≡◌, Bool, true, false, cond, List, [], ◌∷◌, ◌++◌, ltb, eqb, length}
+use Rattle.std.specs.Prelude.{ℕ, suc, ◌-◌, ◌%◌, ◌<◌, ◌≡◌, Bool, true, false, cond, List, [], ◌∷◌, ◌++◌, ltb, eqb, length, Option, Some, None}
 use Rattle.types.specs.declared.PicLine.{PicLine}
 use Rattle.types.specs.declared.PicPlace.{PicPlace}
-use Rattle.types.specs.declared.PicPlace.TheVariants.{Master, Slave, Nowhere}
+use Rattle.types.specs.declared.PicPlace.TheVariants.{Master, Slave}
 use Rattle.types.specs.Counters.{place_of}
 use Rattle.vpic_priority.specs.Ring.{rank}
 use Rattle.vpic_chip.specs.Registers.{Chip, placed}
@@ -21,10 +21,10 @@ abbrev pub drive_from : PicState → Event
 drive_from q = drive cascade_irq (asks q.slave)
 
 -- an edge on a line of the pair; one on the slave's comes in at line 2
-abbrev pub edges_at : PicPlace → List Event
-edges_at (Master k) = raise k ∷ []
-edges_at (Slave k) = raise cascade_irq ∷ []
-edges_at Nowhere = []
+abbrev pub edges_at : Option PicPlace → List Event
+edges_at (Some (Master k)) = raise k ∷ []
+edges_at (Some (Slave k)) = raise cascade_irq ∷ []
+edges_at None = []
 
 abbrev pub latch_events : PicState → PicLine → List Event
 latch_events p l = edges_at (place_of l) ++ drive_from (latched p l) ∷ []
@@ -35,10 +35,10 @@ claim_events p = acknowledge ∷ drive_from (claim_pending p).state ∷ []
 abbrev pub irq_events : PicState → PicLine → List Event
 irq_events p l = cond (ltb l.0 16) (latch_events p l ++ claim_events (latched p l)) []
 
-abbrev pub back_at : PicPlace → Bool → List Event
-back_at (Master k) f = take_back k f ∷ []
-back_at (Slave k) f = take_back cascade_irq f ∷ []
-back_at Nowhere f = []
+abbrev pub back_at : Option PicPlace → Bool → List Event
+back_at (Some (Master k)) f = take_back k f ∷ []
+back_at (Some (Slave k)) f = take_back cascade_irq f ∷ []
+back_at None f = []
 
 -- a read of the slave where a poll waits there may take its request away
 abbrev pub read_events : PicState → Port → List Event
@@ -117,21 +117,21 @@ FairOnMaster =
 
 -- ---- the same of the slave, by every rule
 
-abbrev pub slave_edges : PicPlace → List Event
-slave_edges (Master k) = []
-slave_edges (Slave k) = raise k ∷ []
-slave_edges Nowhere = []
+abbrev pub slave_edges : Option PicPlace → List Event
+slave_edges (Some (Master k)) = []
+slave_edges (Some (Slave k)) = raise k ∷ []
+slave_edges None = []
 
 -- a claim acknowledges there where it comes through line 2
-abbrev pub slave_claims : PicPlace → List Event
-slave_claims (Master k) = []
-slave_claims (Slave k) = acknowledge ∷ []
-slave_claims Nowhere = []
+abbrev pub slave_claims : Option PicPlace → List Event
+slave_claims (Some (Master k)) = []
+slave_claims (Some (Slave k)) = acknowledge ∷ []
+slave_claims None = []
 
-abbrev pub slave_back : PicPlace → Bool → List Event
-slave_back (Master k) f = []
-slave_back (Slave k) f = take_back k f ∷ []
-slave_back Nowhere f = []
+abbrev pub slave_back : Option PicPlace → Bool → List Event
+slave_back (Some (Master k)) f = []
+slave_back (Some (Slave k)) f = take_back k f ∷ []
+slave_back None f = []
 
 abbrev pub slave_reads : PicState → Port → List Event
 slave_reads p master_command = []

@@ -1,7 +1,7 @@
 -- Theorems about rotating priority (8259A, OCW2: automatic rotation, for devices of equal priority; specific rotation) and the full profile, rule 2: each line that asks is
 -- served in its turn, on one chip and on the pair; the cascade rule is kept; what a restored claim leaves; that rule 2 answers as rule 1 where line 7 is lowest and no mode is on; and
 -- where the profile does other than the data sheet.
-use Rattle.std.specs.Prelude.{ℕ, zero, suc, ◌+◌, ◌*◌, ◌%◌, ◌<◌, ◌≤◌, ◌≡◌, Bool, true, false, not, cond, ◌&&◌, ◌||◌, List, [], ◌∷◌, ◌++◌, ltb, eqb, length}
+use Rattle.std.specs.Prelude.{ℕ, zero, suc, ◌+◌, ◌*◌, ◌%◌, ◌<◌, ◌≤◌, ◌≡◌, Bool, true, false, not, cond, ◌&&◌, ◌||◌, List, [], ◌∷◌, ◌++◌, ltb, eqb, length, Option, Some, None}
 use Rattle.utils.specs.Set.{bit, without}
 use Rattle.types.specs.declared.PicLine.{PicLine}
 use Rattle.types.specs.declared.Reply.TheVariants as reply
@@ -12,8 +12,6 @@ use Rattle.vpic_chip.specs.Registers.{Chip, registers, plain_registers, with_req
 use Rattle.vpic_chip.specs.Chip.{cascade_irq, lowest_by, is_special, is_nested, is_polled, opened, commanded, fed, command_read, pulsed, driven, pending_line, asks, pending_irq, pending_reply, acknowledged, acknowledge as chipAcknowledge, unacknowledged, poll_shown, polled}
 use Rattle.vpic.specs.declared.PicRule.TheVariants.{Cascade, Full}
 use Rattle.vpic.specs.declared.PicInterruptClaim.{PicInterruptClaim}
-use Rattle.vpic.specs.declared.PicClaim.{PicClaim}
-use Rattle.vpic.specs.declared.PicClaim.TheVariants.{Claimed, Nothing as NoClaim}
 use Rattle.vpic.specs.Words.{PicState}
 use Rattle.vpic.specs.Pair.{Port, master_command, master_data, slave_command, slave_data, no_port, port_at, handle_read, chips, is_cascade, Keeps, new_state, settled, latched, claim_irq, claim_pending, port_written, restore_interrupt, claim_reply}
 use Rattle.vpic.specs.Departures.{at, line, pair, open', writes, claimed_vector, seventh}
@@ -212,18 +210,18 @@ are_known [] = true
 are_known (r ∷ rs) = known_in r && are_known rs
 
 -- the lines claimed, in order
-abbrev pub claim_line : PicClaim → List ℕ
-claim_line (Claimed c) = c.irq.0 ∷ []
-claim_line NoClaim = []
+abbrev pub claim_line : Option PicInterruptClaim → List ℕ
+claim_line (Some c) = c.irq.0 ∷ []
+claim_line None = []
 
-abbrev pub claimed_by : PicState → Call → PicClaim
+abbrev pub claimed_by : PicState → Call → Option PicInterruptClaim
 claimed_by p (call_claim_irq l) = (claim_irq p l).claim
 claimed_by p claim_pending_interrupt = (claim_pending p).claim
 claimed_by p (pulse_irq l) = (claim_irq p l).claim
 claimed_by p next_interrupt = (claim_pending p).claim
-claimed_by p (call_restore_interrupt c) = NoClaim
-claimed_by p (call_handle_read port width) = NoClaim
-claimed_by p (call_handle_write port width value) = NoClaim
+claimed_by p (call_restore_interrupt c) = None
+claimed_by p (call_handle_read port width) = None
+claimed_by p (call_handle_write port width value) = None
 
 abbrev pub claims : PicState → List Call → List ℕ
 claims p [] = []
@@ -370,13 +368,13 @@ with_priorities p q = chips p (with_lowest p.master q.master.lowest_line) (with_
 -- priorities ask for it. Of any pair, of every rule
 abbrev pub RestoredButPriorities : Type 0
 RestoredButPriorities =
-    (p : PicState) (c : PicInterruptClaim) → (claim_pending p).claim ≡ Claimed c
+    (p : PicState) (c : PicInterruptClaim) → (claim_pending p).claim ≡ Some c
     → restore_interrupt (claim_pending p).state c ≡ record { state = settled (with_priorities p (claim_pending p).state); reply = reply.Nothing }
 
 -- the same after a line was raised
 abbrev pub RestoredAfterRaiseButPriorities : Type 0
 RestoredAfterRaiseButPriorities =
-    (p : PicState) (l : PicLine) (c : PicInterruptClaim) → (claim_irq p l).claim ≡ Claimed c
+    (p : PicState) (l : PicLine) (c : PicInterruptClaim) → (claim_irq p l).claim ≡ Some c
     → restore_interrupt (claim_irq p l).state c ≡ record { state = settled (with_priorities (latched p l) (claim_irq p l).state); reply = reply.Nothing }
 
 -- and that request may go: the slave, in automatic EOI mode with rotation, has line 1 in service, and line 0 is claimed and restored: now line 0 is lowest, below line 1
@@ -390,7 +388,7 @@ abbrev pub line_eight : PicInterruptClaim
 line_eight = record { vector = record { 0 = 0 }; irq = record { 0 = 8 }; master_in_service = true; slave_in_service = false }
 
 pub record RequestTwoLost : Type 0 where
-  pub claim : (claim_pending turning).claim ≡ Claimed line_eight
+  pub claim : (claim_pending turning).claim ≡ Some line_eight
   pub before : turning.master.request ≡ 4
   pub after : (restore_interrupt (claim_pending turning).state line_eight).state.master.request ≡ 0
   pub slave : (restore_interrupt (claim_pending turning).state line_eight).state.slave ≡ with_lowest slave_turns 0

@@ -1,6 +1,6 @@
 -- Theorems about the cascade rule (8259A, cascade mode: a slave's INT output drives its line of the master): every call keeps it, and no slave request that counts
 -- goes unheard.
-use Rattle.std.specs.Prelude.{ℕ, ◌≡◌, Bool, true, false, List, [], ◌∷◌, ltb}
+use Rattle.std.specs.Prelude.{ℕ, ◌≡◌, Bool, true, false, List, [], ◌∷◌, ltb, Some}
 use Rattle.utils.specs.Set.{bit}
 use Rattle.types.specs.declared.PicLine.{PicLine}
 use Rattle.types.specs.Reply.{reply_number}
@@ -9,7 +9,6 @@ use Rattle.vpic.specs.Words.{PicState}
 use Rattle.vpic.specs.declared.PicRule.{PicRule}
 use Rattle.vpic.specs.declared.PicRule.TheVariants.{Cascade}
 use Rattle.vpic.specs.declared.PicInterruptClaim.{PicInterruptClaim}
-use Rattle.vpic.specs.declared.PicClaim.TheVariants.{Claimed}
 use Rattle.vpic_chip.specs.Chip.{is_above, blocks_line, is_polled, asks, counts, pending_line, Highest, cascade_irq}
 use Rattle.vpic.specs.Pair.{Port, master_command, master_data, slave_command, slave_data, no_port, port_at, rule_in, new_state, is_cascade, Keeps, slave_claim, claim_pending, latched, restored, port_written, restore_interrupt, handle_read}
 use Rattle.vpic.specs.Departures.{at, line}
@@ -121,6 +120,6 @@ line_two = record { vector = record { 0 = 2 }; irq = line 2; master_in_service =
 
 abbrev pub UnkeptNotRestored : Type 0
 UnkeptNotRestored =
-    ((claim_pending unkept).claim ≡ Claimed line_two)
+    ((claim_pending unkept).claim ≡ Some line_two)
     × ((restore_interrupt (claim_pending unkept).state line_two).state.master.request ≡ 0)
     × (unkept.master.request ≡ 4)

@@ -1,5 +1,5 @@
 -- Theorems about the pair that belong to no one call: a refusal changes nothing, a claim can be taken back, and the highest request is served; what a claim's flags say.
-use Rattle.std.specs.Prelude.{ℕ, ◌-◌, ◌/◌, ◌^◌, ◌<◌, ◌≤◌, ◌≡◌, Bool, true, false, not, cond, ◌&&◌, eqb, List, get_or, length}
+use Rattle.std.specs.Prelude.{ℕ, ◌-◌, ◌/◌, ◌^◌, ◌<◌, ◌≤◌, ◌≡◌, Bool, true, false, not, cond, ◌&&◌, eqb, List, get_or, length, Some, None}
 use Rattle.types.specs.declared.PicLine.{PicLine}
 use Rattle.types.specs.declared.Reply.TheVariants as reply
 use Rattle.types.specs.Reply.{Outcome, reply_number}
@@ -7,7 +7,6 @@ use Rattle.vpic_chip.specs.Registers.{Chip}
 use Rattle.vpic.specs.Words.{PicState, is_full, view}
 use Rattle.vpic.specs.declared.PicRule.TheVariants.{Latch}
 use Rattle.vpic.specs.declared.PicInterruptClaim.{PicInterruptClaim}
-use Rattle.vpic.specs.declared.PicClaim.TheVariants.{Claimed, Nothing as NoClaim}
 use Rattle.utils.specs.Set.{bit}
 use Rattle.vpic_chip.specs.Chip.{is_nested, counts, Highest, cascade_irq, acknowledged}
 use Rattle.vpic.specs.Pair.{chips, settled, Keeps, claim_pending, claim_irq, latched, restore_interrupt, with_claim, with_vector, handle_read, handle_write}
@@ -76,23 +75,23 @@ PlainSteady = (p : PicState) → BothPlain p → BothSteady p
 -- a claim that is restored at once gives the pair back as it was, if the pair kept its rule and the claim turned no priorities
 abbrev pub RestoredAtOnce : Type 0
 RestoredAtOnce =
-    (p : PicState) (c : PicInterruptClaim) → Keeps p → BothSteady p → (claim_pending p).claim ≡ Claimed c
+    (p : PicState) (c : PicInterruptClaim) → Keeps p → BothSteady p → (claim_pending p).claim ≡ Some c
     → restore_interrupt (claim_pending p).state c ≡ record { state = p; reply = reply.Nothing }
 
 -- the same after a line was raised: the pair as it was, with that line latched; a pair with a line latched keeps its rule, whatever it was
 abbrev pub RestoredAfterRaise : Type 0
 RestoredAfterRaise =
-    (p : PicState) (l : PicLine) (c : PicInterruptClaim) → BothSteady p → (claim_irq p l).claim ≡ Claimed c
+    (p : PicState) (l : PicLine) (c : PicInterruptClaim) → BothSteady p → (claim_irq p l).claim ≡ Some c
     → restore_interrupt (claim_irq p l).state c ≡ record { state = latched p l; reply = reply.Nothing }
 
 -- so by rules 0 and 1 nothing is asked of the modes: a plain pair that kept its rule is as it was, and after a line was raised any plain pair is, with that line latched
 abbrev pub PlainRestoredAtOnce : Type 0
 PlainRestoredAtOnce =
-    (p : PicState) (c : PicInterruptClaim) → BothPlain p → Keeps p → (claim_pending p).claim ≡ Claimed c → restore_interrupt (claim_pending p).state c ≡ record { state = p; reply = reply.Nothing }
+    (p : PicState) (c : PicInterruptClaim) → BothPlain p → Keeps p → (claim_pending p).claim ≡ Some c → restore_interrupt (claim_pending p).state c ≡ record { state = p; reply = reply.Nothing }
 
 abbrev pub PlainRestoredAfterRaise : Type 0
 PlainRestoredAfterRaise =
-    (p : PicState) (l : PicLine) (c : PicInterruptClaim) → BothPlain p → (claim_irq p l).claim ≡ Claimed c → restore_interrupt (claim_irq p l).state c ≡ record { state = latched p l; reply = reply.Nothing }
+    (p : PicState) (l : PicLine) (c : PicInterruptClaim) → BothPlain p → (claim_irq p l).claim ≡ Some c → restore_interrupt (claim_irq p l).state c ≡ record { state = latched p l; reply = reply.Nothing }
 
 -- the highest of the chip's requests that count was acknowledged, line k
 pub record Served (before after : Chip) (k : ℕ) : Type 0 where
@@ -110,11 +109,11 @@ pub record ServedBy (p q : PicState) (k : ℕ) : Type 0 where
   pub slave : 8 ≤ k → Served p.slave s (k - 8)
 
 abbrev pub HighestServed : Type 0
-HighestServed = (p : PicState) (c : PicInterruptClaim) → (claim_pending p).claim ≡ Claimed c → ServedBy p (claim_pending p).state c.irq.0
+HighestServed = (p : PicState) (c : PicInterruptClaim) → (claim_pending p).claim ≡ Some c → ServedBy p (claim_pending p).state c.irq.0
 
 -- over the pair the like is false by rule 0 (D-13): at the end of example 7 nothing is in service, the slave's line 6 is requested and counts, and nothing is claimed
 abbrev pub SecondCallerUnheard : Type 0
-SecondCallerUnheard = (counts (seventh Latch).slave 6 ≡ true) × ((claim_pending (seventh Latch)).claim ≡ NoClaim) × ((seventh Latch).master.in_service ≡ 0)
+SecondCallerUnheard = (counts (seventh Latch).slave 6 ≡ true) × ((claim_pending (seventh Latch)).claim ≡ None) × ((seventh Latch).master.in_service ≡ 0)
 
 -- a claim's flags name the in-service bits that it set: the line of each chip that answered for it, where that wasn't in service already, nor the chip in automatic EOI mode;
 -- the slave answers from line 8 up alone, through the master's line 2
@@ -129,10 +128,10 @@ pub record Flagged (p : PicState) (c : PicInterruptClaim) : Type 0 where
 
 -- of any pair, of every rule: where what waits is claimed, and where a line is raised
 abbrev pub FlagsSay : Type 0
-FlagsSay = (p : PicState) (c : PicInterruptClaim) → (claim_pending p).claim ≡ Claimed c → Flagged p c
+FlagsSay = (p : PicState) (c : PicInterruptClaim) → (claim_pending p).claim ≡ Some c → Flagged p c
 
 abbrev pub FlagsSayAfterRaise : Type 0
-FlagsSayAfterRaise = (p : PicState) (l : PicLine) (c : PicInterruptClaim) → (claim_irq p l).claim ≡ Claimed c → Flagged p c
+FlagsSayAfterRaise = (p : PicState) (l : PicLine) (c : PicInterruptClaim) → (claim_irq p l).claim ≡ Some c → Flagged p c
 
 -- only in special fully nested mode can a line be claimed that is in service, and that is the master's line 2: outside it the flags say no more than the modes, as before T-06
 pub record FlaggedByMode (p : PicState) (c : PicInterruptClaim) : Type 0 where
@@ -140,4 +139,4 @@ pub record FlaggedByMode (p : PicState) (c : PicInterruptClaim) : Type 0 where
   pub slave : is_nested p.slave ≡ false → 8 ≤ c.irq.0 → c.slave_in_service ≡ not p.slave.auto_eoi
 
 abbrev pub FlagsByMode : Type 0
-FlagsByMode = (p : PicState) (c : PicInterruptClaim) → (claim_pending p).claim ≡ Claimed c → FlaggedByMode p c
+FlagsByMode = (p : PicState) (c : PicInterruptClaim) → (claim_pending p).claim ≡ Some c → FlaggedByMode p c

@@ -3,11 +3,11 @@ use Rattle.vpic.proofs.Full.{full_claim_master, full_claim_slave, full_claim_non
 use borrow.Author.Rules.{rules}
 use Rattle.vpic.proofs.full_claim_pending.Goals as goal
 
-pub returns-in-Master : goal.returns-in-Master
-returns-in-Master c = (search full_claim_master, search rules)
+pub returns-in-Some-Master : goal.returns-in-Some-Master
+returns-in-Some-Master c = (search full_claim_master, search rules)
 
-pub returns-in-Slave : goal.returns-in-Slave
-returns-in-Slave c = (search full_claim_slave, search rules)
+pub returns-in-Some-Slave : goal.returns-in-Some-Slave
+returns-in-Some-Slave c = (search full_claim_slave, search rules)
 
-pub returns-in-Nowhere : goal.returns-in-Nowhere
-returns-in-Nowhere c = (search full_claim_none, refl)
+pub returns-in-None : goal.returns-in-None
+returns-in-None c = (search full_claim_none, refl)
