@@ -2,11 +2,11 @@
 use mathlib.Core.Path.{◌≡◌, refl, sym, ap, ◌∙◌}
 use mathlib.Core.Bool.{Bool, true, false, not, cond}
 use mathlib.Core.List.{List}
-use Prim.Native.Nat.{ℕ, ◌/◌, ◌%◌, ◌^◌, ◌<◌}
+use Prim.Native.Nat.{ℕ, ◌/◌, ◌%◌, ◌^◌}
 use lib.Dec.{ltb}
 use lib.ListN.{set}
 use borrow.Author.Tests.{not-true, not-false}
-use Rattle.std.proofs.Common.{Option, Result}
+use Rattle.std.proofs.Common.{Option, Some, Result}
 use Rattle.types.specs.declared.Refusal.{Refusal}
 use Rattle.types.specs.declared.Vector.{Vector}
 use Rattle.types.specs.declared.PicLine.{PicLine}
@@ -74,8 +74,9 @@ module _ (port width : ℕ) (w : width ≡ 1) where
   pub byte_code : (x : Coded) (p : PicState) → x ≡ coded (handle_read p port 1) → x ≡ coded (handle_read p port width)
   byte_code x p e = e ∙ ap (λ (n : ℕ). coded (handle_read p port n)) (sym w)
 
-  pub shown_code : (l : List ℕ) (n k : ℕ) → n ≡ plain_shown (view l) port → n < 0x100 → k ≡ reply_code (One n) → shown (view l) k ≡ coded (handle_read (view l) port width)
-  shown_code l n k e h ek = byte_code (shown (view l) k) (view l) (ap (shown (view l)) ek ∙ ap coded (shown_read l port n e h))
+  pub shown_code : (l : List ℕ) (n m k : ℕ) (o : Option ℕ) → o ≡ plain_shown (view l) port → o ≡ Some n → m ≡ n → k ≡ reply_code (One m)
+      → shown (view l) k ≡ coded (handle_read (view l) port width)
+  shown_code l n m k o e h em ek = byte_code (shown (view l) k) (view l) (ap (shown (view l)) (ek ∙ ap (λ (x : ℕ). reply_code (One x)) em) ∙ ap coded (shown_read l port n o e h))
 
 -- a new pair
 pub made_code : (q : PicState) (n : ℕ) (rule : PicRule) → q ≡ new_state rule → n ≡ reply_code Nothing → shown q n ≡ coded (made rule)

@@ -12,7 +12,7 @@ ghost use Rattle.reply_code.specs.Lent.{lent};
 ghost use Rattle.vpic_c.specs.Calls.{shown, coded, made, new_rule, line, line_of, range_words, is_claim, claimed_line, claim_of, restore_code};
 
 use reply_code::code;
-use types::{PicLine, Refusal, Reply, Vector};
+use types::{PicLine, Reply, ToReply, Vector};
 use vpic::{PicInterruptClaim, PicRule};
 
 // A line: any number from 16 up is one that the pair hasn't.
@@ -62,18 +62,20 @@ fn claim_of(claim: u64) -> PicInterruptClaim
 pub extern "C" fn sillwander_pic_new_rule(words: &mut [u64; 4], rule: u64) -> u64
     ensures { shown (view words.new) result ≡ coded (new_rule (view words.old) rule) }
 {
-    if !PicRule::is_number(rule) {
-        return code(Reply::Refused(Refusal::Unsupported));
+    match PicRule::try_from(rule) {
+        Ok(rule) => {
+            vpic::new_rule(words, rule);
+            code(Reply::Nothing)
+        }
+        Err(why) => code(Reply::Refused(why)),
     }
-    vpic::new_rule(&mut *words, PicRule::from_number(rule));
-    code(Reply::Nothing)
 }
 
 #[unsafe(no_mangle)]
 pub extern "C" fn sillwander_pic_new(words: &mut [u64; 4]) -> u64
     ensures { shown (view words.new) result ≡ coded (made Cascade) }
 {
-    vpic::new(&mut *words);
+    vpic::new(words);
     code(Reply::Nothing)
 }
 
@@ -82,10 +84,10 @@ pub extern "C" fn sillwander_pic_port_ranges(ranges: &mut [u64; 4]) -> u64
     ensures { lent ranges.new result ≡ range_words ranges.old }
 {
     let ports = vpic::port_ranges();
-    ranges[0] = ports.master.start as u64;
-    ranges[1] = ports.master.end as u64;
-    ranges[2] = ports.slave.start as u64;
-    ranges[3] = ports.slave.end as u64;
+    ranges[0] = u64::from(ports.master.start);
+    ranges[1] = u64::from(ports.master.end);
+    ranges[2] = u64::from(ports.slave.start);
+    ranges[3] = u64::from(ports.slave.end);
     code(Reply::Nothing)
 }
 
@@ -93,28 +95,28 @@ pub extern "C" fn sillwander_pic_port_ranges(ranges: &mut [u64; 4]) -> u64
 pub extern "C" fn sillwander_pic_claim_irq(words: &mut [u64; 4], irq: u64) -> u64
     ensures { shown (view words.new) result ≡ coded (with_claim (claim_irq (view words.old) (record { 0 = irq }))) }
 {
-    vpic::claim_irq_number(&mut *words, line(irq))
+    vpic::claim_irq_number(words, line(irq))
 }
 
 #[unsafe(no_mangle)]
 pub extern "C" fn sillwander_pic_claim_pending_interrupt(words: &mut [u64; 4]) -> u64
     ensures { shown (view words.new) result ≡ coded (with_claim (claim_pending (view words.old))) }
 {
-    vpic::claim_pending_number(&mut *words)
+    vpic::claim_pending_number(words)
 }
 
 #[unsafe(no_mangle)]
 pub extern "C" fn sillwander_pic_pulse_irq(words: &mut [u64; 4], irq: u64) -> u64
     ensures { shown (view words.new) result ≡ coded (with_vector (claim_irq (view words.old) (record { 0 = irq }))) }
 {
-    code(vpic::pulse_irq(&mut *words, line(irq)).reply())
+    code(vpic::pulse_irq(words, line(irq)).reply())
 }
 
 #[unsafe(no_mangle)]
 pub extern "C" fn sillwander_pic_next_interrupt(words: &mut [u64; 4]) -> u64
     ensures { shown (view words.new) result ≡ coded (with_vector (claim_pending (view words.old))) }
 {
-    code(vpic::next_interrupt(&mut *words).reply())
+    code(vpic::next_interrupt(words).reply())
 }
 
 // The claim is the code that a claim answered.
@@ -122,14 +124,14 @@ pub extern "C" fn sillwander_pic_next_interrupt(words: &mut [u64; 4]) -> u64
 pub extern "C" fn sillwander_pic_restore_interrupt(words: &mut [u64; 4], claim: u64) -> u64
     ensures { shown (view words.new) result ≡ coded (restore_code (view words.old) claim) }
 {
-    code(vpic::restore_interrupt(&mut *words, claim_of(claim)).reply())
+    code(vpic::restore_interrupt(words, claim_of(claim)).reply())
 }
 
 // A read, of any kind.
 fn read(words: &mut [u64; 4], port: u64, width: u64) -> u64
     ensures { shown (view words.new) result ≡ coded (handle_read (view words.old) port width) }
 {
-    code(vpic::handle_read(&mut *words, port, width).reply())
+    code(vpic::handle_read(words, port, width).reply())
 }
 
 // As mostly, and found at once: a byte that a register shows. The rest is a function of its own, called where this one ends and in two places, so that the compiler doesn't take it
@@ -139,13 +141,12 @@ pub extern "C" fn sillwander_pic_handle_read(words: &mut [u64; 4], port: u64, wi
     ensures { shown (view words.new) result ≡ coded (handle_read (view words.old) port width) }
 {
     if width != 1 {
-        return read(&mut *words, port, width);
+        return read(words, port, width);
     }
-    let shown = vpic::plain_read(&*words, port);
-    if shown >= 0x100 {
-        return read(&mut *words, port, 1);
-    }
-    code(Reply::One(shown))
+    let Some(shown) = vpic::plain_read(words, port) else {
+        return read(words, port, 1);
+    };
+    code(Reply::One(u64::from(shown)))
 }
 
 #[unsafe(no_mangle)]
@@ -157,5 +158,5 @@ pub extern "C" fn sillwander_pic_handle_write(
 ) -> u64
     ensures { shown (view words.new) result ≡ coded (handle_write (view words.old) port width value) }
 {
-    code(vpic::handle_write(&mut *words, port, width, value).reply())
+    code(vpic::handle_write(words, port, width, value).reply())
 }

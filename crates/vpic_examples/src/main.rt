@@ -3,8 +3,8 @@
 #![tactic(auto)]
 
 use std::io::{self, Write};
-use types::PicLine;
-use vpic::{EmulatedPic, PicClaim, PicRule};
+use types::{PicLine, ToReply};
+use vpic::{EmulatedPic, PicInterruptClaim, PicRule};
 
 const MASTER_COMMAND: u16 = 0x20;
 
@@ -28,9 +28,7 @@ fn main(rt: HostRuntime) -> io::Result<()> {
 
 // A byte written to a port.
 fn write(pic: EmulatedPic, port: u16, value: u64) -> EmulatedPic {
-    let written = pic.handle_write(port, 1, value);
-    let after = written.pic;
-    after
+    pic.handle_write(port, 1, value).0
 }
 
 fn masks_0(pic: EmulatedPic) -> EmulatedPic {
@@ -42,7 +40,11 @@ fn eoi_both(pic: EmulatedPic) -> EmulatedPic {
     write(write(pic, SLAVE_COMMAND, 0x20), MASTER_COMMAND, 0x20)
 }
 
-fn print_claim<W: Write>(out: &mut W, name: &[u8], claim: PicClaim) -> io::Result<()> {
+fn print_claim<W: Write>(
+    out: &mut W,
+    name: &[u8],
+    claim: Option<PicInterruptClaim>,
+) -> io::Result<()> {
     reply_text::print_text(out, name)?;
     reply_text::print_reply(out, claim.reply())
 }
@@ -53,24 +55,19 @@ fn claim<W: Write>(
     pic: EmulatedPic,
     line: u8,
 ) -> io::Result<EmulatedPic> {
-    let claimed = pic.claim_irq(PicLine(line));
-    let after = claimed.pic;
-    let answer = claimed.claim;
-    print_claim(out, name, answer)?;
+    let (after, claim) = pic.claim_irq(PicLine(line));
+    print_claim(out, name, claim)?;
     Ok(after)
 }
 
 fn claim_pending<W: Write>(out: &mut W, name: &[u8], pic: EmulatedPic) -> io::Result<EmulatedPic> {
-    let claimed = pic.claim_pending_interrupt();
-    let after = claimed.pic;
-    let answer = claimed.claim;
-    print_claim(out, name, answer)?;
+    let (after, claim) = pic.claim_pending_interrupt();
+    print_claim(out, name, claim)?;
     Ok(after)
 }
 
 fn read<W: Write>(out: &mut W, name: &[u8], pic: EmulatedPic, port: u16) -> io::Result<()> {
-    let seen = pic.handle_read(port, 1);
-    let value = seen.value;
+    let (_, value) = pic.handle_read(port, 1);
     reply_text::print_text(out, name)?;
     reply_text::print_reply(out, value.reply())
 }
@@ -86,16 +83,12 @@ fn example_7<W: Write>(out: &mut W, new: EmulatedPic) -> io::Result<()> {
 }
 
 fn example_8<W: Write>(out: &mut W, new: EmulatedPic) -> io::Result<()> {
-    let claimed = masks_0(new).claim_irq(PicLine(2));
-    let after = claimed.pic;
-    let answer = claimed.claim;
-    print_claim(out, b"8 claim 2: ", answer)?;
-    let PicClaim::Claimed(taken) = answer else {
+    let (after, claim) = masks_0(new).claim_irq(PicLine(2));
+    print_claim(out, b"8 claim 2: ", claim)?;
+    let Some(taken) = claim else {
         return Ok(());
     };
-    let restored = after.restore_interrupt(taken);
-    let done = restored.done;
-    let pic = restored.pic;
+    let (pic, done) = after.restore_interrupt(taken);
     reply_text::print_text(out, b"8 restore: ")?;
     reply_text::print_reply(out, done.reply())?;
     read(out, b"8 requests: ", pic, MASTER_COMMAND)?;

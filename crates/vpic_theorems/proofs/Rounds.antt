@@ -105,8 +105,8 @@ record Left (c e : Chip) (k : ℕ) (driven' : ℕ → Type 0) : Type 0 where
   lowest : lowest_by e ≡ k
   asked : (n : ℕ) → (n ≡ k → ⊥) → (driven' n → ⊥) → bit c.request n ≡ true → bit e.request n ≡ true
 
-abbrev None : ℕ → Type 0
-None n = ⊥
+abbrev NoLine : ℕ → Type 0
+NoLine n = ⊥
 
 abbrev Two : ℕ → Type 0
 Two n = n ≡ 2
@@ -128,8 +128,8 @@ left D c x k h q u b r =
           ap (λ (s : ℕ). bit s n) e.request ∙ r n t ∙ ap (λ (s : ℕ). bit s n) a.request ∙ bit_without_other c.request k n d ∙ z;
     }
 
-left_slave : (c : Chip) (k : ℕ) → Idle c → k < 8 → bit c.mask k ≡ false → Left c (commanded (acknowledged c k) 0xa0) k None
-left_slave c k h q u = left None c (acknowledged c k) k h q u (becomes_same (acknowledged c k)) (λ n t. refl)
+left_slave : (c : Chip) (k : ℕ) → Idle c → k < 8 → bit c.mask k ≡ false → Left c (commanded (acknowledged c k) 0xa0) k NoLine
+left_slave c k h q u = left NoLine c (acknowledged c k) k h q u (becomes_same (acknowledged c k)) (λ n t. refl)
 
 left_driven : (c e : Chip) (k : ℕ) (d : Bool) → Left c e k Two → Left c (driven e 2 d) k Two
 left_driven c e k d l =
@@ -167,7 +167,7 @@ record BySlave (p q : PicState) (j : ℕ) : Type 0 where
   cascade : Next p.master 2
   next : Next p.slave j
   master : Left p.master q.master 2 Two
-  slave : Left p.slave q.slave j None
+  slave : Left p.slave q.slave j NoLine
 
 data Claim (p : PicState) (r : StateClaim) : Type 0 where
   by_master : (k : ℕ) → claim_line r.claim ≡ k ∷ [] → ByMaster p (eois r.state) k → Claim p r
