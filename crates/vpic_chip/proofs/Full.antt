@@ -181,14 +181,17 @@ module _ (x : Chip) (p : Bool) (all : ℕ) (k : ℕ) (ea : all ≡ set_of 8 (blo
   line_plain m em n =
       same_all (λ j. ap (λ (b : Bool). not (x.full && p && b && eqb k 2 && eqb j 2)) (sym em ∙ not-true m n) ∙ ap (λ (b : Bool). not (b && eqb k 2 && eqb j 2)) (and-false (x.full && p)))
 
-  pub line_nested : (m : Bool) (r : ℕ) → x.full ≡ true → k ≡ 2 → not p ≡ false → m ≡ x.nested → not m ≡ false → r ≡ without all 2 → r < 2 ^ 8 → r ≡ set_of 8 (blocks_line c k)
-  line_nested m r f two np em nm er l = sym (set_of_bits 8 r l) ∙ set_of_same 8 (bit r) (blocks_line c k) same
+  pub line_nested : (m : Bool) (r n : ℕ) → x.full ≡ true → k ≡ 2 → not p ≡ false → m ≡ x.nested → not m ≡ false → n ≡ 2 → r ≡ without all n → r < 2 ^ 8 → r ≡ set_of 8 (blocks_line c k)
+  line_nested m r n f two np em nm en er' l = sym (set_of_bits 8 r l) ∙ set_of_same 8 (bit r) (blocks_line c k) same
     where
       on : is_nested c ≡ true
       on = rw (f, not-false p np, sym em ∙ not-false m nm)
 
       there : (j : ℕ) → j < 8 → bit all j ≡ blocks x j
       there j h = ap (λ (s : ℕ). bit s j) ea ∙ bit_set_of 8 (blocks x) j h
+
+      er : r ≡ without all 2
+      er = er' ∙ ap (without all) en
 
       same : (j : ℕ) → j < 8 → bit r j ≡ blocks_line c k j
       same j h = ap (λ (s : ℕ). bit s j) er ∙ go (eqb j 2) refl ∙ ap₂ (λ (x y : Bool). blocks c j && not (x && y && eqb j 2)) (sym on) (sym (ap (λ (s : ℕ). eqb s 2) two))

@@ -24,7 +24,7 @@ use Rattle.types.specs.Reply.{Outcome, vector_reply as given_reply}
 use Rattle.types.proofs.Replies.{option_reply_same, vector_same, vector_some}
 use Rattle.vpic_chip.proofs.Packing.{plain, service_less}
 use Rattle.vpic_chip.specs.Registers.{Chip, chip_in, with_base, with_request, with_in_service, with_step, with_auto_eoi, with_read_isr, with_nested}
-use Rattle.vpic_chip.specs.Chip.{lowest_by, first_of, is_above, is_above_all, turned, is_special, is_nested, blocks, blocks_line, auto_rotated, ocw2, ocw3, non_specific_eoi, specific_eoi, after_icw3, icw2, icw3, icw4, ocw1, fed, commanded, pulsed, counts, pending_line, Highest, pending_irq, pending_reply, asks, driven, acknowledged, acknowledge, unacknowledged, vector_reply}
+use Rattle.vpic_chip.specs.Chip.{lowest_by, first_of, is_above, is_above_all, turned, is_special, is_nested, blocks, blocks_line, auto_rotated, ocw2, non_specific_eoi, specific_eoi, after_icw3, icw2, icw3, icw4, ocw1, fed, commanded, pulsed, counts, pending_line, Highest, pending_irq, pending_reply, asks, driven, acknowledged, acknowledge, unacknowledged, vector_reply}
 
 -- ---- priorities
 

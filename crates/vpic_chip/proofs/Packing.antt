@@ -7,7 +7,7 @@ use native.Mathlib.Nat.{div-one, div-add-mod', mul_comm, add-mul, div-div-eq-div
 use lib.Pow.{pow-add, field, mod-mod-pow}
 use lib.Dec.{eqb}
 use borrow.Author.Tests.{eqb-true, eqb-false}
-use Rattle.utils.specs.Set.{bit, with, without}
+use Rattle.utils.specs.Set.{bit, with, without, marked}
 use Rattle.utils.proofs.Laws.{bit_at_least, with_lt, without_le}
 use Rattle.std.specs.Int.{from_bool}
 use Rattle.types.specs.Reply.{flag}
@@ -42,15 +42,35 @@ digit_le : (b : Bool) → from_bool b ≤ 1
 digit_le true = omega arith
 digit_le false = omega arith
 
-pub base_put : (w v r : ℕ) → v < 2 ^ 8 → r ≡ w / 2 ^ 8 * 2 ^ 8 + v → chip_in r ≡ with_base (chip_in w) v
+-- a word with its bit k put, by what stands above it and below
+marked_is : (w k : ℕ) (b : Bool) → marked w k b ≡ (w / 2 ^ k / 2 * 2 + from_bool b) * 2 ^ k + w % 2 ^ k
+unfolding with without
+marked_is w k b = go b (bit w k) refl
+  where
+    q : ℕ
+    q = w / 2 ^ k
+
+    whole : w ≡ q * 2 ^ k + w % 2 ^ k
+    whole = sym (div-add-mod' w (2 ^ k))
+
+    by : (x : ℕ) → q ≡ x → w ≡ x * 2 ^ k + w % 2 ^ k
+    by x e = whole ∙ ap (λ (y : ℕ). y * 2 ^ k + w % 2 ^ k) e
+
+    go : (b c : Bool) → bit w k ≡ c → cond b (cond c w (w + 2 ^ k)) (cond c (w - 2 ^ k) w) ≡ (q / 2 * 2 + from_bool b) * 2 ^ k + w % 2 ^ k
+    go true true e = by (q / 2 * 2 + 1) (omega (arith, eqb-true (q % 2) 1 e))
+    go true false e = omega (arith, by (q / 2 * 2) (omega (arith, eqb-false (q % 2) 1 e)), add-mul (q / 2 * 2) 1 (2 ^ k))
+    go false true e = omega (arith, by (q / 2 * 2 + 1) (omega (arith, eqb-true (q % 2) 1 e)), add-mul (q / 2 * 2) 1 (2 ^ k), add-mul (q / 2 * 2) 0 (2 ^ k))
+    go false false e = omega (arith, by (q / 2 * 2) (omega (arith, eqb-false (q % 2) 1 e)), add-mul (q / 2 * 2) 0 (2 ^ k))
+
+pub base_put : (w v r x : ℕ) → v < 2 ^ 8 → x ≡ v → r ≡ w / 2 ^ 8 * 2 ^ 8 + x → chip_in r ≡ with_base (chip_in w) v
 unfolding chip_in
-base_put w v r h e =
+base_put w v r x h ex e =
     parts r v (byte w 8) (byte w 16) (byte w 24) (byte w 32) (digit w 40) (digit w 41) (digit w 42) (digit w 43) (w / 2 ^ 44)
     (omega arith) (omega arith) (omega arith) (omega arith) (omega arith) (omega arith) (omega arith) (omega arith) (omega arith) (omega arith)
 
-pub mask_put : (w v r : ℕ) → v < 2 ^ 8 → r ≡ w / 2 ^ 16 * 2 ^ 16 + v * 2 ^ 8 + w % 2 ^ 8 → chip_in r ≡ with_mask (chip_in w) v
+pub mask_put : (w v r x : ℕ) → v < 2 ^ 8 → x ≡ v → r ≡ w / 2 ^ 16 * 2 ^ 16 + x * 2 ^ 8 + w % 2 ^ 8 → chip_in r ≡ with_mask (chip_in w) v
 unfolding chip_in
-mask_put w v r h e =
+mask_put w v r x h ex e =
     parts r (w % 2 ^ 8) v (byte w 16) (byte w 24) (byte w 32) (digit w 40) (digit w 41) (digit w 42) (digit w 43) (w / 2 ^ 44)
     (omega arith) (omega arith) (omega arith) (omega arith) (omega arith) (omega arith) (omega arith) (omega arith) (omega arith) (omega arith)
 
@@ -60,9 +80,9 @@ request_put w v r h e =
     parts r (w % 2 ^ 8) (byte w 8) v (byte w 24) (byte w 32) (digit w 40) (digit w 41) (digit w 42) (digit w 43) (w / 2 ^ 44)
     (omega arith) (omega arith) (omega arith) (omega arith) (omega arith) (omega arith) (omega arith) (omega arith) (omega arith) (omega arith)
 
-pub service_put : (w v r : ℕ) → v < 2 ^ 8 → r ≡ w / 2 ^ 32 * 2 ^ 32 + v * 2 ^ 24 + w % 2 ^ 24 → chip_in r ≡ with_in_service (chip_in w) v
+pub service_put : (w v r x : ℕ) → v < 2 ^ 8 → x ≡ v → r ≡ w / 2 ^ 32 * 2 ^ 32 + x * 2 ^ 24 + w % 2 ^ 24 → chip_in r ≡ with_in_service (chip_in w) v
 unfolding chip_in
-service_put w v r h e =
+service_put w v r x h ex e =
     parts r (w % 2 ^ 8) (byte w 8) (byte w 16) v (byte w 32) (digit w 40) (digit w 41) (digit w 42) (digit w 43) (w / 2 ^ 44)
     (omega arith) (omega arith) (omega arith) (omega arith) (omega arith) (omega arith) (omega arith) (omega arith) (omega arith) (omega arith)
 
@@ -74,37 +94,41 @@ module _ (w s v : ℕ) (e : s ≡ (chip_in w).in_service) where
 
   pub service_less : v ≤ s → chip_in (w - (s - v) * 2 ^ 24) ≡ with_in_service (chip_in w) v
   unfolding chip_in
-  service_less h = service_put w v (w - (s - v) * 2 ^ 24) (omega arith) (omega arith)
+  service_less h = service_put w v (w - (s - v) * 2 ^ 24) v (omega arith) refl (omega arith)
 
-pub step_put : (w v r : ℕ) → v < 2 ^ 8 → r ≡ w / 2 ^ 40 * 2 ^ 40 + v * 2 ^ 32 + w % 2 ^ 32 → chip_in r ≡ with_step (chip_in w) v
+pub step_put : (w v r x : ℕ) → v < 2 ^ 8 → x ≡ v → r ≡ w / 2 ^ 40 * 2 ^ 40 + x * 2 ^ 32 + w % 2 ^ 32 → chip_in r ≡ with_step (chip_in w) v
 unfolding chip_in
-step_put w v r h e =
+step_put w v r x h ex e =
     parts r (w % 2 ^ 8) (byte w 8) (byte w 16) (byte w 24) v (digit w 40) (digit w 41) (digit w 42) (digit w 43) (w / 2 ^ 44)
     (omega arith) (omega arith) (omega arith) (omega arith) (omega arith) (omega arith) (omega arith) (omega arith) (omega arith) (omega arith)
 
-pub auto_put : (w v r : ℕ) (b : Bool) → v ≡ from_bool b → r ≡ w / 2 ^ 43 * 2 ^ 43 + v * 2 ^ 42 + w % 2 ^ 42 → chip_in r ≡ with_auto_eoi (chip_in w) b
+pub auto_put : (w r : ℕ) (b : Bool) → r ≡ marked w 42 b → chip_in r ≡ with_auto_eoi (chip_in w) b
 unfolding chip_in
-auto_put w v r b f e =
-    let h : v ≤ 1 = omega (arith, f, digit_le b) in
+auto_put w r b m =
+    let v = from_bool b in
+    let h : v ≤ 1 = digit_le b in
+    let e : r ≡ (w / 2 ^ 42 / 2 * 2 + v) * 2 ^ 42 + w % 2 ^ 42 = m ∙ marked_is w 42 b in
     parts r (w % 2 ^ 8) (byte w 8) (byte w 16) (byte w 24) (byte w 32) (digit w 40) (digit w 41) v (digit w 43) (w / 2 ^ 44)
     (omega arith) (omega arith) (omega arith) (omega arith) (omega arith) (omega arith) (omega arith) (omega arith) (omega arith) (omega arith)
-    ∙ ap (with_auto_eoi (chip_in w)) (ap (λ (n : ℕ). eqb n 1) f ∙ digit_back b)
+    ∙ ap (with_auto_eoi (chip_in w)) (digit_back b)
 
-pub read_put : (w v r : ℕ) (b : Bool) → v ≡ from_bool b → r ≡ w / 2 ^ 44 * 2 ^ 44 + v * 2 ^ 43 + w % 2 ^ 43 → chip_in r ≡ with_read_isr (chip_in w) b
+pub read_put : (w r : ℕ) (b : Bool) → r ≡ marked w 43 b → chip_in r ≡ with_read_isr (chip_in w) b
 unfolding chip_in
-read_put w v r b f e =
-    let h : v ≤ 1 = omega (arith, f, digit_le b) in
+read_put w r b m =
+    let v = from_bool b in
+    let h : v ≤ 1 = digit_le b in
+    let e : r ≡ (w / 2 ^ 43 / 2 * 2 + v) * 2 ^ 43 + w % 2 ^ 43 = m ∙ marked_is w 43 b in
     parts r (w % 2 ^ 8) (byte w 8) (byte w 16) (byte w 24) (byte w 32) (digit w 40) (digit w 41) (digit w 42) v (w / 2 ^ 44)
     (omega arith) (omega arith) (omega arith) (omega arith) (omega arith) (omega arith) (omega arith) (omega arith) (omega arith) (omega arith)
-    ∙ ap (with_read_isr (chip_in w)) (ap (λ (n : ℕ). eqb n 1) f ∙ digit_back b)
+    ∙ ap (with_read_isr (chip_in w)) (digit_back b)
 
-pub new_put : (v r : ℕ) → v < 2 ^ 8 → r ≡ v + 0xff00 → chip_in r ≡ opened v
+pub new_put : (v r x : ℕ) → v < 2 ^ 8 → x ≡ v → r ≡ x + 0xff00 → chip_in r ≡ opened v
 unfolding opened
-new_put v r h e = parts r v 255 0 0 0 0 0 0 0 0 (omega arith) (omega arith) (omega arith) (omega arith) (omega arith) (omega arith) (omega arith) (omega arith) (omega arith) (omega arith)
+new_put v r x h ex e = parts r v 255 0 0 0 0 0 0 0 0 (omega arith) (omega arith) (omega arith) (omega arith) (omega arith) (omega arith) (omega arith) (omega arith) (omega arith) (omega arith)
 
-pub icw1_put : (w v r : ℕ) → r ≡ w / 2 ^ 44 * 2 ^ 44 + v % 4 * 2 ^ 40 + 2 ^ 32 + w % 2 ^ 16 → chip_in r ≡ icw1 (chip_in w) v
+pub icw1_put : (w v r x : ℕ) → x ≡ v → r ≡ w / 2 ^ 44 * 2 ^ 44 + x % 4 * 2 ^ 40 + 2 ^ 32 + w % 2 ^ 16 → chip_in r ≡ icw1 (chip_in w) v
 unfolding chip_in
-icw1_put w v r e =
+icw1_put w v r x ex e =
     parts r (w % 2 ^ 8) (byte w 8) 0 0 1 (v % 2) (v / 2 % 2) 0 0 (w / 2 ^ 44)
     (omega arith) (omega arith) (omega arith) (omega arith) (omega arith) (omega arith) (omega arith) (omega arith) (omega arith) (omega arith)
     ∙ simp div-one
@@ -145,29 +169,33 @@ module _ (w r s n k : ℕ) (e : w ≡ r + s * 2 ^ n) (same : bit w (k + n) ≡ b
           omega (arith, e, m, pow-add 2 k n)
       go false q = e
 
-module _ (w k r : ℕ) (h : k < 8) where
-  pub requested_put : r ≡ with w (k + 16) → chip_in r ≡ with_request (chip_in w) (with (chip_in w).request k)
+module _ (w k r n : ℕ) (h : k < 8) (en : n ≡ k) where
+  pub requested_put : r ≡ with w (n + 16) → chip_in r ≡ with_request (chip_in w) (with (chip_in w).request k)
   unfolding chip_in
-  requested_put e =
+  requested_put en' =
+      let e : r ≡ with w (k + 16) = en' ∙ ap (λ (m : ℕ). with w (m + 16)) en in
       request_put w (with (byte w 16) k) r (with_lt 8 (byte w 16) k (omega arith) h)
       (omega (arith, with_at w (w / 2 ^ 24 * 2 ^ 24 + w % 2 ^ 16) (byte w 16) 16 k (omega arith) (byte_bit w 16 (byte w 16) k refl h)))
 
-  pub unrequested_put : r ≡ without w (k + 16) → chip_in r ≡ with_request (chip_in w) (without (chip_in w).request k)
+  pub unrequested_put : r ≡ without w (n + 16) → chip_in r ≡ with_request (chip_in w) (without (chip_in w).request k)
   unfolding chip_in
-  unrequested_put e =
+  unrequested_put en' =
+      let e : r ≡ without w (k + 16) = en' ∙ ap (λ (m : ℕ). without w (m + 16)) en in
       request_put w (without (byte w 16) k) r (omega (arith, without_le (byte w 16) k))
       (omega (arith, without_at w (w / 2 ^ 24 * 2 ^ 24 + w % 2 ^ 16) (byte w 16) 16 k (omega arith) (byte_bit w 16 (byte w 16) k refl h)))
 
-  pub served_put : r ≡ with w (k + 24) → chip_in r ≡ with_in_service (chip_in w) (with (chip_in w).in_service k)
+  pub served_put : r ≡ with w (n + 24) → chip_in r ≡ with_in_service (chip_in w) (with (chip_in w).in_service k)
   unfolding chip_in
-  served_put e =
-      service_put w (with (byte w 24) k) r (with_lt 8 (byte w 24) k (omega arith) h)
+  served_put en' =
+      let e : r ≡ with w (k + 24) = en' ∙ ap (λ (m : ℕ). with w (m + 24)) en in
+      service_put w (with (byte w 24) k) r _ (with_lt 8 (byte w 24) k (omega arith) h) refl
       (omega (arith, with_at w (w / 2 ^ 32 * 2 ^ 32 + w % 2 ^ 24) (byte w 24) 24 k (omega arith) (byte_bit w 24 (byte w 24) k refl h)))
 
-  pub ended_put : r ≡ without w (k + 24) → chip_in r ≡ specific_eoi (chip_in w) k
+  pub ended_put : r ≡ without w (n + 24) → chip_in r ≡ specific_eoi (chip_in w) k
   unfolding chip_in
-  ended_put e =
-      service_put w (without (byte w 24) k) r (omega (arith, without_le (byte w 24) k))
+  ended_put en' =
+      let e : r ≡ without w (k + 24) = en' ∙ ap (λ (m : ℕ). without w (m + 24)) en in
+      service_put w (without (byte w 24) k) r _ (omega (arith, without_le (byte w 24) k)) refl
       (omega (arith, without_at w (w / 2 ^ 32 * 2 ^ 32 + w % 2 ^ 24) (byte w 24) 24 k (omega arith) (byte_bit w 24 (byte w 24) k refl h)))
 
 -- ---- the registers and what is left are all of the word: a chip has one word
@@ -290,51 +318,58 @@ full_put w r x lo v3 v4 v5 v6 e d =
     ap as_full (left_put w r x e)
     ∙ (λ i. registers (w % 2 ^ 8) (byte w 8) (byte w 16) (byte w 24) (byte w 32) (bit w 40) (bit w 41) (bit w 42) (bit w 43) true false (d.order i) (eqb (d.three i) 1) (eqb (d.four i) 1) (eqb (d.five i) 1) (eqb (d.six i) 1) (d.left i))
 
-pub lowest_put : (w v r : ℕ) → v < 8 → r ≡ w / 2 ^ 47 * 2 ^ 47 + (v + 1) % 8 * 2 ^ 44 + w % 2 ^ 44 → full_in r ≡ with_lowest (full_in w) v
+pub lowest_put : (w v r x : ℕ) → v < 8 → x ≡ v → r ≡ w / 2 ^ 47 * 2 ^ 47 + (x + 1) % 8 * 2 ^ 44 + w % 2 ^ 44 → full_in r ≡ with_lowest (full_in w) v
 unfolding chip_in
-lowest_put w v r h e =
+lowest_put w v r x h ex e =
     let y = w / 2 ^ 44 in
     full_put w r (y / 8 * 8 + (v + 1) % 8) v (digit y 3) (digit y 4) (digit y 5) (digit y 6) (omega (arith, div-div-eq-div-mul w (2 ^ 44) 8)) (order_digits y v h)
 
 -- one of its flags is put
-module _ (w v r : ℕ) (b : Bool) (f : v ≡ from_bool b) where
+module _ (w r : ℕ) (b : Bool) where
+  abbrev v : ℕ
+  v = from_bool b
+
   h : v ≤ 1
-  h = omega (arith, f, digit_le b)
+  h = digit_le b
 
   put : eqb v 1 ≡ b
-  put = ap (λ (n : ℕ). eqb n 1) f ∙ digit_back b
+  put = digit_back b
 
-  pub rotation_put : r ≡ w / 2 ^ 48 * 2 ^ 48 + v * 2 ^ 47 + w % 2 ^ 47 → full_in r ≡ with_auto_rotation (full_in w) b
+  pub rotation_put : r ≡ marked w 47 b → full_in r ≡ with_auto_rotation (full_in w) b
   unfolding chip_in
-  rotation_put e =
+  rotation_put m =
+      let e : r ≡ (w / 2 ^ 47 / 2 * 2 + v) * 2 ^ 47 + w % 2 ^ 47 = m ∙ marked_is w 47 b in
       let y = w / 2 ^ 44 in
       full_put w r (y / 16 * 16 + v * 8 + y % 8) (order y) v (digit y 4) (digit y 5) (digit y 6) (omega (arith, div-div-eq-div-mul w (2 ^ 44) 16, div-div-eq-div-mul w (2 ^ 44) 8)) (rotation_digits y v h)
       ∙ ap (with_auto_rotation (full_in w)) put
 
-  pub special_put : r ≡ w / 2 ^ 49 * 2 ^ 49 + v * 2 ^ 48 + w % 2 ^ 48 → full_in r ≡ with_special_mask (full_in w) b
+  pub special_put : r ≡ marked w 48 b → full_in r ≡ with_special_mask (full_in w) b
   unfolding chip_in
-  special_put e =
+  special_put m =
+      let e : r ≡ (w / 2 ^ 48 / 2 * 2 + v) * 2 ^ 48 + w % 2 ^ 48 = m ∙ marked_is w 48 b in
       let y = w / 2 ^ 44 in
       full_put w r (y / 32 * 32 + v * 16 + y % 16) (order y) (digit y 3) v (digit y 5) (digit y 6) (omega (arith, div-div-eq-div-mul w (2 ^ 44) 32, div-div-eq-div-mul w (2 ^ 44) 16)) (special_digits y v h)
       ∙ ap (with_special_mask (full_in w)) put
 
-  pub poll_put : r ≡ w / 2 ^ 50 * 2 ^ 50 + v * 2 ^ 49 + w % 2 ^ 49 → full_in r ≡ with_poll (full_in w) b
+  pub poll_put : r ≡ marked w 49 b → full_in r ≡ with_poll (full_in w) b
   unfolding chip_in
-  poll_put e =
+  poll_put m =
+      let e : r ≡ (w / 2 ^ 49 / 2 * 2 + v) * 2 ^ 49 + w % 2 ^ 49 = m ∙ marked_is w 49 b in
       let y = w / 2 ^ 44 in
       full_put w r (y / 64 * 64 + v * 32 + y % 32) (order y) (digit y 3) (digit y 4) v (digit y 6) (omega (arith, div-div-eq-div-mul w (2 ^ 44) 64, div-div-eq-div-mul w (2 ^ 44) 32)) (poll_digits y v h)
       ∙ ap (with_poll (full_in w)) put
 
-  pub nested_put : r ≡ w / 2 ^ 51 * 2 ^ 51 + v * 2 ^ 50 + w % 2 ^ 50 → full_in r ≡ with_nested (full_in w) b
+  pub nested_put : r ≡ marked w 50 b → full_in r ≡ with_nested (full_in w) b
   unfolding chip_in
-  nested_put e =
+  nested_put m =
+      let e : r ≡ (w / 2 ^ 50 / 2 * 2 + v) * 2 ^ 50 + w % 2 ^ 50 = m ∙ marked_is w 50 b in
       let y = w / 2 ^ 44 in
       full_put w r (y / 128 * 128 + v * 64 + y % 64) (order y) (digit y 3) (digit y 4) (digit y 5) v (omega (arith, div-div-eq-div-mul w (2 ^ 44) 128, div-div-eq-div-mul w (2 ^ 44) 64)) (nested_digits y v h)
       ∙ ap (with_nested (full_in w)) put
 
-pub full_icw1_put : (w v r : ℕ) → r ≡ w / 2 ^ 51 * 2 ^ 51 + v % 4 * 2 ^ 40 + 2 ^ 32 + w % 2 ^ 8 → full_in r ≡ icw1 (full_in w) v
+pub full_icw1_put : (w v r x : ℕ) → x ≡ v → r ≡ w / 2 ^ 51 * 2 ^ 51 + x % 4 * 2 ^ 40 + 2 ^ 32 + w % 2 ^ 8 → full_in r ≡ icw1 (full_in w) v
 unfolding chip_in
-full_icw1_put w v r e =
+full_icw1_put w v r x ex e =
     let s = w / 2 ^ 51 * 128 in
     let a : (s + 7) % 2 ^ 3 ≡ 7 = omega arith in
     let b3 : s / 2 ^ 3 % 2 ≡ 0 = omega arith in

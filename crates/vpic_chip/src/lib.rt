@@ -6,13 +6,13 @@
 
 #![tactic(auto)]
 
-ghost use Rattle.std.specs.Prelude.{◌≡◌, false, cond, ◌||◌, ◌<◌, eqb};
+ghost use Rattle.std.specs.Prelude.{◌≡◌, false, cond, ◌||◌, ◌<◌, ◌*◌, ◌/◌, ◌%◌, ◌^◌, eqb};
 ghost use Rattle.utils.specs.Set.{bit, with, without, set_of, lowest};
 ghost use Rattle.vpic_chip.specs.Registers.{with_base, with_mask, with_request, with_in_service, with_step, with_auto_eoi, with_read_isr, with_lowest, with_auto_rotation, with_special_mask, with_poll, with_nested, chip_in, full_in, placed};
 ghost use Rattle.vpic_chip.specs.Chip.{turned, blocks, blocks_line, opened, icw1, ocw3, specific_eoi, non_specific_eoi, ocw2, commanded, after_icw3, icw2, icw3, icw4, ocw1, fed, command_read, pulsed, cascade_irq, counts, asks, driven, pending_irq, acknowledged, acknowledge, acknowledge_outcome, full_outcome, unacknowledged, poll_outcome, poll_read};
 
 use types::{PicLine, Vector};
-use utils::{set8, set64};
+use utils::{Set, set8};
 
 // The master's line that the slave's output drives.
 pub const CASCADE_IRQ: u8 = 2;
@@ -30,28 +30,40 @@ impl PicChip {
         (self.0 % 0x100) as u8
     }
 
+    // Byte k of the word.
+    fn byte(self, k: u32) -> u8
+        requires { k < 8 }
+        ensures { result ≡ self.0 / 2 ^ (8 * k) % 2 ^ 8 }
+    {
+        ((self.0 >> (8 * k)) % 0x100) as u8
+    }
+
+    #[tactic(auto, unfolding(crate::specs::Registers::chip_in))]
     pub fn mask(self) -> u8
         ensures { result ≡ (chip_in self.0).mask }
     {
-        (self.0 / 0x100 % 0x100) as u8
+        self.byte(1)
     }
 
+    #[tactic(auto, unfolding(crate::specs::Registers::chip_in))]
     pub fn request(self) -> u8
         ensures { result ≡ (chip_in self.0).request }
     {
-        (self.0 / 0x1_0000 % 0x100) as u8
+        self.byte(2)
     }
 
+    #[tactic(auto, unfolding(crate::specs::Registers::chip_in))]
     pub fn in_service(self) -> u8
         ensures { result ≡ (chip_in self.0).in_service }
     {
-        (self.0 / 0x100_0000 % 0x100) as u8
+        self.byte(3)
     }
 
+    #[tactic(auto, unfolding(crate::specs::Registers::chip_in))]
     pub fn init_step(self) -> u8
         ensures { result ≡ (chip_in self.0).init_step }
     {
-        (self.0 / 0x1_0000_0000 % 0x100) as u8
+        self.byte(4)
     }
 
     // Whether no ICW is waited for, asked of the word: of a step that is asked for 0 to 3 the compiler makes a table of jumps.
@@ -61,40 +73,44 @@ impl PicChip {
         self.0 / 0x1_0000_0000 % 0x100 == 0
     }
 
+    #[tactic(auto, unfolding(crate::specs::Registers::chip_in))]
     pub fn needs_icw4(self) -> bool
         ensures { result ≡ (chip_in self.0).needs_icw4 }
     {
-        self.0 / 0x100_0000_0000 % 2 == 1
+        self.0.has(40)
     }
 
+    #[tactic(auto, unfolding(crate::specs::Registers::chip_in))]
     pub fn single(self) -> bool
         ensures { result ≡ (chip_in self.0).single }
     {
-        self.0 / 0x200_0000_0000 % 2 == 1
+        self.0.has(41)
     }
 
+    #[tactic(auto, unfolding(crate::specs::Registers::chip_in))]
     pub fn auto_eoi(self) -> bool
         ensures { result ≡ (chip_in self.0).auto_eoi }
     {
-        self.0 / 0x400_0000_0000 % 2 == 1
+        self.0.has(42)
     }
 
+    #[tactic(auto, unfolding(crate::specs::Registers::chip_in))]
     pub fn read_isr(self) -> bool
         ensures { result ≡ (chip_in self.0).read_isr }
     {
-        self.0 / 0x800_0000_0000 % 2 == 1
+        self.0.has(43)
     }
 
     fn with_vector_base(self, base: u8) -> Self
         ensures { chip_in result.0 ≡ with_base (chip_in self.0) base }
     {
-        PicChip(self.0 / 0x100 * 0x100 + base as u64)
+        PicChip(self.0 / 0x100 * 0x100 + u64::from(base))
     }
 
     fn with_mask(self, mask: u8) -> Self
         ensures { chip_in result.0 ≡ with_mask (chip_in self.0) mask }
     {
-        PicChip(self.0 / 0x1_0000 * 0x1_0000 + mask as u64 * 0x100 + self.0 % 0x100)
+        PicChip(self.0 / 0x1_0000 * 0x1_0000 + u64::from(mask) * 0x100 + self.0 % 0x100)
     }
 
     fn with_in_service(self, in_service: u8) -> Self
@@ -102,7 +118,7 @@ impl PicChip {
     {
         PicChip(
             self.0 / 0x1_0000_0000 * 0x1_0000_0000
-                + in_service as u64 * 0x100_0000
+                + u64::from(in_service) * 0x100_0000
                 + self.0 % 0x100_0000,
         )
     }
@@ -112,66 +128,64 @@ impl PicChip {
     {
         PicChip(
             self.0 / 0x100_0000_0000 * 0x100_0000_0000
-                + step as u64 * 0x1_0000_0000
+                + u64::from(step) * 0x1_0000_0000
                 + self.0 % 0x1_0000_0000,
         )
     }
 
+    #[tactic(auto, using(crate::proofs::Packing::auto_put))]
     fn with_auto_eoi(self, up: bool) -> Self
         ensures { chip_in result.0 ≡ with_auto_eoi (chip_in self.0) up }
     {
-        PicChip(
-            self.0 / 0x800_0000_0000 * 0x800_0000_0000
-                + u64::from(up) * 0x400_0000_0000
-                + self.0 % 0x400_0000_0000,
-        )
+        PicChip(self.0.marked(42, up))
     }
 
+    #[tactic(auto, using(crate::proofs::Packing::read_put))]
     fn with_read_isr(self, up: bool) -> Self
         ensures { chip_in result.0 ≡ with_read_isr (chip_in self.0) up }
     {
-        PicChip(
-            self.0 / 0x1000_0000_0000 * 0x1000_0000_0000
-                + u64::from(up) * 0x800_0000_0000
-                + self.0 % 0x800_0000_0000,
-        )
+        PicChip(self.0.marked(43, up))
     }
 
     // One line of a set is a bit of the word.
+    #[tactic(auto, using(crate::proofs::Packing::requested_put))]
     fn requested(self, irq: PicLine) -> Self
         requires { irq.0 < 8 }
         ensures { chip_in result.0 ≡ with_request (chip_in self.0) (with (chip_in self.0).request irq.0) }
     {
-        PicChip(set64::with(self.0, irq.0 as u64 + 16))
+        PicChip(self.0.with(u32::from(irq.0) + 16))
     }
 
+    #[tactic(auto, using(crate::proofs::Packing::unrequested_put))]
     fn unrequested(self, irq: PicLine) -> Self
         requires { irq.0 < 8 }
         ensures { chip_in result.0 ≡ with_request (chip_in self.0) (without (chip_in self.0).request irq.0) }
     {
-        PicChip(set64::without(self.0, irq.0 as u64 + 16))
+        PicChip(self.0.without(u32::from(irq.0) + 16))
     }
 
+    #[tactic(auto, using(crate::proofs::Packing::served_put))]
     fn served(self, irq: PicLine) -> Self
         requires { irq.0 < 8 }
         ensures { chip_in result.0 ≡ with_in_service (chip_in self.0) (with (chip_in self.0).in_service irq.0) }
     {
-        PicChip(set64::with(self.0, irq.0 as u64 + 24))
+        PicChip(self.0.with(u32::from(irq.0) + 24))
     }
 
     // The line is no longer in service.
+    #[tactic(auto, using(crate::proofs::Packing::ended_put))]
     fn end(self, irq: PicLine) -> Self
         requires { irq.0 < 8 }
         ensures { chip_in result.0 ≡ specific_eoi (chip_in self.0) irq.0 }
     {
-        PicChip(set64::without(self.0, irq.0 as u64 + 24))
+        PicChip(self.0.without(u32::from(irq.0) + 24))
     }
 
     // A chip as the Rust opens it, at any base byte.
     pub fn new(vector_base: u8) -> Self
         ensures { chip_in result.0 ≡ opened vector_base }
     {
-        PicChip(vector_base as u64 + 0xff00)
+        PicChip(u64::from(vector_base) + 0xff00)
     }
 
     // ICW1 puts all registers but two: base and mask stay.
@@ -180,7 +194,7 @@ impl PicChip {
     {
         PicChip(
             self.0 / 0x1000_0000_0000 * 0x1000_0000_0000
-                + value as u64 % 4 * 0x100_0000_0000
+                + u64::from(value) % 4 * 0x100_0000_0000
                 + 0x1_0000_0000
                 + self.0 % 0x1_0000,
         )
@@ -400,29 +414,33 @@ impl PicChip {
         ((self.0 / 0x1000_0000_0000 + 7) % 8) as u8
     }
 
+    #[tactic(auto, using(crate::proofs::Packing::auto_rotation_read))]
     pub fn auto_rotation(self) -> bool
         ensures { result ≡ (full_in self.0).auto_rotation }
     {
-        self.0 / 0x8000_0000_0000 % 2 == 1
+        self.0.has(47)
     }
 
+    #[tactic(auto, using(crate::proofs::Packing::special_mask_read))]
     pub fn special_mask(self) -> bool
         ensures { result ≡ (full_in self.0).special_mask }
     {
-        self.0 / 0x1_0000_0000_0000 % 2 == 1
+        self.0.has(48)
     }
 
     // Whether a poll waits for the next read.
+    #[tactic(auto, using(crate::proofs::Packing::poll_read_lem))]
     pub fn poll(self) -> bool
         ensures { result ≡ (full_in self.0).poll }
     {
-        self.0 / 0x2_0000_0000_0000 % 2 == 1
+        self.0.has(49)
     }
 
+    #[tactic(auto, using(crate::proofs::Packing::nested_read))]
     pub fn nested(self) -> bool
         ensures { result ≡ (full_in self.0).nested }
     {
-        self.0 / 0x4_0000_0000_0000 % 2 == 1
+        self.0.has(50)
     }
 
     fn with_lowest(self, irq: PicLine) -> Self
@@ -431,49 +449,37 @@ impl PicChip {
     {
         PicChip(
             self.0 / 0x8000_0000_0000 * 0x8000_0000_0000
-                + (irq.0 as u64 + 1) % 8 * 0x1000_0000_0000
+                + (u64::from(irq.0) + 1) % 8 * 0x1000_0000_0000
                 + self.0 % 0x1000_0000_0000,
         )
     }
 
+    #[tactic(auto, using(crate::proofs::Packing::rotation_put))]
     fn with_auto_rotation(self, up: bool) -> Self
         ensures { full_in result.0 ≡ with_auto_rotation (full_in self.0) up }
     {
-        PicChip(
-            self.0 / 0x1_0000_0000_0000 * 0x1_0000_0000_0000
-                + u64::from(up) * 0x8000_0000_0000
-                + self.0 % 0x8000_0000_0000,
-        )
+        PicChip(self.0.marked(47, up))
     }
 
+    #[tactic(auto, using(crate::proofs::Packing::special_put))]
     fn with_special_mask(self, up: bool) -> Self
         ensures { full_in result.0 ≡ with_special_mask (full_in self.0) up }
     {
-        PicChip(
-            self.0 / 0x2_0000_0000_0000 * 0x2_0000_0000_0000
-                + u64::from(up) * 0x1_0000_0000_0000
-                + self.0 % 0x1_0000_0000_0000,
-        )
+        PicChip(self.0.marked(48, up))
     }
 
+    #[tactic(auto, using(crate::proofs::Packing::poll_put))]
     fn with_poll(self, up: bool) -> Self
         ensures { full_in result.0 ≡ with_poll (full_in self.0) up }
     {
-        PicChip(
-            self.0 / 0x4_0000_0000_0000 * 0x4_0000_0000_0000
-                + u64::from(up) * 0x2_0000_0000_0000
-                + self.0 % 0x2_0000_0000_0000,
-        )
+        PicChip(self.0.marked(49, up))
     }
 
+    #[tactic(auto, using(crate::proofs::Packing::nested_put))]
     fn with_nested(self, up: bool) -> Self
         ensures { full_in result.0 ≡ with_nested (full_in self.0) up }
     {
-        PicChip(
-            self.0 / 0x8_0000_0000_0000 * 0x8_0000_0000_0000
-                + u64::from(up) * 0x4_0000_0000_0000
-                + self.0 % 0x4_0000_0000_0000,
-        )
+        PicChip(self.0.marked(50, up))
     }
 
     // ICW1 puts all registers but the base.
@@ -482,7 +488,7 @@ impl PicChip {
     {
         PicChip(
             self.0 / 0x8_0000_0000_0000 * 0x8_0000_0000_0000
-                + value as u64 % 4 * 0x100_0000_0000
+                + u64::from(value) % 4 * 0x100_0000_0000
                 + 0x1_0000_0000
                 + self.0 % 0x100,
         )
@@ -622,7 +628,7 @@ impl PicChip {
         if !self.nested() {
             return all;
         }
-        set8::without(all, CASCADE_IRQ)
+        all.without(u32::from(CASCADE_IRQ))
     }
 
     // The line whose request would be acknowledged next, the highest that counts: the highest unmasked request, where it is above every line that is in its way. Where it isn't, no
