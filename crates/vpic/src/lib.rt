@@ -188,11 +188,7 @@ fn claim_in(number: u64) -> Option<PicInterruptClaim>
 fn is_cascade(words: &[u64; 4]) -> bool
     ensures { result ≡ is_cascade (plain_view words.now) }
 {
-    match rule(words) {
-        PicRule::Latch => false,
-        PicRule::Cascade => true,
-        PicRule::Full => true,
-    }
+    rule(words) != PicRule::Latch
 }
 
 fn is_full(words: &[u64; 4]) -> bool
@@ -387,10 +383,7 @@ fn take(words: &mut [u64; 4]) -> u64
 fn is_quiet(words: &[u64; 4]) -> bool
     ensures { result ≡ is_quiet (plain_view words.now) }
 {
-    if master(words).request() != 0 {
-        return false;
-    }
-    slave(words).request() == 0
+    master(words).request() == 0 && slave(words).request() == 0
 }
 
 // What can be delivered is claimed.
@@ -912,16 +905,10 @@ fn full_write(words: &mut [u64; 4], port: u64, value: u64)
 fn is_port(port: u64) -> bool
     ensures { result ≡ is_port port }
 {
-    if port == MASTER_COMMAND as u64 {
-        return true;
-    }
-    if port == MASTER_DATA as u64 {
-        return true;
-    }
-    if port == SLAVE_COMMAND as u64 {
-        return true;
-    }
-    port == SLAVE_DATA as u64
+    port == u64::from(MASTER_COMMAND)
+        || port == u64::from(MASTER_DATA)
+        || port == u64::from(SLAVE_COMMAND)
+        || port == u64::from(SLAVE_DATA)
 }
 
 // ---- The same by value: a pair lends its words, and is handed back.
@@ -991,14 +978,14 @@ impl EmulatedPic {
     pub fn handle_read(mut self, port: u16, width: u8) -> (Self, Result<u8, Refusal>)
         ensures { value_outcome (view result.0.words) result.1 ≡ handle_read (view self.words) port width }
     {
-        let value = handle_read(&mut self.words, port as u64, width as u64);
+        let value = handle_read(&mut self.words, u64::from(port), u64::from(width));
         (self, value)
     }
 
     pub fn handle_write(mut self, port: u16, width: u8, value: u64) -> (Self, Result<(), Refusal>)
         ensures { done_outcome (view result.0.words) result.1 ≡ handle_write (view self.words) port width value }
     {
-        let done = handle_write(&mut self.words, port as u64, width as u64, value);
+        let done = handle_write(&mut self.words, u64::from(port), u64::from(width), value);
         (self, done)
     }
 }
