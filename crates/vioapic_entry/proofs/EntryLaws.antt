@@ -3,12 +3,12 @@ use Prim.Native.Nat.{ℕ, ◌+◌, ◌*◌, ◌/◌, ◌%◌, ◌^◌, ◌<◌, 
 use native.Mathlib.Omega.{arith}
 use mathlib.Core.Bool.{Bool, true, false, not, cond, ◌&&◌, ◌||◌}
 use mathlib.Core.Path.{◌≡◌, refl, sym, ◌∙◌, ap, ap₂}
-use lib.Dec.{eqb, ltb, leb}
+use lib.Dec.{eqb, ltb}
 use borrow.Author.Tests.{eqb-true, eqb-false, eq-eqb, ne_eqb, lt-ltb, le-ltb, lt-leb, le-leb}
 use Rattle.utils.specs.Set.{bit}
 use Rattle.utils.specs.Cases.{and_right_no}
 use Rattle.utils.proofs.Bools.{both, and_true, not_is}
-use Rattle.vioapic_entry.specs.Redirection.{EntryStep, is_fixed, is_fit, is_level, is_masked, remote_irr, same_low, with_remote_irr, without_remote_irr, replace_low, replace_high, with_word, with_deferred, with_input, quietly, sending, settled, send_entry, raise_entry, lower_entry, move_line, end_entry, end_entry20, write_low, write_high, without_status, same_low20, keeps_flight, replace_low20, keeps_deferred, store_low20, is_owed, write_low20}
+use Rattle.vioapic_entry.specs.Redirection.{is_fixed, is_fit, is_level, is_masked, remote_irr, same_low, with_remote_irr, without_remote_irr, replace_low, replace_high, with_word, with_deferred, with_input, quietly, sending, send_entry, raise_entry, lower_entry, end_entry, end_entry20, write_low, write_high, without_status, same_low20, keeps_flight, replace_low20, keeps_deferred, store_low20, is_owed, write_low20}
 use Rattle.vioapic_entry.specs.declared.Entry.{Entry}
 use Rattle.vioapic_entry.proofs.Fields.{same_fit, same_level, alike_without, alike_low20, level_low, irr_without, irr_low20}
 

@@ -1,22 +1,18 @@
--- What an entry asks to inject, in document 01's numbers and values.
-use Rattle.std.specs.Prelude.{Bool, true, false}
-use Rattle.types.specs.Reply.{flag}
+-- What an entry asks to inject, if anything, in document 01's numbers and values.
+use Rattle.std.specs.Prelude.{Bool, Option, is_some}
+use Rattle.types.specs.Reply.{flag, option_reply}
 use Rattle.types.specs.declared.Reply.{Reply}
-use Rattle.types.specs.declared.Reply.TheVariants.{Nothing, Two}
+use Rattle.types.specs.declared.Reply.TheVariants.{Two}
 use Rattle.vioapic_entry.specs.declared.IoApicInterrupt.{IoApicInterrupt}
-use Rattle.vioapic_entry.specs.declared.Routed.{Routed}
-use Rattle.vioapic_entry.specs.declared.Routed.TheVariants.{NotRouted, Interrupt}
 
 -- the vector and the trigger mode
 abbrev pub interrupt_reply : IoApicInterrupt → Reply
 interrupt_reply i = Two i.vector.0 (flag i.level_triggered)
 
 -- nothing, or the interrupt
-abbrev pub routed_reply : Routed → Reply
-routed_reply NotRouted = Nothing
-routed_reply (Interrupt i) = interrupt_reply i
+abbrev pub routed_reply : Option IoApicInterrupt → Reply
+routed_reply = option_reply interrupt_reply
 
 -- an interrupt is sent
-abbrev pub is_routed : Routed → Bool
-is_routed NotRouted = false
-is_routed (Interrupt i) = true
+abbrev pub is_routed : Option IoApicInterrupt → Bool
+is_routed = is_some

@@ -2,12 +2,11 @@
 -- 82093AA: IOREDTBL (Interrupt Vector, Delivery Mode, Delivery Status, Remote IRR, Trigger Mode, Interrupt Mask). Beside its register
 -- an entry has the level of its input line and a flag for a level interrupt that was deferred (`pending_level`, the Rust's name).
 -- D-nn marks where a rule departs from the data sheet (docs/DIFFERENCES.md).
-use Rattle.std.specs.Prelude.{ℕ, ◌+◌, ◌*◌, ◌/◌, ◌%◌, ◌^◌, Bool, true, false, not, cond, ◌&&◌, ◌||◌, eqb, leb}
+use Rattle.std.specs.Prelude.{ℕ, ◌+◌, ◌*◌, ◌/◌, ◌%◌, ◌^◌, Bool, true, false, not, cond, ◌&&◌, ◌||◌, eqb, leb, Option, Some, None}
 use Rattle.utils.specs.Set.{bit}
 use Rattle.types.specs.declared.Vector.{Vector}
 use Rattle.vioapic_entry.specs.declared.Entry.{Entry}
-use Rattle.vioapic_entry.specs.declared.Routed.{Routed}
-use Rattle.vioapic_entry.specs.declared.Routed.TheVariants.{NotRouted, Interrupt}
+use Rattle.vioapic_entry.specs.declared.IoApicInterrupt.{IoApicInterrupt}
 
 -- ---- the fields of the register
 
@@ -65,15 +64,15 @@ with_input e b = record { word = e.word; pending_level = e.pending_level; input_
 -- an entry after a rule, and what it asks to inject
 pub record EntryStep : Type 0 where
   pub entry : Entry
-  pub answer : Routed
+  pub answer : Option IoApicInterrupt
 
 -- nothing is sent
 abbrev pub quietly : Entry → EntryStep
-quietly e = record { entry = e; answer = NotRouted }
+quietly e = record { entry = e; answer = None }
 
 -- the entry's interrupt is sent: its vector and trigger mode (D-40: the destination isn't named; D-38: bit 13, the polarity, isn't looked at)
 abbrev pub sending : Entry → EntryStep
-sending e = record { entry = e; answer = Interrupt (record { vector = vector_of e.word; level_triggered = is_level e.word }) }
+sending e = record { entry = e; answer = Some (record { vector = vector_of e.word; level_triggered = is_level e.word }) }
 
 -- an unfit entry isn't sent. A level entry in flight is deferred, another level entry is in flight from now on (D-44), and an
 -- edge entry is just sent

@@ -2,64 +2,38 @@
 //
 // Changed: one entry of the redirection table with its two flags is a struct, `Entry`, in the place of the Rust's three arrays. Here
 // are the fields of its register; masks became divisions and remainders by powers of two. Its rules are definitions of one entry
-// (specs/Redirection.antt), and the code of crate `vioapic` does them in place. `Option<IoApicInterrupt>` became `Routed`.
+// (specs/Redirection.antt), and the code of crate `vioapic` does them in place. What a call answers says its reply (`ToReply` of `types`).
 
 #![tactic(auto)]
 
 ghost use Rattle.std.specs.Prelude.{◌≡◌, cond};
 ghost use Rattle.utils.specs.Set.{bit};
-ghost use Rattle.vioapic_entry.specs.Answers.{interrupt_reply, routed_reply, is_routed};
+ghost use Rattle.vioapic_entry.specs.Answers.{interrupt_reply};
 ghost use Rattle.vioapic_entry.specs.Redirection.{vector_of, remote_irr, is_level, is_masked, with_remote_irr, without_remote_irr, is_fit, same_low, replace_low, replace_high, without_status, keeps_deferred, awaits};
 
-use types::{Reply, Vector};
+use types::{Reply, ToReply, Vector};
 
 // A redirection entry: its register, whether a level interrupt was deferred, and the level of its input line.
-#[derive(Clone, Copy)]
+#[derive(Clone, Copy, Debug, PartialEq, Eq, Hash)]
 pub struct Entry {
     pub word: u64,
     pub pending_level: bool,
     pub input_level: bool,
 }
 
-// A routed interrupt from the virtual IO APIC.
-#[derive(Clone, Copy)]
+// A routed interrupt from the virtual IO APIC: what an entry asks to inject.
+#[derive(Clone, Copy, Debug, PartialEq, Eq, Hash)]
 pub struct IoApicInterrupt {
     pub vector: Vector,
     pub level_triggered: bool,
 }
 
-// What an entry asks to inject, if anything.
-#[derive(Clone, Copy)]
-pub enum Routed {
-    NotRouted,
-    Interrupt(IoApicInterrupt),
-}
+// The vector, and 1 where it is level-triggered or 0.
+impl ToReply for IoApicInterrupt {
+    ghost reply_of = { interrupt_reply };
 
-impl IoApicInterrupt {
-    pub fn reply(self) -> Reply
-        ensures { result ≡ interrupt_reply self }
-    {
-        Reply::Two(self.vector.0 as u64, types::flag(self.level_triggered))
-    }
-}
-
-impl Routed {
-    pub fn is_routed(self) -> bool
-        ensures { result ≡ is_routed self }
-    {
-        match self {
-            Routed::NotRouted => false,
-            Routed::Interrupt(_) => true,
-        }
-    }
-
-    pub fn reply(self) -> Reply
-        ensures { result ≡ routed_reply self }
-    {
-        match self {
-            Routed::NotRouted => Reply::Nothing,
-            Routed::Interrupt(interrupt) => interrupt.reply(),
-        }
+    fn reply(self) -> Reply {
+        Reply::Two(u64::from(self.vector.0), u64::from(self.level_triggered))
     }
 }
 
