@@ -1,8 +1,9 @@
 -- The word of lines in flight agrees with the table on a new chip, and after every public call on a chip where it agreed. Assumes nothing.
-use Prim.Native.Nat.{ℕ, ◌-◌, ◌%◌, ◌^◌, ◌<◌}
+use Rattle.std.specs.Prelude.{None}
+use Prim.Native.Nat.{ℕ, ◌-◌, ◌%◌, ◌^◌}
 use native.Mathlib.Omega.{arith}
 use mathlib.Core.Bool.{Bool, true, false, cond}
-use mathlib.Core.List.{List, [], ◌∷◌}
+use mathlib.Core.List.{[], ◌∷◌}
 use mathlib.Core.Path.{◌≡◌, refl, ◌∙◌, subst⁻¹}
 use borrow.Author.Tests.{ltb-true}
 use lib.Dec.{eqb, ltb, leb}
@@ -12,12 +13,11 @@ use Rattle.types.specs.declared.Gsi.{Gsi}
 use Rattle.types.specs.declared.Vector.{Vector}
 use Rattle.vioapic_entry.specs.Redirection.{EntryStep, send_entry, move_line, end_entry}
 use Rattle.vioapic.specs.State.{IoApicState}
-use Rattle.vioapic.specs.Table.{Ending, entry_at, put, route_at, unrouted, end_at, ending, interrupt_for_entry, set_level, first_awaiting, end_of_entry, end_of_every, is_version20, end_of}
+use Rattle.vioapic.specs.Table.{Ending, entry_at, route_at, unrouted, end_at, ending, interrupt_for_entry, set_level, first_awaiting, end_of_entry, end_of_every, is_version20, end_of}
 use Rattle.vioapic.specs.Registers.{is_entry_word, entry_of, write_word, done, entry_written, write_selected, eoi_written, write_eoi, with_selector, write_at}
 use Rattle.vioapic.specs.IoApic.{good_width, assert_gsi, set_gsi_level, end_of_interrupt, handle_write}
-use Rattle.vioapic.specs.Calls.{Call, SetGsiLevel, AssertGsi, EndOfInterrupt, VectorForGsi, AddressRange, HandleRead, HandleWrite, outcome, next, run}
+use Rattle.vioapic.specs.Calls.{SetGsiLevel, AssertGsi, EndOfInterrupt, VectorForGsi, AddressRange, HandleRead, HandleWrite, outcome, next, run}
 use Rattle.vioapic.specs.Agreement.{Agrees, end_each_in_table, end_of_every_in_table, NewAgrees, CallsAgree, RunsAgree}
-use Rattle.vioapic.specs.declared.Eoi.TheVariants.{NotEnded}
 use Rattle.vioapic.proofs.Ways.{entry_word_range}
 use Rattle.vioapic.proofs.Flight.{put_agrees}
 use Rattle.vioapic.proofs.Every.{every_in_table}
@@ -43,7 +43,7 @@ module _ (s : IoApicState) (k : Agrees s) where
   unfolding end_of_entry
   first_ended v = go (ltb (first_awaiting s v) 24) refl
     where
-      go : (b : Bool) → ltb (first_awaiting s v) 24 ≡ b → Agrees (cond b (end_at s (first_awaiting s v)) (ending s NotEnded)).state
+      go : (b : Bool) → ltb (first_awaiting s v) 24 ≡ b → Agrees (cond b (end_at s (first_awaiting s v)) (ending s None)).state
       go true e = put_agrees s (first_awaiting s v) (end_entry (entry_at s (first_awaiting s v))).entry k (ltb-true (first_awaiting s v) 24 e)
       go false e = k
 

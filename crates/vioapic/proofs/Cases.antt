@@ -1,5 +1,4 @@
 -- Small runs, computed: for each definition the one that tells it from a wrong one.
-use mathlib.Core.Bool.{true}
 use mathlib.Core.List.{List, [], ◌∷◌}
 use mathlib.Core.Path.{◌≡◌, refl}
 use Prim.Native.Nat.{ℕ}
@@ -7,10 +6,10 @@ use Rattle.utils.specs.Set.{with, without}
 use Rattle.types.specs.Reply.{reply_values}
 use Rattle.vioapic_entry.specs.Redirection.{send_entry, raise_entry, end_entry, end_entry20, write_low, write_high, store_low20, write_low20}
 use Rattle.vioapic.specs.Table.{set_level, interrupt_for_entry, first_awaiting, end_of_entry, end_of_every, end_of}
-use Rattle.vioapic.specs.Registers.{read_fixed, read_word, read_selected, write_word, write_selected, write_eoi, read_at, write_at}
-use Rattle.vioapic.specs.IoApic.{chip_of, new_default, set_gsi_level, assert_gsi, end_of_interrupt, handle_read, handle_write}
+use Rattle.vioapic.specs.Registers.{write_word, write_selected, write_eoi, write_at}
+use Rattle.vioapic.specs.IoApic.{chip_of, new_default, set_gsi_level, assert_gsi, end_of_interrupt, handle_write}
 use Rattle.vioapic.specs.Calls.{Call, HandleWrite, outcome, run}
-use Rattle.vioapic.specs.Departures.{raise, lower, assert, eoi, select, write, read}
+use Rattle.vioapic.specs.Departures.{raise, assert, eoi, select, write}
 
 -- the values that the last of some calls answers, on a chip of a version at address 0 with entries 0 and 1 level entries of vector 0x30
 abbrev after : ℕ → List Call → Call → List ℕ

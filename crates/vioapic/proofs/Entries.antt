@@ -1,7 +1,8 @@
 -- What the code does to an entry in place, part by part, is the entry's rule: l are the words before, w those after. Assumes nothing.
+use Rattle.std.specs.Prelude.{Option, Some, None}
 use Prim.Native.Nat.{ℕ, zero, suc, ◌%◌, ◌^◌, ◌<◌}
 use native.Mathlib.Omega.{arith}
-use mathlib.Core.Bool.{Bool, true, false, not, cond, ◌&&◌, ◌||◌}
+use mathlib.Core.Bool.{Bool, true, false, not, cond, ◌&&◌}
 use mathlib.Core.List.{List, [], ◌∷◌}
 use mathlib.Core.Path.{◌≡◌, refl, sym, ◌∙◌, ap, ap₂, subst}
 use borrow.Author.Tests.{eqb-true, not-true, not-false}
@@ -10,14 +11,13 @@ use lib.ListN.{length, get_or, set, length-set}
 use lib.Seq.{get_or-set_same, get_or-set_other, set-get_or, set-set}
 use Rattle.utils.specs.Set.{bit, marked}
 use Rattle.utils.proofs.Laws.{bit_above, bit_cut}
-use Rattle.utils.proofs.Bools.{never, both, and_true, and_one}
+use Rattle.utils.proofs.Bools.{never, both, and_one}
 use Rattle.utils.specs.Cases.{and_yes, and_left_no, and_right_no, or_left_yes, or_right_yes, or_no}
-use Rattle.vioapic_entry.specs.Redirection.{EntryStep, vector_of, is_fit, is_level, is_masked, remote_irr, same_low, with_remote_irr, without_remote_irr, replace_low, replace_high, with_word, with_deferred, with_input, quietly, sending, send_entry, raise_entry, lower_entry, move_line, end_entry, end_entry20, write_low, write_high, without_status, replace_low20, keeps_deferred, store_low20, is_owed, write_low20}
+use Rattle.vioapic_entry.specs.Redirection.{EntryStep, vector_of, is_fit, is_level, is_masked, remote_irr, same_low, with_remote_irr, without_remote_irr, replace_low, replace_high, with_word, with_deferred, with_input, quietly, sending, send_entry, raise_entry, lower_entry, end_entry, end_entry20, write_low, write_high, without_status, replace_low20, keeps_deferred, store_low20, is_owed, write_low20}
 use Rattle.vioapic_entry.proofs.EntryLaws.{send_unfit, send_edge, send_later, send_level, raise_again, raise_new, lower_is, end_up, end_deferred, end_quiet, end20_asks, end20_quiet, resend_fit, resend_unfit, low_masked, low_same, low_changed, low20_owed, low20_quiet, low20_resting, low20_flying, owed_level, flight_level, flight_edge, flight_still, high_is}
 use Rattle.vioapic_entry.proofs.Fields.{alike_with, alike_low20, same_level, irr_with, irr_without, irr_low, irr_low20, irr_high}
 use Rattle.vioapic_entry.specs.declared.Entry.{Entry}
-use Rattle.vioapic_entry.specs.declared.Routed.{Routed}
-use Rattle.vioapic_entry.specs.declared.Routed.TheVariants.{NotRouted, Interrupt}
+use Rattle.vioapic_entry.specs.declared.IoApicInterrupt.{IoApicInterrupt}
 use Rattle.vioapic.specs.State.{IoApicState, view}
 use Rattle.vioapic.specs.Table.{no_entry, routing, with_flight, noted, put, route_at, entry_at}
 use Rattle.vioapic.specs.Inside.{Keeps, put_flag, parts, NoneDeferred, Quiet, Flown, forgetting}
@@ -68,14 +68,14 @@ module _ (s : IoApicState) (g : ℕ) (f : Entry) where
         λ j. record { base = s.base; size = s.size; version = s.version; selector = s.selector; in_flight = i j; entries = t j }
 
 -- a step that leaves the words as they are; one that puts the entry; and one on words in which a flag was moved
-stays : (l : List ℕ) (g : ℕ) (a : Routed) (x : EntryStep) → x ≡ record { entry = entry_at (view l) g; answer = a } → Keeps l l (routing (view l) a ≡ route_at (view l) g x)
+stays : (l : List ℕ) (g : ℕ) (a : Option IoApicInterrupt) (x : EntryStep) → x ≡ record { entry = entry_at (view l) g; answer = a } → Keeps l l (routing (view l) a ≡ route_at (view l) g x)
 stays l g a x q = still l (rw q (ap (λ (s : IoApicState). routing s a) (sym (put_back (view l) g (entry_at (view l) g) refl))))
 
-steps : (l w : List ℕ) (g : ℕ) (f : Entry) (a : Routed) (x : EntryStep) → Keeps l w (view w ≡ put (view l) g f) → x ≡ record { entry = f; answer = a }
+steps : (l w : List ℕ) (g : ℕ) (f : Entry) (a : Option IoApicInterrupt) (x : EntryStep) → Keeps l w (view w ≡ put (view l) g f) → x ≡ record { entry = f; answer = a }
     → Keeps l w (routing (view w) a ≡ route_at (view l) g x)
 steps l w g f a x k q = so_that k (λ p. rw q (ap (λ (s : IoApicState). routing s a) p))
 
-moves : (l u w : List ℕ) (g : ℕ) (f : Entry) (a : Routed) (x y : EntryStep) → g < 24 → remote_irr f.word ≡ remote_irr (entry_at (view l) g).word
+moves : (l u w : List ℕ) (g : ℕ) (f : Entry) (a : Option IoApicInterrupt) (x y : EntryStep) → g < 24 → remote_irr f.word ≡ remote_irr (entry_at (view l) g).word
     → Keeps l u (view u ≡ put (view l) g f) → Keeps u w (routing (view w) a ≡ route_at (view u) g y) → x ≡ y → Keeps l w (routing (view w) a ≡ route_at (view l) g x)
 moves l u w g f a x y h i b c q =
     then b c
@@ -148,27 +148,27 @@ module _ (l : List ℕ) (g word : ℕ) (at : word ≡ (entry_at (view l) g).word
   fits : (b : Bool) → a ≡ b → is_fit (entry_at (view l) g).word ≡ b
   fits b h = ap is_fit (sym at) ∙ sym fit ∙ h
 
-  pub sent_unfit : not a ≡ true → Keeps l l (routing (view l) NotRouted ≡ route_at (view l) g (send_entry (entry_at (view l) g)))
-  sent_unfit h = stays l g NotRouted (send_entry (entry_at (view l) g)) (send_unfit (entry_at (view l) g) (fits false (not-true a h)))
+  pub sent_unfit : not a ≡ true → Keeps l l (routing (view l) None ≡ route_at (view l) g (send_entry (entry_at (view l) g)))
+  sent_unfit h = stays l g None (send_entry (entry_at (view l) g)) (send_unfit (entry_at (view l) g) (fits false (not-true a h)))
 
   module _ (b : Bool) (is : not a ≡ false) (level : b ≡ is_level word) where
     levels : (c : Bool) → b ≡ c → is_level (entry_at (view l) g).word ≡ c
     levels c h = ap is_level (sym at) ∙ sym level ∙ h
 
-    pub sent_edge : (r : Routed) → not b ≡ true → r ≡ Interrupt (record { vector = vector_of word; level_triggered = false })
+    pub sent_edge : (r : Option IoApicInterrupt) → not b ≡ true → r ≡ Some (record { vector = vector_of word; level_triggered = false })
         → Keeps l l (routing (view l) r ≡ route_at (view l) g (send_entry (entry_at (view l) g)))
     sent_edge r h q =
         let k : is_level (entry_at (view l) g).word ≡ false = levels false (not-true b h) in
         stays l g r (send_entry (entry_at (view l) g)) (send_edge (entry_at (view l) g) (fits true (not-false a is)) k ∙ rw (q, k, at))
 
     module _ (w : List ℕ) (c : Bool) (there : not b ≡ false) (flying : c ≡ remote_irr word) where
-      pub sent_later : c ≡ true → Keeps l w (view w ≡ put (view l) g (with_deferred (entry_at (view l) g) true)) → Keeps l w (routing (view w) NotRouted ≡ route_at (view l) g (send_entry (entry_at (view l) g)))
+      pub sent_later : c ≡ true → Keeps l w (view w ≡ put (view l) g (with_deferred (entry_at (view l) g) true)) → Keeps l w (routing (view w) None ≡ route_at (view l) g (send_entry (entry_at (view l) g)))
       sent_later h k =
-          steps l w g (with_deferred (entry_at (view l) g) true) NotRouted (send_entry (entry_at (view l) g)) k
+          steps l w g (with_deferred (entry_at (view l) g) true) None (send_entry (entry_at (view l) g)) k
           (send_later (entry_at (view l) g) (fits true (not-false a is)) (levels true (not-false b there)) (ap remote_irr (sym at) ∙ sym flying ∙ h))
 
-      pub sent_level : (r : Routed) → c ≡ false → Keeps l w (view w ≡ put (view l) g (with_word (entry_at (view l) g) (with_remote_irr word)))
-          → r ≡ Interrupt (record { vector = vector_of word; level_triggered = true }) → Keeps l w (routing (view w) r ≡ route_at (view l) g (send_entry (entry_at (view l) g)))
+      pub sent_level : (r : Option IoApicInterrupt) → c ≡ false → Keeps l w (view w ≡ put (view l) g (with_word (entry_at (view l) g) (with_remote_irr word)))
+          → r ≡ Some (record { vector = vector_of word; level_triggered = true }) → Keeps l w (routing (view w) r ≡ route_at (view l) g (send_entry (entry_at (view l) g)))
       sent_level r h k q =
           let e : Entry = entry_at (view l) g in
           let m : is_level (with_remote_irr e.word) ≡ true = same_level (alike_with e.word) ∙ levels true (not-false b there) in
@@ -183,9 +183,9 @@ module _ (l : List ℕ) (g word : ℕ) (at : word ≡ (entry_at (view l) g).word
   flying b h = ap remote_irr (sym at) ∙ sym flies ∙ h
 
   pub raised_again : (b : Bool) (w : List ℕ) → not a ≡ false → b ≡ (entry_at (view l) g).input_level → b ≡ true → Keeps l w (view w ≡ put (view l) g (with_deferred (entry_at (view l) g) true))
-      → Keeps l w (routing (view w) NotRouted ≡ route_at (view l) g (raise_entry (entry_at (view l) g)))
+      → Keeps l w (routing (view w) None ≡ route_at (view l) g (raise_entry (entry_at (view l) g)))
   raised_again b w i u h k =
-      steps l w g (with_deferred (entry_at (view l) g) true) NotRouted (raise_entry (entry_at (view l) g)) k
+      steps l w g (with_deferred (entry_at (view l) g) true) None (raise_entry (entry_at (view l) g)) k
       (raise_again (entry_at (view l) g) (and_yes (entry_at (view l) g).input_level (remote_irr (entry_at (view l) g).word) (sym u ∙ h) (flying true (not-false a i))) (sym u ∙ h))
 
   module _ (u : List ℕ) (here : g < 24) (lifted : Keeps l u (view u ≡ put (view l) g (with_input (entry_at (view l) g) true))) where
@@ -195,7 +195,7 @@ module _ (l : List ℕ) (g word : ℕ) (at : word ≡ (entry_at (view l) g).word
     pub word_up : word ≡ (entry_at (view u) g).word
     word_up = at ∙ sym (ap (λ (e : Entry). e.word) up_at)
 
-    module _ (w : List ℕ) (r : Routed) (does : Keeps u w (routing (view w) r ≡ route_at (view u) g (send_entry (entry_at (view u) g)))) where
+    module _ (w : List ℕ) (r : Option IoApicInterrupt) (does : Keeps u w (routing (view w) r ≡ route_at (view u) g (send_entry (entry_at (view u) g)))) where
       anew : ((entry_at (view l) g).input_level && remote_irr (entry_at (view l) g).word) ≡ false → Keeps l w (routing (view w) r ≡ route_at (view l) g (raise_entry (entry_at (view l) g)))
       anew h =
           moves l u w g (with_input (entry_at (view l) g) true) r (raise_entry (entry_at (view l) g)) (send_entry (entry_at (view u) g)) here refl lifted does
@@ -208,25 +208,25 @@ module _ (l : List ℕ) (g word : ℕ) (at : word ≡ (entry_at (view l) g).word
       raised_flying b d h = anew (and_left_no (entry_at (view l) g).input_level (remote_irr (entry_at (view l) g).word) (sym d ∙ h))
 
 pub lowered_plain : (l w : List ℕ) (g : ℕ) (b : Bool) → b ≡ (entry_at (view l) g).pending_level → b ≡ false → Keeps l w (view w ≡ put (view l) g (with_input (entry_at (view l) g) false))
-    → Keeps l w (routing (view w) NotRouted ≡ route_at (view l) g (lower_entry (entry_at (view l) g)))
+    → Keeps l w (routing (view w) None ≡ route_at (view l) g (lower_entry (entry_at (view l) g)))
 lowered_plain l w g b d h k =
     let e : Entry = entry_at (view l) g in
     let n : e ≡ with_deferred e false = ap (with_deferred e) (sym d ∙ h) in
-    steps l w g (with_input e false) NotRouted (lower_entry e) k (lower_is e ∙ ap (λ (x : Entry). quietly (with_input x false)) (sym n))
+    steps l w g (with_input e false) None (lower_entry e) k (lower_is e ∙ ap (λ (x : Entry). quietly (with_input x false)) (sym n))
 
 pub lowered : (l u w : List ℕ) (g : ℕ) → g < 24 → Keeps l u (view u ≡ put (view l) g (with_deferred (entry_at (view l) g) false)) → Keeps u w (view w ≡ put (view u) g (with_input (entry_at (view u) g) false))
-    → Keeps l w (routing (view w) NotRouted ≡ route_at (view l) g (lower_entry (entry_at (view l) g)))
+    → Keeps l w (routing (view w) None ≡ route_at (view l) g (lower_entry (entry_at (view l) g)))
 lowered l u w g h b c =
     let f : Entry = with_deferred (entry_at (view l) g) false in
     let q : entry_at (view u) g ≡ f = ap (λ (s : IoApicState). entry_at s g) b.is ∙ at_put (view l) g f (view_long l) h in
-    moves l u w g f NotRouted (lower_entry (entry_at (view l) g)) (quietly (with_input (entry_at (view u) g) false)) h refl b
-    (steps u w g (with_input (entry_at (view u) g) false) NotRouted (quietly (with_input (entry_at (view u) g) false)) c refl)
+    moves l u w g f None (lower_entry (entry_at (view l) g)) (quietly (with_input (entry_at (view u) g) false)) h refl b
+    (steps u w g (with_input (entry_at (view u) g) false) None (quietly (with_input (entry_at (view u) g) false)) c refl)
     (lower_is (entry_at (view l) g) ∙ ap (λ (e : Entry). quietly (with_input e false)) (sym q))
 
 -- ---- an EOI
 
 module _ (l : List ℕ) (g word : ℕ) (at : word ≡ (entry_at (view l) g).word) (a : Bool) (fit : a ≡ is_fit word) where
-  pub resent_fit : (r : Routed) → remote_irr word ≡ true → is_level word ≡ true → a ≡ true → r ≡ Interrupt (record { vector = vector_of word; level_triggered = true })
+  pub resent_fit : (r : Option IoApicInterrupt) → remote_irr word ≡ true → is_level word ≡ true → a ≡ true → r ≡ Some (record { vector = vector_of word; level_triggered = true })
       → Keeps l l (routing (view l) r ≡ route_at (view l) g (send_entry (with_word (entry_at (view l) g) (without_remote_irr word))))
   resent_fit r i k h q =
       let e : Entry = entry_at (view l) g in
@@ -236,9 +236,9 @@ module _ (l : List ℕ) (g word : ℕ) (at : word ≡ (entry_at (view l) g).word
       stays l g r (send_entry (with_word e (without_remote_irr word))) (ap (λ (n : ℕ). send_entry (with_word e (without_remote_irr n))) at ∙ p ∙ z)
 
   pub resent_unfit : (w : List ℕ) → a ≡ false → Keeps l w (view w ≡ put (view l) g (with_word (entry_at (view l) g) (without_remote_irr word)))
-      → Keeps l w (routing (view w) NotRouted ≡ route_at (view l) g (send_entry (with_word (entry_at (view l) g) (without_remote_irr word))))
+      → Keeps l w (routing (view w) None ≡ route_at (view l) g (send_entry (with_word (entry_at (view l) g) (without_remote_irr word))))
   resent_unfit w h k =
-      steps l w g (with_word (entry_at (view l) g) (without_remote_irr word)) NotRouted (send_entry (with_word (entry_at (view l) g) (without_remote_irr word))) k
+      steps l w g (with_word (entry_at (view l) g) (without_remote_irr word)) None (send_entry (with_word (entry_at (view l) g) (without_remote_irr word))) k
       (rw at (resend_unfit (entry_at (view l) g) (rw (← at) (sym fit ∙ h))))
 
 -- words in which what was deferred is forgotten
@@ -250,13 +250,13 @@ module _ (l u : List ℕ) (g word : ℕ) (here : g < 24) (at : word ≡ (entry_a
   word_down = at ∙ sym (ap (λ (e : Entry). e.word) down_at)
 
   -- sent again from there
-  afresh : (w : List ℕ) (a : Routed) (x : EntryStep) → x ≡ send_entry (with_word (with_deferred (entry_at (view l) g) false) (without_remote_irr (entry_at (view l) g).word))
+  afresh : (w : List ℕ) (a : Option IoApicInterrupt) (x : EntryStep) → x ≡ send_entry (with_word (with_deferred (entry_at (view l) g) false) (without_remote_irr (entry_at (view l) g).word))
       → Keeps u w (routing (view w) a ≡ route_at (view u) g (send_entry (with_word (entry_at (view u) g) (without_remote_irr word)))) → Keeps l w (routing (view w) a ≡ route_at (view l) g x)
   afresh w a x q k =
       moves l u w g (with_deferred (entry_at (view l) g) false) a x (send_entry (with_word (entry_at (view u) g) (without_remote_irr word))) here refl forgot k
       (q ∙ ap₂ (λ (e : Entry) (n : ℕ). send_entry (with_word e (without_remote_irr n))) (sym down_at) (sym at))
 
-  module _ (b : Bool) (was : b ≡ (entry_at (view l) g).pending_level) (w : List ℕ) (a : Routed) where
+  module _ (b : Bool) (was : b ≡ (entry_at (view l) g).pending_level) (w : List ℕ) (a : Option IoApicInterrupt) where
     pub ended_deferred : (c : Bool) → c ≡ (entry_at (view l) g).input_level → c ≡ false → not b ≡ false
         → Keeps u w (routing (view w) a ≡ route_at (view u) g (send_entry (with_word (entry_at (view u) g) (without_remote_irr word)))) → Keeps l w (routing (view w) a ≡ route_at (view l) g (end_entry (entry_at (view l) g)))
     ended_deferred c p q h = afresh w a (end_entry (entry_at (view l) g)) (end_deferred (entry_at (view l) g) (sym p ∙ q) (sym was ∙ not-false b h))
@@ -266,21 +266,21 @@ module _ (l u : List ℕ) (g word : ℕ) (here : g < 24) (at : word ≡ (entry_a
     ended20_deferred h = afresh w a (end_entry20 (entry_at (view l) g)) (end20_asks (entry_at (view l) g) (or_right_yes (entry_at (view l) g).input_level (entry_at (view l) g).pending_level (sym was ∙ h)))
 
 module _ (l w : List ℕ) (g word : ℕ) (at : word ≡ (entry_at (view l) g).word) (c : Bool) (line : c ≡ (entry_at (view l) g).input_level) where
-  pub ended_up : (a : Routed) → c ≡ true → Keeps l w (routing (view w) a ≡ route_at (view l) g (send_entry (with_word (entry_at (view l) g) (without_remote_irr word)))) → Keeps l w (routing (view w) a ≡ route_at (view l) g (end_entry (entry_at (view l) g)))
+  pub ended_up : (a : Option IoApicInterrupt) → c ≡ true → Keeps l w (routing (view w) a ≡ route_at (view l) g (send_entry (with_word (entry_at (view l) g) (without_remote_irr word)))) → Keeps l w (routing (view w) a ≡ route_at (view l) g (end_entry (entry_at (view l) g)))
   ended_up a h k = so_that k (λ p. p ∙ ap (route_at (view l) g) (ap (λ (n : ℕ). send_entry (with_word (entry_at (view l) g) (without_remote_irr n))) at ∙ sym (end_up (entry_at (view l) g) (sym line ∙ h))))
 
   module _ (b : Bool) (was : b ≡ (entry_at (view l) g).pending_level) where
     pub ended_quiet : c ≡ false → not b ≡ true → Keeps l w (view w ≡ put (view l) g (with_word (entry_at (view l) g) (without_remote_irr word)))
-        → Keeps l w (routing (view w) NotRouted ≡ route_at (view l) g (end_entry (entry_at (view l) g)))
+        → Keeps l w (routing (view w) None ≡ route_at (view l) g (end_entry (entry_at (view l) g)))
     ended_quiet h d k =
-        steps l w g (with_word (entry_at (view l) g) (without_remote_irr word)) NotRouted (end_entry (entry_at (view l) g)) k
+        steps l w g (with_word (entry_at (view l) g) (without_remote_irr word)) None (end_entry (entry_at (view l) g)) k
         (end_quiet (entry_at (view l) g) (sym line ∙ h) (sym was ∙ not-true b d) ∙ rw at)
 
     module _ (none : b ≡ false) where
       nothing : with_deferred (entry_at (view l) g) false ≡ entry_at (view l) g
       nothing = ap (with_deferred (entry_at (view l) g)) (sym (sym was ∙ none))
 
-      pub ended20_up : (a : Routed) → c ≡ true → Keeps l w (routing (view w) a ≡ route_at (view l) g (send_entry (with_word (entry_at (view l) g) (without_remote_irr word))))
+      pub ended20_up : (a : Option IoApicInterrupt) → c ≡ true → Keeps l w (routing (view w) a ≡ route_at (view l) g (send_entry (with_word (entry_at (view l) g) (without_remote_irr word))))
           → Keeps l w (routing (view w) a ≡ route_at (view l) g (end_entry20 (entry_at (view l) g)))
       ended20_up a h k =
           so_that k
@@ -289,9 +289,9 @@ module _ (l w : List ℕ) (g word : ℕ) (at : word ≡ (entry_at (view l) g).wo
           ∙ sym (end20_asks (entry_at (view l) g) (or_left_yes (entry_at (view l) g).input_level (entry_at (view l) g).pending_level (sym line ∙ h)))))
 
       pub ended20_quiet : c ≡ false → Keeps l w (view w ≡ put (view l) g (with_word (entry_at (view l) g) (without_remote_irr word)))
-          → Keeps l w (routing (view w) NotRouted ≡ route_at (view l) g (end_entry20 (entry_at (view l) g)))
+          → Keeps l w (routing (view w) None ≡ route_at (view l) g (end_entry20 (entry_at (view l) g)))
       ended20_quiet h k =
-          steps l w g (with_word (entry_at (view l) g) (without_remote_irr word)) NotRouted (end_entry20 (entry_at (view l) g)) k
+          steps l w g (with_word (entry_at (view l) g) (without_remote_irr word)) None (end_entry20 (entry_at (view l) g)) k
           (end20_quiet (entry_at (view l) g) (or_no (entry_at (view l) g).input_level (entry_at (view l) g).pending_level (sym line ∙ h) (sym was ∙ none))
           ∙ ap₂ (λ (e : Entry) (n : ℕ). quietly (with_word e (without_remote_irr n))) nothing (sym at))
 
@@ -436,12 +436,12 @@ module _ (l u : List ℕ) (g x word : ℕ) (here : g < 24) (at : word ≡ (entry
   laid_at = ap (λ (s : IoApicState). entry_at s g) laid.is ∙ at_put (view l) g (with_word (entry_at (view l) g) (replace_low20 word x)) (view_long l) here
 
   -- the line down and nothing deferred, at rest
-  pub low20_rested : (b : Bool) → a ≡ false → (b ≡ true → Quiet (entry_at (view u) g)) → b ≡ true → Keeps l u (routing (view u) NotRouted ≡ route_at (view l) g (write_low20 (entry_at (view l) g) x))
+  pub low20_rested : (b : Bool) → a ≡ false → (b ≡ true → Quiet (entry_at (view u) g)) → b ≡ true → Keeps l u (routing (view u) None ≡ route_at (view l) g (write_low20 (entry_at (view l) g) x))
   low20_rested b f is h =
       let e : Entry = entry_at (view l) g in
       let q : Quiet (with_word e (replace_low20 word x)) = subst Quiet laid_at (is h) in
       let i : remote_irr word ≡ false = sym flies ∙ f in
-      steps l u g (with_word e (replace_low20 word x)) NotRouted (write_low20 e x) laid
+      steps l u g (with_word e (replace_low20 word x)) None (write_low20 e x) laid
       (low20_resting e x (ap remote_irr (sym at) ∙ i) q.undeferred q.down
       ∙ ap (λ (n : ℕ). quietly (with_word e n)) (ap (λ (n : ℕ). replace_low n (without_status x)) (sym at) ∙ flight_still word x i))
 
@@ -464,10 +464,10 @@ module _ (l u : List ℕ) (g x word : ℕ) (here : g < 24) (at : word ≡ (entry
     stored_at : entry_at (view w) g ≡ store_low20 (entry_at (view l) g) x
     stored_at = ap (λ (s : IoApicState). entry_at s g) stored.is ∙ at_put (view l) g (store_low20 (entry_at (view l) g) x) (view_long l) here
 
-    pub low20_flown : a ≡ true → Keeps l w (routing (view w) NotRouted ≡ route_at (view l) g (write_low20 (entry_at (view l) g) x))
+    pub low20_flown : a ≡ true → Keeps l w (routing (view w) None ≡ route_at (view l) g (write_low20 (entry_at (view l) g) x))
     low20_flown h =
         let e : Entry = entry_at (view l) g in
-        steps l w g (store_low20 e x) NotRouted (write_low20 e x) stored (low20_quiet e x (low20_flying e x (ap remote_irr (sym at) ∙ sym flies ∙ h)))
+        steps l w g (store_low20 e x) None (write_low20 e x) stored (low20_quiet e x (low20_flying e x (ap remote_irr (sym at) ∙ sym flies ∙ h)))
 
     -- the register then, of an entry that was at rest
     pub word_stored : (y : ℕ) → a ≡ false → y ≡ replace_low word (without_status x) → y ≡ (entry_at (view w) g).word
@@ -486,20 +486,20 @@ module _ (l u : List ℕ) (g x word : ℕ) (here : g < 24) (at : word ≡ (entry
           let p : is_level (replace_low20 n x) ≡ true = owed_level (store_low20 (entry_at (view l) g) x) (owing true h) in
           irr_low20 n x ∙ ap (λ (c : Bool). c && remote_irr n) (sym (same_level (alike_low20 n x)) ∙ p)
 
-      pub low20_sent : (v : List ℕ) (r : Routed) → b ≡ true → Keeps w v (routing (view v) r ≡ route_at (view w) g (send_entry (entry_at (view w) g)))
+      pub low20_sent : (v : List ℕ) (r : Option IoApicInterrupt) → b ≡ true → Keeps w v (routing (view v) r ≡ route_at (view w) g (send_entry (entry_at (view w) g)))
           → Keeps l v (routing (view v) r ≡ route_at (view l) g (write_low20 (entry_at (view l) g) x))
       low20_sent v r h k =
           moves l w v g (store_low20 (entry_at (view l) g) x) r (write_low20 (entry_at (view l) g) x) (send_entry (entry_at (view w) g)) here (as_before h) stored k
           (low20_owed (entry_at (view l) g) x (owing true h) ∙ ap send_entry (sym stored_at))
 
-      pub low20_unsent : b ≡ false → Keeps l w (routing (view w) NotRouted ≡ route_at (view l) g (write_low20 (entry_at (view l) g) x))
+      pub low20_unsent : b ≡ false → Keeps l w (routing (view w) None ≡ route_at (view l) g (write_low20 (entry_at (view l) g) x))
       low20_unsent h =
-          steps l w g (store_low20 (entry_at (view l) g) x) NotRouted (write_low20 (entry_at (view l) g) x) stored (low20_quiet (entry_at (view l) g) x (owing false h))
+          steps l w g (store_low20 (entry_at (view l) g) x) None (write_low20 (entry_at (view l) g) x) stored (low20_quiet (entry_at (view l) g) x (owing false h))
 
 -- in flight as before, with nothing to be forgotten
 pub low20_stayed : (l u : List ℕ) (g x word : ℕ) → g < 24 → word ≡ (entry_at (view l) g).word → (b : Bool)
     → Keeps l u (view u ≡ put (view l) g (with_word (entry_at (view l) g) (replace_low20 word x))) → (b ≡ true → Flown word (entry_at (view l) g)) → b ≡ true
-    → Keeps l u (routing (view u) NotRouted ≡ route_at (view l) g (write_low20 (entry_at (view l) g) x))
+    → Keeps l u (routing (view u) None ≡ route_at (view l) g (write_low20 (entry_at (view l) g) x))
 low20_stayed l u g x word here at b laid is h =
     let f : Entry = with_word (entry_at (view l) g) (replace_low20 word x) in
     let none : (entry_at (view u) g).pending_level ≡ false =

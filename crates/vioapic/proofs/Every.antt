@@ -1,4 +1,5 @@
 -- An EOI of version 0x20, entry after entry: when the entries below i have had their turn. Assumes nothing.
+use Rattle.std.specs.Prelude.{Option, Some, None}
 use Prim.Native.Nat.{ℕ, zero, suc, ◌+◌, ◌*◌, ◌/◌, ◌%◌, ◌^◌, ◌<◌}
 use native.Mathlib.Nat.{mod-lt}
 use native.Mathlib.Omega.{arith}
@@ -19,13 +20,13 @@ use Rattle.types.specs.declared.Vector.{Vector}
 use Rattle.vioapic_entry.specs.Answers.{is_routed}
 use Rattle.vioapic_entry.specs.Redirection.{remote_irr, awaits, end_entry20}
 use Rattle.vioapic_entry.specs.declared.Entry.{Entry}
-use Rattle.vioapic_entry.specs.declared.Routed.{Routed}
+use Rattle.vioapic_entry.specs.declared.IoApicInterrupt.{IoApicInterrupt}
 use Rattle.vioapic.specs.State.{IoApicState, view}
 use Rattle.vioapic.specs.Table.{Routing, routing, route_at, no_entry, entry_at, with_entries, with_flight, noted, put, ends, end_each, flies_on, sent_by, every_answer, map_entries, ending, end_of_entry, end_of_every, end_of}
 use Rattle.vioapic.specs.Inside.{Keeps, EveryEnd, every_end, end_next, every_ending, cleared_in, sent_in}
 use Rattle.vioapic.specs.Agreement.{Agrees, end_each_in_table, sent_in_table, end_of_entry_in_table, end_of_every_in_table, end_of_in_table, EndsInTable}
 use Rattle.vioapic.specs.declared.Ends.{Ends}
-use Rattle.vioapic.specs.declared.Eoi.TheVariants.{NotEnded, EndedAll}
+use Rattle.vioapic.specs.declared.Eoi.TheVariants.{EndedAll}
 use Rattle.vioapic.proofs.Words.{view_long, view_small, still, then, so_that}
 use Rattle.vioapic.proofs.Flight.{agrees_at, agrees_flying, awaits_flying, noted_marked, first_in_table_lem}
 
@@ -197,10 +198,10 @@ number_same a b h k p q =
     let n : a.0 ≡ b.0 = sym (recompose 24 24 h) ∙ ap₂ (λ (x y : ℕ). x * 2 ^ 24 + y) q p ∙ recompose 24 24 k in
     λ i. record { 0 = n i }
 
-pub no_answer : (n : Ends) → cleared_in n ≡ 0 → NotEnded ≡ every_answer (cleared_in n) (sent_in n)
+pub no_answer : (n : Ends) → cleared_in n ≡ 0 → None ≡ every_answer (cleared_in n) (sent_in n)
 no_answer n h = rw (eq-eqb (cleared_in n) 0 h)
 
-pub some_answer : (n : Ends) → (cleared_in n ≡ 0 → ⊥) → EndedAll (record { cleared = cleared_in n; sent = sent_in n }) ≡ every_answer (cleared_in n) (sent_in n)
+pub some_answer : (n : Ends) → (cleared_in n ≡ 0 → ⊥) → Some (EndedAll (record { cleared = cleared_in n; sent = sent_in n })) ≡ every_answer (cleared_in n) (sent_in n)
 some_answer n h = rw (ne_eqb (cleared_in n) 0 h)
 
 -- ---- the loop: one entry's turn, the step and the end. l are the words before, w those after
@@ -209,7 +210,7 @@ module _ (v : Vector) (l : List ℕ) (ends : Ends) (g : ℕ) (b : Bool) (is : b 
   pub turn_passed : not b ≡ true → Keeps l l (every_end (view l) (cleared_in ends) (sent_in ends) ≡ end_next v (every_end (view l) (cleared_in ends) (sent_in ends)) g)
   turn_passed h = still l (rw (sym is ∙ not-true b h))
 
-  module _ (w : List ℕ) (a : Routed) (c : ℕ) (d : Bool) (here : g < 24) (there : not b ≡ false) (does : Keeps l w (routing (view w) a ≡ route_at (view l) g (end_entry20 (entry_at (view l) g))))
+  module _ (w : List ℕ) (a : Option IoApicInterrupt) (c : ℕ) (d : Bool) (here : g < 24) (there : not b ≡ false) (does : Keeps l w (routing (view w) a ≡ route_at (view l) g (end_entry20 (entry_at (view l) g))))
       (grew : c ≡ with ends.0 g) (says : d ≡ is_routed a) where
     turn : (y : Bool) (n : Ends) → d ≡ y → cleared_in n ≡ with (cleared_in ends) g → sent_in n ≡ cond y (with (sent_in ends) g) (sent_in ends)
         → Keeps l w (every_end (view w) (cleared_in n) (sent_in n) ≡ end_next v (every_end (view l) (cleared_in ends) (sent_in ends)) g)

@@ -1,4 +1,5 @@
 -- Nothing is lost in an outcome: each answer can be read back from its reply, a write's with its address, so equal outcomes come from equal results. Assumes nothing.
+use Rattle.std.specs.Prelude.{Option, Some, None, Result, Ok, Err}
 use Prim.Native.Nat.{ℕ, zero, suc, ◌+◌, ◌-◌, ◌/◌, ◌%◌, ◌^◌, ◌<◌}
 use native.Mathlib.Nat.{mod-lt}
 use native.Mathlib.Omega.{arith}
@@ -7,7 +8,7 @@ use mathlib.Core.List.{List}
 use mathlib.Core.Path.{◌≡◌, refl, sym, ◌∙◌, ap, subst⁻¹}
 use borrow.Author.Tests.{ltb-true, ltb-false}
 use lib.Dec.{eqb, ltb, leb, lit<}
-use lib.ListN.{length, get_or}
+use lib.ListN.{get_or}
 use lib.Seq.{ext_get_or}
 use Rattle.utils.specs.Set.{bit}
 use Rattle.utils.proofs.Bools.{never}
@@ -15,12 +16,11 @@ use Rattle.utils.proofs.Laws.{same_bits, bit_cut}
 use Rattle.types.specs.Reply.{Outcome}
 use Rattle.types.specs.declared.Refusal.TheVariants.{Unsupported, InvalidAddress}
 use Rattle.types.specs.declared.Reply.{Reply}
+use Rattle.types.specs.declared.Vector.{Vector}
 use Rattle.types.specs.declared.Reply.TheVariants.{Refused, Nothing, One, Two, Three}
 use Rattle.vioapic_entry.proofs.Same.{same, interrupt_of, interrupt_back, routed_of, routed_back}
 use Rattle.vioapic_entry.specs.declared.IoApicInterrupt.{IoApicInterrupt}
-use Rattle.vioapic_entry.specs.declared.Routed.{Routed}
-use Rattle.vioapic_entry.specs.declared.Routed.TheVariants.{NotRouted, Interrupt}
-use Rattle.vioapic.specs.Answers.{eoi_reply, gsi_vector_reply, read_reply, written_reply, range_reply}
+use Rattle.vioapic.specs.Answers.{eoi_reply, gsi_vector_reply, read_reply, written_reply, new_reply, range_reply}
 use Rattle.vioapic_entry.specs.declared.Entry.{Entry}
 use Rattle.vioapic_entry.specs.Redirection.{EntryStep}
 use Rattle.vioapic.specs.State.{IoApicState, entry_in, view, spare, Whole}
@@ -29,112 +29,125 @@ use Rattle.vioapic.specs.Registers.{Writing, writing, done, is_entry_word, entry
 use Rattle.vioapic.proofs.Words.{view_at}
 use Rattle.vioapic.specs.IoApic.{routing_outcome, ending_outcome, writing_outcome, good_width, handle_writing}
 use Rattle.vioapic.specs.declared.Eoi.{Eoi}
-use Rattle.vioapic.specs.declared.Eoi.TheVariants.{NotEnded, Ended, EndedAll}
-use Rattle.vioapic.specs.declared.GsiVector.{GsiVector}
-use Rattle.vioapic.specs.declared.GsiVector.TheVariants.{NoVector, Programmed}
-use Rattle.vioapic.specs.declared.Read.{Read}
-use Rattle.vioapic.specs.declared.Read.TheVariants.{Value, NotRead}
+use Rattle.vioapic.specs.declared.Eoi.TheVariants.{Ended, EndedAll}
 use Rattle.vioapic.specs.declared.Written.{Written}
 use Rattle.vioapic.specs.declared.Written.TheVariants as written
 use Rattle.vioapic.specs.declared.AddressRange.{AddressRange}
-use Rattle.vioapic.specs.declared.AddressRange.TheVariants.{Between, NoRange}
+use Rattle.types.specs.declared.Refusal.{Refusal}
 
 -- ---- answers
 
-abbrev ended_of : ℕ → Routed → Eoi
-ended_of g r = Ended (record { gsi = record { 0 = g }; pending = r })
+abbrev ended_of : ℕ → Option IoApicInterrupt → Option Eoi
+ended_of g r = Some (Ended (record { gsi = record { 0 = g }; pending = r }))
 
-abbrev eoi_of : Reply → Eoi
-eoi_of (Refused why) = NotEnded
-eoi_of Nothing = NotEnded
-eoi_of (One g) = ended_of g NotRouted
-eoi_of (Two cleared sent) = EndedAll (record { cleared = cleared; sent = sent })
-eoi_of (Three g v l) = ended_of g (Interrupt (interrupt_of v l))
+abbrev eoi_of : Reply → Option Eoi
+eoi_of (Refused why) = None
+eoi_of Nothing = None
+eoi_of (One g) = ended_of g None
+eoi_of (Two cleared sent) = Some (EndedAll (record { cleared = cleared; sent = sent }))
+eoi_of (Three g v l) = ended_of g (Some (interrupt_of v l))
 
-eoi_back : (r : Eoi) → eoi_of (eoi_reply r) ≡ r
-eoi_back NotEnded = refl
-eoi_back (Ended e) = go e.gsi.0 e.pending
+eoi_back : (r : Option Eoi) → eoi_of (eoi_reply r) ≡ r
+eoi_back None = refl
+eoi_back (Some (Ended e)) = go e.gsi.0 e.pending
   where
-    go : (g : ℕ) (r : Routed) → eoi_of (eoi_reply (ended_of g r)) ≡ ended_of g r
-    go g NotRouted = refl
-    go g (Interrupt i) = ap (λ (x : IoApicInterrupt). ended_of g (Interrupt x)) (interrupt_back i)
-eoi_back (EndedAll e) = refl
+    go : (g : ℕ) (r : Option IoApicInterrupt) → eoi_of (eoi_reply (ended_of g r)) ≡ ended_of g r
+    go g None = refl
+    go g (Some i) = ap (λ (x : IoApicInterrupt). ended_of g (Some x)) (interrupt_back i)
+eoi_back (Some (EndedAll e)) = refl
 
-pub eoi_reply_same : (a b : Eoi) → eoi_reply a ≡ eoi_reply b → a ≡ b
+pub eoi_reply_same : (a b : Option Eoi) → eoi_reply a ≡ eoi_reply b → a ≡ b
 eoi_reply_same = same eoi_reply eoi_of eoi_back
 
-abbrev gsi_vector_of : Reply → GsiVector
-gsi_vector_of (Refused why) = NoVector
-gsi_vector_of Nothing = NoVector
-gsi_vector_of (One v) = Programmed (record { 0 = v })
-gsi_vector_of (Two a b) = NoVector
-gsi_vector_of (Three a b c) = NoVector
+abbrev gsi_vector_of : Reply → Option Vector
+gsi_vector_of (Refused why) = None
+gsi_vector_of Nothing = None
+gsi_vector_of (One v) = Some (record { 0 = v })
+gsi_vector_of (Two a b) = None
+gsi_vector_of (Three a b c) = None
 
-gsi_vector_back : (r : GsiVector) → gsi_vector_of (gsi_vector_reply r) ≡ r
-gsi_vector_back NoVector = refl
-gsi_vector_back (Programmed v) = refl
+gsi_vector_back : (r : Option Vector) → gsi_vector_of (gsi_vector_reply r) ≡ r
+gsi_vector_back None = refl
+gsi_vector_back (Some v) = refl
 
-pub gsi_vector_reply_same : (a b : GsiVector) → gsi_vector_reply a ≡ gsi_vector_reply b → a ≡ b
+pub gsi_vector_reply_same : (a b : Option Vector) → gsi_vector_reply a ≡ gsi_vector_reply b → a ≡ b
 gsi_vector_reply_same = same gsi_vector_reply gsi_vector_of gsi_vector_back
 
-abbrev read_of : Reply → Read
-read_of (Refused why) = NotRead why
-read_of Nothing = Value 0
-read_of (One x) = Value x
-read_of (Two a b) = Value a
-read_of (Three a b c) = Value a
+abbrev read_of : Reply → Result ℕ Refusal
+read_of (Refused why) = Err why
+read_of Nothing = Ok 0
+read_of (One x) = Ok x
+read_of (Two a b) = Ok a
+read_of (Three a b c) = Ok a
 
-read_back : (r : Read) → read_of (read_reply r) ≡ r
-read_back (Value x) = refl
-read_back (NotRead why) = refl
+read_back : (r : Result ℕ Refusal) → read_of (read_reply r) ≡ r
+read_back (Ok x) = refl
+read_back (Err why) = refl
 
-pub read_reply_same : (a b : Read) → read_reply a ≡ read_reply b → a ≡ b
+pub read_reply_same : (a b : Result ℕ Refusal) → read_reply a ≡ read_reply b → a ≡ b
 read_reply_same = same read_reply read_of read_back
+
+abbrev new_of : Reply → Result (Unit {0}) Refusal
+new_of (Refused why) = Err why
+new_of Nothing = Ok tt
+new_of (One a) = Ok tt
+new_of (Two a b) = Ok tt
+new_of (Three a b c) = Ok tt
+
+new_back : (r : Result (Unit {0}) Refusal) → new_of (new_reply r) ≡ r
+new_back (Ok done) = refl
+new_back (Err why) = refl
+
+pub new_reply_same : (a b : Result (Unit {0}) Refusal) → new_reply a ≡ new_reply b → a ≡ b
+new_reply_same = same new_reply new_of new_back
 
 -- a write that sends and one that is an EOI may have the same reply
 pub written_reply_shared :
-    written_reply (written.Sent (record { vector = record { 0 = 0x30 }; level_triggered = true })) ≡ written_reply (written.EndedAll (record { cleared = 0x30; sent = 1 }))
+    written_reply (Ok (written.Sent (record { vector = record { 0 = 0x30 }; level_triggered = true }))) ≡ written_reply (Ok (written.EndedAll (record { cleared = 0x30; sent = 1 })))
 written_reply_shared = refl
 
 -- but only a write to the window sends, and it is no EOI
-abbrev pub Tells : Bool → Written → Type 0
-Tells window written.Done = Unit
-Tells window (written.Sent i) = window ≡ true
-Tells window (written.EndedAll e) = window ≡ false
-Tells window (written.NotWritten why) = Unit
+abbrev pub Tells : Bool → Result Written Refusal → Type 0
+Tells window (Ok written.Done) = Unit
+Tells window (Ok (written.Sent i)) = window ≡ true
+Tells window (Ok (written.EndedAll e)) = window ≡ false
+Tells window (Err why) = Unit
 
-abbrev written_of : Bool → Reply → Written
-written_of window (Refused why) = written.NotWritten why
-written_of window Nothing = written.Done
-written_of window (One a) = written.Done
-written_of true (Two v l) = written.Sent (interrupt_of v l)
-written_of false (Two cleared sent) = written.EndedAll (record { cleared = cleared; sent = sent })
-written_of window (Three a b c) = written.Done
+abbrev written_of : Bool → Reply → Result Written Refusal
+written_of window (Refused why) = Err why
+written_of window Nothing = Ok written.Done
+written_of window (One a) = Ok written.Done
+written_of true (Two v l) = Ok (written.Sent (interrupt_of v l))
+written_of false (Two cleared sent) = Ok (written.EndedAll (record { cleared = cleared; sent = sent }))
+written_of window (Three a b c) = Ok written.Done
 
-written_back : (window : Bool) (r : Written) → Tells window r → written_of window (written_reply r) ≡ r
-written_back window written.Done t = refl
-written_back true (written.Sent i) t = ap written.Sent (interrupt_back i)
-written_back false (written.Sent i) t = never t refl
-written_back true (written.EndedAll e) t = never refl t
-written_back false (written.EndedAll e) t = refl
-written_back window (written.NotWritten why) t = refl
+written_back : (window : Bool) (r : Result Written Refusal) → Tells window r → written_of window (written_reply r) ≡ r
+written_back window (Ok written.Done) t = refl
+written_back true (Ok (written.Sent i)) t = ap (λ (x : IoApicInterrupt). Ok (written.Sent x)) (interrupt_back i)
+written_back false (Ok (written.Sent i)) t = never t refl
+written_back true (Ok (written.EndedAll e)) t = never refl t
+written_back false (Ok (written.EndedAll e)) t = refl
+written_back window (Err why) t = refl
 
 -- so with the place of the write known, nothing is lost
-pub written_reply_same : (window : Bool) (a b : Written) → Tells window a → Tells window b → written_reply a ≡ written_reply b → a ≡ b
+pub written_reply_same : (window : Bool) (a b : Result Written Refusal) → Tells window a → Tells window b → written_reply a ≡ written_reply b → a ≡ b
 written_reply_same window a b t u e = sym (written_back window a t) ∙ ap (written_of window) e ∙ written_back window b u
 
-abbrev range_of : Reply → AddressRange
-range_of (Refused why) = NoRange why
-range_of Nothing = Between 0 0
-range_of (One a) = Between a a
-range_of (Two a b) = Between a b
-range_of (Three a b c) = Between a b
+abbrev between : ℕ → ℕ → Result AddressRange Refusal
+between a b = Ok (record { start = a; end = b })
 
-range_back : (r : AddressRange) → range_of (range_reply r) ≡ r
-range_back (Between a b) = refl
-range_back (NoRange why) = refl
+abbrev range_of : Reply → Result AddressRange Refusal
+range_of (Refused why) = Err why
+range_of Nothing = between 0 0
+range_of (One a) = between a a
+range_of (Two a b) = between a b
+range_of (Three a b c) = between a b
 
-pub range_reply_same : (a b : AddressRange) → range_reply a ≡ range_reply b → a ≡ b
+range_back : (r : Result AddressRange Refusal) → range_of (range_reply r) ≡ r
+range_back (Ok r) = refl
+range_back (Err why) = refl
+
+pub range_reply_same : (a b : Result AddressRange Refusal) → range_reply a ≡ range_reply b → a ≡ b
 range_reply_same = same range_reply range_of range_back
 
 -- ---- results
@@ -153,14 +166,14 @@ ending_same =
 abbrev at_window : IoApicState → ℕ → Bool
 at_window m addr = eqb (addr - m.base) 0x10
 
-send_tells : (r : Routed) → Tells true (written_send r)
-send_tells NotRouted = tt
-send_tells (Interrupt i) = refl
+send_tells : (r : Option IoApicInterrupt) → Tells true (Ok (written_send r))
+send_tells None = tt
+send_tells (Some i) = refl
 
-eoi_tells : (r : Eoi) → Tells false (written_by r)
-eoi_tells NotEnded = tt
-eoi_tells (Ended e) = tt
-eoi_tells (EndedAll e) = refl
+eoi_tells : (r : Option Eoi) → Tells false (Ok (written_by r))
+eoi_tells None = tt
+eoi_tells (Some (Ended e)) = tt
+eoi_tells (Some (EndedAll e)) = refl
 
 write_tells : (s : IoApicState) (offset x : ℕ) → Tells (eqb offset 0x10) (write_at s offset x).answer
 unfolding write_at write_selected write_eoi
@@ -182,7 +195,7 @@ pub handled_tells : (m : IoApicState) (addr width x : ℕ) → Tells (at_window 
 handled_tells m addr width x = go (good_width width) (leb m.base addr)
   where
     go : (a b : Bool)
-        → Tells (at_window m addr) (cond a (cond b (write_at m (addr - m.base) (x % 2 ^ 32)) (writing m (written.NotWritten InvalidAddress))) (writing m (written.NotWritten Unsupported))).answer
+        → Tells (at_window m addr) (cond a (cond b (write_at m (addr - m.base) (x % 2 ^ 32)) (writing m (Err InvalidAddress))) (writing m (Err Unsupported))).answer
     go true true = write_tells m (addr - m.base) (x % 2 ^ 32)
     go true false = tt
     go false b = tt

@@ -1,15 +1,16 @@
 -- A law for each way out of the calls: l are the words before, w those after. Assumes nothing.
+use Rattle.std.specs.Prelude.{Option, Some, None, Result, Ok, Err}
 use Prim.Native.Nat.{ℕ, ◌+◌, ◌-◌, ◌/◌, ◌%◌, ◌^◌, ◌≤◌, ◌<◌}
 use native.Mathlib.Omega.{arith}
-use mathlib.Core.Bool.{Bool, true, false, not, cond, ◌&&◌, ◌||◌}
+use mathlib.Core.Bool.{Bool, true, false, not}
 use mathlib.Core.List.{List}
 use mathlib.Core.Path.{◌≡◌, refl, sym, ◌∙◌, ap, subst, subst⁻¹}
-use borrow.Author.Tests.{lt-ltb, le-ltb, le-leb, lt-leb, leb-true, leb-false, eq-eqb, ne_eqb, eqb-true, not-true, not-false}
+use borrow.Author.Tests.{lt-ltb, le-ltb, le-leb, lt-leb, leb-true, leb-false, eq-eqb, ne_eqb, not-true, not-false}
 use lib.Dec.{eqb, leb}
 use lib.ListN.{length, get_or, set}
 use Rattle.utils.specs.Set.{bit}
-use Rattle.utils.proofs.Bools.{and_true, both, never}
-use Rattle.types.specs.Reply.{Outcome, Kept}
+use Rattle.utils.proofs.Bools.{and_true, both}
+use Rattle.types.specs.Reply.{Kept}
 use Rattle.types.specs.declared.Reply.{Reply}
 use Rattle.types.specs.declared.Reply.TheVariants.{One, Two, Nothing, Refused}
 use Rattle.types.specs.declared.Refusal.{Refusal}
@@ -20,32 +21,29 @@ use Rattle.vioapic_entry.specs.Answers.{routed_reply}
 use Rattle.vioapic_entry.specs.Redirection.{EntryStep, vector_of, is_fit, without_status, quietly, send_entry, raise_entry, lower_entry, move_line, end_entry, write_low, write_high, write_low20}
 use Rattle.vioapic_entry.proofs.Fields.{status_clear}
 use Rattle.vioapic_entry.specs.declared.Entry.{Entry}
-use Rattle.vioapic_entry.specs.declared.Routed.{Routed}
-use Rattle.vioapic_entry.specs.declared.Routed.TheVariants.{NotRouted, Interrupt}
+use Rattle.vioapic_entry.specs.declared.IoApicInterrupt.{IoApicInterrupt}
 use Rattle.vioapic.specs.Answers.{eoi_reply, gsi_vector_reply, written_reply}
-use Rattle.vioapic.specs.State.{IoApicState, view, entries_from, spare, new_words}
-use Rattle.vioapic.specs.Table.{Routing, Ending, routing, ending, entry_at, put, route_at, unrouted, interrupt_for_entry, set_level, is_version20, first_awaiting, end_of_entry, every_answer, end_of_every, end_of, vector_of_entry, vector_for}
-use Rattle.vioapic.specs.Registers.{Writing, is_entry_word, entry_of, is_low, read_word, read_fixed, read_low, read_selected, write_word, writing, written_send, entry_written, write_selected, write_at, done, written_by, write_eoi, read_at}
-use Rattle.vioapic.specs.IoApic.{routing_outcome, ending_outcome, writing_outcome, good_width, fits, version_number, version_of, is_version, chip_of, chip_at, new_default, refuse, Leaves, Wrote, new_or, Makes, created_version, vector_for_gsi, address_range, assert_gsi, set_gsi_level, end_of_interrupt, handle_read, handle_writing, handle_write}
+use Rattle.vioapic.specs.State.{IoApicState, view, entries_from, new_words}
+use Rattle.vioapic.specs.Table.{Routing, routing, ending, entry_at, put, route_at, interrupt_for_entry, set_level, is_version20, first_awaiting, end_of_entry, every_answer, end_of_every, end_of, vector_of_entry, vector_for}
+use Rattle.vioapic.specs.Registers.{is_entry_word, entry_of, is_low, read_word, read_fixed, read_low, read_selected, write_word, writing, written_send, entry_written, write_selected, write_at, done, written_by, write_eoi, read_at}
+use Rattle.vioapic.specs.IoApic.{routing_outcome, ending_outcome, writing_outcome, good_width, fits, version_number, version_of, chip_of, chip_at, new_default, Leaves, Wrote, new_or, Makes, created_version, vector_for_gsi, address_range, assert_gsi, set_gsi_level, end_of_interrupt, handle_read, handle_writing, handle_write}
 use Rattle.vioapic.specs.Inside.{Keeps, with_low, every_end, every_ending, cleared_in, sent_in}
 use Rattle.vioapic.specs.declared.Ends.{Ends}
 use Rattle.vioapic.specs.declared.IoApicVersion.{IoApicVersion}
 use Rattle.vioapic.specs.declared.Written.{Written}
 use Rattle.vioapic.specs.declared.Written.TheVariants as written
 use Rattle.vioapic.specs.declared.Eoi.{Eoi}
-use Rattle.vioapic.specs.declared.Eoi.TheVariants.{NotEnded, Ended, EndedAll}
-use Rattle.vioapic.specs.declared.GsiVector.{GsiVector}
-use Rattle.vioapic.specs.declared.GsiVector.TheVariants.{NoVector, Programmed}
+use Rattle.vioapic.specs.declared.Eoi.TheVariants.{Ended, EndedAll}
 use Rattle.vioapic.proofs.Words.{view_at, view_select, still, so_that}
 
 -- ---- lines
 
-routed_served : (l w : List ℕ) (a : Routed) → Kept (routed_reply a) l w
-routed_served l w NotRouted = tt
-routed_served l w (Interrupt i) = tt
+routed_served : (l w : List ℕ) (a : Option IoApicInterrupt) → Kept (routed_reply a) l w
+routed_served l w None = tt
+routed_served l w (Some i) = tt
 
 module _ (l : List ℕ) (gsi : Gsi) where
-  pub assert_in : (w : List ℕ) (a : Routed) → gsi.0 < 24 → Keeps l w (routing (view w) a ≡ route_at (view l) gsi.0 (send_entry (entry_at (view l) gsi.0)))
+  pub assert_in : (w : List ℕ) (a : Option IoApicInterrupt) → gsi.0 < 24 → Keeps l w (routing (view w) a ≡ route_at (view l) gsi.0 (send_entry (entry_at (view l) gsi.0)))
       → Leaves l w (routed_reply a) (assert_gsi (view l) gsi)
   unfolding assert_gsi interrupt_for_entry
   assert_in w a h k =
@@ -56,7 +54,7 @@ module _ (l : List ℕ) (gsi : Gsi) where
   unfolding assert_gsi interrupt_for_entry
   assert_out h = record { outcome = rw (le-ltb _ _ h); untouched = tt; kept = refl }
 
-  module _ (up : Bool) (w : List ℕ) (a : Routed) (here : gsi.0 < 24) where
+  module _ (up : Bool) (w : List ℕ) (a : Option IoApicInterrupt) (here : gsi.0 < 24) where
     level_in_lem : (b : Bool) → up ≡ b → Keeps l w (routing (view w) a ≡ route_at (view l) gsi.0 (move_line (entry_at (view l) gsi.0) b)) → Leaves l w (routed_reply a) (set_gsi_level (view l) gsi up)
     unfolding set_gsi_level set_level
     level_in_lem b u k =
@@ -73,7 +71,7 @@ module _ (l : List ℕ) (gsi : Gsi) where
   unfolding set_gsi_level set_level
   level_out up h = record { outcome = rw (le-ltb _ _ h); untouched = tt; kept = refl }
 
-  pub vector_in_lem : (r : GsiVector) → gsi.0 < 24 → r ≡ vector_of_entry (get_or l gsi.0 0) → gsi_vector_reply r ≡ vector_for_gsi (view l) gsi
+  pub vector_in_lem : (r : Option Vector) → gsi.0 < 24 → r ≡ vector_of_entry (get_or l gsi.0 0) → gsi_vector_reply r ≡ vector_for_gsi (view l) gsi
   unfolding vector_for_gsi vector_for
   vector_in_lem r h q =
       let p : r ≡ vector_for (view l) gsi = q ∙ ap (λ (d : Entry). vector_of_entry d.word) (sym (view_at l gsi.0 h)) ∙ rw (lt-ltb _ _ h, lt-ltb _ _ h) in
@@ -83,40 +81,40 @@ module _ (l : List ℕ) (gsi : Gsi) where
   unfolding vector_for_gsi vector_for
   vector_out h = rw (le-ltb _ _ h)
 
-pub vector_fit : (w : ℕ) (v : Vector) → is_fit w ≡ true → v ≡ vector_of w → Programmed v ≡ vector_of_entry w
-vector_fit w v f q = rw f (ap Programmed q)
+pub vector_fit : (w : ℕ) (v : Vector) → is_fit w ≡ true → v ≡ vector_of w → Some v ≡ vector_of_entry w
+vector_fit w v f q = rw f (ap Some q)
 
-pub vector_unfit : (w : ℕ) → is_fit w ≡ false → NoVector ≡ vector_of_entry w
+pub vector_unfit : (w : ℕ) → is_fit w ≡ false → None ≡ vector_of_entry w
 vector_unfit w f = rw f
 
 -- ---- EOIs
 
 module _ (l : List ℕ) (v : Vector) (g : ℕ) (at : g ≡ first_awaiting (view l) v) where
-  pub eoi_in : (w : List ℕ) (a : Routed) → g < 24 → Keeps l w (routing (view w) a ≡ route_at (view l) g (end_entry (entry_at (view l) g)))
-      → Keeps l w (ending (view w) (Ended (record { gsi = record { 0 = g }; pending = a })) ≡ end_of_entry (view l) v)
+  pub eoi_in : (w : List ℕ) (a : Option IoApicInterrupt) → g < 24 → Keeps l w (routing (view w) a ≡ route_at (view l) g (end_entry (entry_at (view l) g)))
+      → Keeps l w (ending (view w) (Some (Ended (record { gsi = record { 0 = g }; pending = a }))) ≡ end_of_entry (view l) v)
   unfolding end_of_entry
-  eoi_in w a h k = so_that k (λ r. rw (← at, lt-ltb _ _ h) (ap (λ (m : Routing). ending m.state (Ended (record { gsi = record { 0 = g }; pending = m.answer }))) r))
+  eoi_in w a h k = so_that k (λ r. rw (← at, lt-ltb _ _ h) (ap (λ (m : Routing). ending m.state (Some (Ended (record { gsi = record { 0 = g }; pending = m.answer })))) r))
 
-  pub eoi_none : 24 ≤ g → Keeps l l (ending (view l) NotEnded ≡ end_of_entry (view l) v)
+  pub eoi_none : 24 ≤ g → Keeps l l (ending (view l) None ≡ end_of_entry (view l) v)
   unfolding end_of_entry
   eoi_none h = still l (rw (← at, le-ltb _ _ h))
 
-eoi_served : (l w : List ℕ) (r : Eoi) → Kept (eoi_reply r) l w
-eoi_served l w NotEnded = tt
-eoi_served l w (Ended e) = go e.pending
+eoi_served : (l w : List ℕ) (r : Option Eoi) → Kept (eoi_reply r) l w
+eoi_served l w None = tt
+eoi_served l w (Some (Ended e)) = go e.pending
   where
-    go : (s : Routed) → Kept (eoi_reply (Ended (record { gsi = e.gsi; pending = s }))) l w
-    go NotRouted = tt
-    go (Interrupt i) = tt
-eoi_served l w (EndedAll e) = tt
+    go : (s : Option IoApicInterrupt) → Kept (eoi_reply (Some (Ended (record { gsi = e.gsi; pending = s })))) l w
+    go None = tt
+    go (Some i) = tt
+eoi_served l w (Some (EndedAll e)) = tt
 
 module _ (l w : List ℕ) (v : Vector) (b : Bool) (is : b ≡ is_version20 (view l)) where
-  pub end_20 : (n : Ends) (r : Eoi) → b ≡ true → Keeps l w (every_ending (every_end (view w) (cleared_in n) (sent_in n)) ≡ end_of_every (view l) v) → r ≡ every_answer (cleared_in n) (sent_in n) → Leaves l w (eoi_reply r) (end_of_interrupt (view l) v)
+  pub end_20 : (n : Ends) (r : Option Eoi) → b ≡ true → Keeps l w (every_ending (every_end (view w) (cleared_in n) (sent_in n)) ≡ end_of_every (view l) v) → r ≡ every_answer (cleared_in n) (sent_in n) → Leaves l w (eoi_reply r) (end_of_interrupt (view l) v)
   unfolding end_of_interrupt end_of
   end_20 n r h e k =
       record { outcome = rw (sym is ∙ h) (ap ending_outcome (ap (ending (view w)) k ∙ e.is)); untouched = eoi_served l w r; kept = e.kept }
 
-  pub end_11 : (r : Eoi) → b ≡ false → Keeps l w (ending (view w) r ≡ end_of_entry (view l) v) → Leaves l w (eoi_reply r) (end_of_interrupt (view l) v)
+  pub end_11 : (r : Option Eoi) → b ≡ false → Keeps l w (ending (view w) r ≡ end_of_entry (view l) v) → Leaves l w (eoi_reply r) (end_of_interrupt (view l) v)
   unfolding end_of_interrupt end_of
   end_11 r n e = record { outcome = rw (sym is ∙ n) (ap ending_outcome e.is); untouched = eoi_served l w r; kept = e.kept }
 
@@ -166,21 +164,21 @@ module _ (l : List ℕ) (sel : ℕ) (b : Bool) (is : sel ≡ (view l).selector) 
   read_other r h d = rw (found false h, ← is, ← version_at l) d
 
   module _ (x g : ℕ) (w : List ℕ) (c : Bool) (yes : b ≡ true) (which : g ≡ entry_of sel) (low : c ≡ is_low sel) where
-    entry_written_lem : (a : Routed) (f : Entry → EntryStep) → ((e : Entry) → f e ≡ write_word (is_version20 (view l)) sel e x)
-        → Keeps l w (routing (view w) a ≡ route_at (view l) g (f (entry_at (view l) g))) → Keeps l w (writing (view w) (written_send a) ≡ write_selected (view l) x)
+    entry_written_lem : (a : Option IoApicInterrupt) (f : Entry → EntryStep) → ((e : Entry) → f e ≡ write_word (is_version20 (view l)) sel e x)
+        → Keeps l w (routing (view w) a ≡ route_at (view l) g (f (entry_at (view l) g))) → Keeps l w (writing (view w) (Ok (written_send a)) ≡ write_selected (view l) x)
     unfolding write_selected
     entry_written_lem a f q k =
         so_that k
-        (λ y. ap (λ (r : Routing). writing r.state (written_send r.answer)) y ∙ ap (λ (r : EntryStep). entry_written (view l) g r) (q (entry_at (view l) g))
+        (λ y. ap (λ (r : Routing). writing r.state (Ok (written_send r.answer))) y ∙ ap (λ (r : EntryStep). entry_written (view l) g r) (q (entry_at (view l) g))
         ∙ rw (which, is, found true yes))
 
     -- a word that sends nothing
     plain : (f : Entry → Entry) → ((e : Entry) → quietly (f e) ≡ write_word (is_version20 (view l)) sel e x) → Keeps l w (view w ≡ put (view l) g (f (entry_at (view l) g))) → Keeps l w (done (view w) ≡ write_selected (view l) x)
-    plain f q k = entry_written_lem NotRouted (λ e. quietly (f e)) q (so_that k (λ y. ap (λ (s : IoApicState). routing s NotRouted) y))
+    plain f q k = entry_written_lem None (λ e. quietly (f e)) q (so_that k (λ y. ap (λ (s : IoApicState). routing s None) y))
 
     module _ (n : Bool) (by : n ≡ is_version20 (view l)) where
-      pub write_low_word20 : (a : Routed) (y : Written) → c ≡ true → n ≡ true → Keeps l w (routing (view w) a ≡ route_at (view l) g (write_low20 (entry_at (view l) g) x)) → y ≡ written_send a
-          → Keeps l w (writing (view w) y ≡ write_selected (view l) x)
+      pub write_low_word20 : (a : Option IoApicInterrupt) (y : Written) → c ≡ true → n ≡ true → Keeps l w (routing (view w) a ≡ route_at (view l) g (write_low20 (entry_at (view l) g) x)) → y ≡ written_send a
+          → Keeps l w (writing (view w) (Ok y) ≡ write_selected (view l) x)
       unfolding write_word
       write_low_word20 a y h v k q = rw q (entry_written_lem a (λ e. write_low20 e x) (λ e. rw (sym low ∙ h, sym by ∙ v)) k)
 
@@ -215,8 +213,8 @@ module _ (l : List ℕ) (x : ℕ) (b : Bool) (is : b ≡ is_version20 (view l)) 
   unfolding write_eoi
   eoi_old h = still l (rw (sym is ∙ not-true b h))
 
-  pub eoi_written_lem : (w : List ℕ) (n : Ends) (r : Eoi) (y : Written) → not b ≡ false → Keeps l w (every_ending (every_end (view w) (cleared_in n) (sent_in n)) ≡ end_of_every (view l) (record { 0 = x % 2 ^ 8 }))
-      → r ≡ every_answer (cleared_in n) (sent_in n) → y ≡ written_by r → Keeps l w (writing (view w) y ≡ write_eoi (view l) x)
+  pub eoi_written_lem : (w : List ℕ) (n : Ends) (r : Option Eoi) (y : Written) → not b ≡ false → Keeps l w (every_ending (every_end (view w) (cleared_in n) (sent_in n)) ≡ end_of_every (view l) (record { 0 = x % 2 ^ 8 }))
+      → r ≡ every_answer (cleared_in n) (sent_in n) → y ≡ written_by r → Keeps l w (writing (view w) (Ok y) ≡ write_eoi (view l) x)
   unfolding write_eoi
   eoi_written_lem w n r y h e k d = so_that e (λ q. rw (sym is ∙ not-false b h, ← q, d, k))
 
@@ -226,11 +224,11 @@ at_select l x n h k p = so_that (view_select l x n h k p) (λ q. ap done q)
 
 module _ (l : List ℕ) (offset x : ℕ) (beyond : 0 < offset) where
   module _ (w : List ℕ) (y : Written) where
-    pub at_eoi : offset ≡ 64 → Keeps l w (writing (view w) y ≡ write_eoi (view l) x) → Keeps l w (writing (view w) y ≡ write_at (view l) offset x)
+    pub at_eoi : offset ≡ 64 → Keeps l w (writing (view w) (Ok y) ≡ write_eoi (view l) x) → Keeps l w (writing (view w) (Ok y) ≡ write_at (view l) offset x)
     unfolding write_at
     at_eoi c k = so_that k (λ q. rw (ne_eqb offset 0 (λ e. omega arith), ne_eqb offset 16 (λ e. omega arith), eq-eqb _ _ c) q)
 
-    pub at_window_lem : offset ≡ 16 → Keeps l w (writing (view w) y ≡ write_selected (view l) x) → Keeps l w (writing (view w) y ≡ write_at (view l) offset x)
+    pub at_window_lem : offset ≡ 16 → Keeps l w (writing (view w) (Ok y) ≡ write_selected (view l) x) → Keeps l w (writing (view w) (Ok y) ≡ write_at (view l) offset x)
     unfolding write_at
     at_window_lem b k = so_that k (λ q. rw (ne_eqb offset 0 (λ e. omega arith), eq-eqb _ _ b) q)
 
@@ -272,40 +270,11 @@ width_four width h = rw (eq-eqb _ _ h)
 pub width_other : (width : ℕ) → (width ≡ 4 → ⊥) → eqb width 8 ≡ good_width width
 width_other width h = rw (ne_eqb _ _ h)
 
--- a write that is served isn't refused
-abbrev Served : Written → Type 0
-Served written.Done = Unit
-Served (written.Sent i) = Unit
-Served (written.EndedAll e) = Unit
-Served (written.NotWritten why) = ⊥
-
-served_eoi : (r : Eoi) → Served (written_by r)
-served_eoi NotEnded = tt
-served_eoi (Ended e) = tt
-served_eoi (EndedAll e) = tt
-
-served_send : (r : Routed) → Served (written_send r)
-served_send NotRouted = tt
-served_send (Interrupt i) = tt
-
-write_done : (p : IoApicState) (offset x : ℕ) → Served (write_at p offset x).answer
-unfolding write_at write_selected write_eoi
-write_done p offset x = go (eqb offset 0) (eqb offset 0x10) (eqb offset 0x40) (is_entry_word p.selector) (is_version20 p) refl refl refl refl refl
-  where
-    go : (a b c d n : Bool) → eqb offset 0 ≡ a → eqb offset 0x10 ≡ b → eqb offset 0x40 ≡ c → is_entry_word p.selector ≡ d → is_version20 p ≡ n → Served (write_at p offset x).answer
-    go true b c d n e f g h i = rw e tt
-    go false true c true n e f g h i =
-        rw (e, f, h) (served_send (write_word (is_version20 p) p.selector (entry_at p (entry_of p.selector)) x).answer)
-    go false true c false n e f g h i = rw (e, f, h) tt
-    go false false true d true e f g h i = rw (e, f, g, i) (served_eoi (end_of_every p (record { 0 = x % 2 ^ 8 })).answer)
-    go false false true d false e f g h i = rw (e, f, g, i) tt
-    go false false false d n e f g h i = rw (e, f, g) tt
-
-served : (l w : List ℕ) (r : Written) → Served r → Kept (written_reply r) l w
-served l w written.Done s = tt
-served l w (written.Sent i) s = tt
-served l w (written.EndedAll e) s = tt
-served l w (written.NotWritten why) s = absurd s
+-- a write that is served says nothing of the words
+served : (l w : List ℕ) (y : Written) → Kept (written_reply (Ok y)) l w
+served l w written.Done = tt
+served l w (written.Sent i) = tt
+served l w (written.EndedAll e) = tt
 
 -- a read of four bytes, and of eight, which is the same
 module _ (l : List ℕ) (addr base : ℕ) (e : base ≡ (view l).base) where
@@ -331,40 +300,34 @@ read_width l addr width a b = rw (ne_eqb _ _ b, ne_eqb _ _ a)
 
 module _ (l : List ℕ) (addr width : ℕ) (b : Bool) (is : b ≡ good_width width) where
   module _ (x : ℕ) where
-    pub write_width : not b ≡ true → Wrote l l (written.NotWritten Unsupported) (handle_writing (view l) addr width x)
+    pub write_width : not b ≡ true → Wrote l l (Err Unsupported) (handle_writing (view l) addr width x)
     write_width h = record { outcome = rw (sym is ∙ not-true b h); untouched = refl; kept = refl }
 
     module _ (base : ℕ) (h : not b ≡ false) (e : base ≡ (view l).base) where
-      pub write_below : addr < base → Wrote l l (written.NotWritten InvalidAddress) (handle_writing (view l) addr width x)
+      pub write_below : addr < base → Wrote l l (Err InvalidAddress) (handle_writing (view l) addr width x)
       write_below k = record { outcome = rw (sym is ∙ not-false b h, ← e, lt-leb _ _ k); untouched = refl; kept = refl }
 
-      pub write_served : (w : List ℕ) (r : Written) → base ≤ addr → Keeps l w (writing (view w) r ≡ write_at (view l) (addr - base) (x % 2 ^ 32))
-          → Wrote l w r (handle_writing (view l) addr width x)
-      write_served w r k q =
+      pub write_served : (w : List ℕ) (y : Written) → base ≤ addr → Keeps l w (writing (view w) (Ok y) ≡ write_at (view l) (addr - base) (x % 2 ^ 32))
+          → Wrote l w (Ok y) (handle_writing (view l) addr width x)
+      write_served w y k q =
           record {
             outcome =
                 rw (sym is ∙ not-false b h, le-leb (view l).base addr (subst (λ (n : ℕ). n ≤ addr) e k))
                 (q.is ∙ ap (λ (n : ℕ). write_at (view l) (addr - n) (x % 2 ^ 32)) e);
-            untouched = served l w r (subst⁻¹ (λ (z : Writing). Served z.answer) q.is (write_done (view l) (addr - base) (x % 2 ^ 32)));
+            untouched = served l w y;
             kept = q.kept;
           }
 
-      pub write_selects : (w : List ℕ) (r : Written) → addr ≡ base → Keeps l w (writing (view w) r ≡ write_at (view l) 0 (x % 2 ^ 32))
-          → Wrote l w r (handle_writing (view l) addr width x)
-      write_selects w r k q = let o : addr - base ≡ 0 = omega arith in write_served w r (omega arith) (subst⁻¹ (λ (n : ℕ). Keeps l w (writing (view w) r ≡ write_at (view l) n (x % 2 ^ 32))) o q)
+      pub write_selects : (w : List ℕ) (y : Written) → addr ≡ base → Keeps l w (writing (view w) (Ok y) ≡ write_at (view l) 0 (x % 2 ^ 32))
+          → Wrote l w (Ok y) (handle_writing (view l) addr width x)
+      write_selects w y k q = let o : addr - base ≡ 0 = omega arith in write_served w y (omega arith) (subst⁻¹ (λ (n : ℕ). Keeps l w (writing (view w) (Ok y) ≡ write_at (view l) n (x % 2 ^ 32))) o q)
 
 -- what such a write leaves, in document 01's numbers
-pub wrote_leaves : (l w : List ℕ) (r : Written) (addr width x : ℕ) → Wrote l w r (handle_writing (view l) addr width x) → Leaves l w (written_reply r) (handle_write (view l) addr width x)
+pub wrote_leaves : (l w : List ℕ) (r : Result Written Refusal) (addr width x : ℕ) → Wrote l w r (handle_writing (view l) addr width x) → Leaves l w (written_reply r) (handle_write (view l) addr width x)
 unfolding handle_write
 wrote_leaves l w r addr width x k = record { outcome = ap writing_outcome k.outcome; untouched = k.untouched; kept = k.kept }
 
 -- ---- a new state
-
-pub version_one : (version : ℕ) → version ≡ 17 → true ≡ is_version version
-version_one version h = rw (eq-eqb _ _ h)
-
-pub version_other : (version : ℕ) → (version ≡ 17 → ⊥) → eqb version 32 ≡ is_version version
-version_other version h = rw (ne_eqb _ _ h)
 
 pub new_shows : (version base size : ℕ) → view (new_words version base size) ≡ chip_of version base size
 unfolding view entries_from

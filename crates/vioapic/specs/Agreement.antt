@@ -1,6 +1,6 @@
 -- The word of lines in flight agrees with the table on a new chip, and after every public call on a chip where it agreed. Where it
 -- agrees an EOI is what document 01 says, which knows no such word and searches the table.
-use Rattle.std.specs.Prelude.{ℕ, Bool, cond, ◌&&◌, List, map, ◌≡◌, ltb, length, get_or}
+use Rattle.std.specs.Prelude.{ℕ, Bool, cond, ◌&&◌, List, map, ◌≡◌, ltb, length, get_or, None}
 use Rattle.utils.specs.Set.{set_of, first}
 use Rattle.types.specs.declared.Vector.{Vector}
 use Rattle.vioapic_entry.specs.Answers.{is_routed}
@@ -8,7 +8,6 @@ use Rattle.vioapic_entry.specs.Redirection.{remote_irr, awaits, end_entry20}
 use Rattle.vioapic_entry.specs.declared.Entry.{Entry}
 use Rattle.vioapic.specs.State.{IoApicState}
 use Rattle.vioapic.specs.Table.{Ending, ending, no_entry, entry_at, with_entries, with_flight, is_version20, end_at, every_answer, end_of}
-use Rattle.vioapic.specs.declared.Eoi.TheVariants.{NotEnded}
 use Rattle.vioapic.specs.IoApic.{chip_of}
 use Rattle.vioapic.specs.Calls.{Call, next, run}
 
@@ -42,7 +41,7 @@ first_in_table s v = first 24 (λ g. awaits v (entry_at s g))
 -- version 0x11: it ends
 unfoldable pub end_of_entry_in_table : IoApicState → Vector → Ending
 end_of_entry_in_table s v =
-    cond (ltb (first_in_table s v) 24) (end_at s (first_in_table s v)) (ending s NotEnded)
+    cond (ltb (first_in_table s v) 24) (end_at s (first_in_table s v)) (ending s None)
 
 -- version 0x20: every entry that awaits it ends
 abbrev pub end_each_in_table : Vector → Entry → Entry

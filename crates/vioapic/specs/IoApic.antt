@@ -1,6 +1,6 @@
 -- The public calls of the I/O APIC: for each the complete state after it, and its reply in document 01's numbers.
 -- 82093AA: the memory map (base address 0xFEC00000, 32-bit accesses; D-47: 8-byte accesses are served).
-use Rattle.std.specs.Prelude.{ℕ, ◌+◌, ◌-◌, ◌%◌, ◌^◌, Bool, cond, ◌||◌, List, ◌≡◌, eqb, leb, replicate}
+use Rattle.std.specs.Prelude.{ℕ, ◌+◌, ◌-◌, ◌%◌, ◌^◌, Bool, cond, ◌||◌, List, ◌≡◌, eqb, leb, true, false, replicate, Result, Err, MatchResult}
 use Rattle.types.specs.Reply.{Outcome, Kept}
 use Rattle.types.specs.declared.Gsi.{Gsi}
 use Rattle.types.specs.declared.Vector.{Vector}
@@ -16,7 +16,6 @@ use Rattle.vioapic.specs.State.{IoApicState, view, spare}
 use Rattle.vioapic.specs.Table.{Routing, Ending, new_entry, interrupt_for_entry, set_level, end_of, vector_for}
 use Rattle.vioapic.specs.Registers.{Writing, writing, read_at, write_at}
 use Rattle.vioapic.specs.declared.Written.{Written}
-use Rattle.vioapic.specs.declared.Written.TheVariants.{NotWritten}
 
 -- ---- what a call leaves
 
@@ -41,7 +40,7 @@ pub record Leaves (before after : List ℕ) (r : Reply) (o : Outcome IoApicState
   pub kept : spare after ≡ spare before
 
 -- the same of a write, with its answer: a reply of two values doesn't tell a send from an EOI
-pub record Wrote (before after : List ℕ) (r : Written) (w : Writing) : Type 0 where
+pub record Wrote (before after : List ℕ) (r : Result Written Refusal) (w : Writing) : Type 0 where
   pub outcome : writing (view after) r ≡ w
   pub untouched : Kept (written_reply r) before after
   pub kept : spare after ≡ spare before
@@ -70,6 +69,11 @@ version_of n = cond (eqb n 0x20) V20 V11
 
 abbrev pub is_version : ℕ → Bool
 is_version n = eqb n 0x11 || eqb n 0x20
+
+-- what a number names: its version, or no version, which is refused
+abbrev pub NamesVersion : ℕ → Result IoApicVersion Refusal → Type 0
+NamesVersion n r =
+    MatchResult r (λ v. (is_version n ≡ true) × (v ≡ version_of n)) (λ why. (is_version n ≡ false) × (why ≡ Unsupported))
 
 -- the range ends below 2^64
 abbrev pub fits : ℕ → ℕ → Bool
@@ -134,8 +138,8 @@ handle_read m addr width =
 abbrev pub handle_writing : IoApicState → ℕ → ℕ → ℕ → Writing
 handle_writing m addr width x =
     cond (good_width width)
-    (cond (leb m.base addr) (write_at m (addr - m.base) (x % 2 ^ 32)) (writing m (NotWritten InvalidAddress)))
-    (writing m (NotWritten Unsupported))
+    (cond (leb m.base addr) (write_at m (addr - m.base) (x % 2 ^ 32)) (writing m (Err InvalidAddress)))
+    (writing m (Err Unsupported))
 
 unfoldable pub handle_write : IoApicState → ℕ → ℕ → ℕ → Outcome IoApicState
 handle_write m addr width x = writing_outcome (handle_writing m addr width x)

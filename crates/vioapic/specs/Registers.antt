@@ -1,28 +1,28 @@
 -- The registers behind the selector and the window.
 -- 82093AA: IOREGSEL (offset 0x00), IOWIN (offset 0x10), IOAPICID (0x00), IOAPICVER (0x01), IOAPICARB (0x02), IOREDTBL (0x10 to
 -- 0x3F, the low word of each entry before its high word). I/O Controller Hub: EOI register (offset 0x40, version 0x20).
-use Rattle.std.specs.Prelude.{ℕ, ◌-◌, ◌/◌, ◌%◌, ◌^◌, Bool, cond, ◌&&◌, eqb, leb}
+use Rattle.std.specs.Prelude.{ℕ, ◌-◌, ◌/◌, ◌%◌, ◌^◌, Bool, cond, ◌&&◌, eqb, leb, Option, Some, None, Result, Ok}
 use Rattle.vioapic_entry.specs.Redirection.{EntryStep, quietly, without_status, write_low, write_high, write_low20}
 use Rattle.vioapic_entry.specs.declared.Entry.{Entry}
-use Rattle.vioapic_entry.specs.declared.Routed.{Routed}
-use Rattle.vioapic_entry.specs.declared.Routed.TheVariants.{NotRouted, Interrupt}
+use Rattle.vioapic_entry.specs.declared.IoApicInterrupt.{IoApicInterrupt}
 use Rattle.vioapic.specs.State.{IoApicState}
 use Rattle.vioapic.specs.Table.{Ending, is_version20, entry_at, put, end_of_every}
 use Rattle.vioapic.specs.declared.Written.{Written}
 use Rattle.vioapic.specs.declared.Written.TheVariants.{Done, Sent, EndedAll}
 use Rattle.vioapic.specs.declared.Eoi.{Eoi}
 use Rattle.vioapic.specs.declared.Eoi.TheVariants as eoi
+use Rattle.types.specs.declared.Refusal.{Refusal}
 
 -- a state after a write, and the write's answer
 pub record Writing : Type 0 where
   pub state : IoApicState
-  pub answer : Written
+  pub answer : Result Written Refusal
 
-abbrev pub writing : IoApicState → Written → Writing
+abbrev pub writing : IoApicState → Result Written Refusal → Writing
 writing s r = record { state = s; answer = r }
 
 abbrev pub done : IoApicState → Writing
-done s = writing s Done
+done s = writing s (Ok Done)
 
 -- ---- the selected register
 
@@ -70,12 +70,12 @@ write_word version20 sel e x =
     cond (is_low sel) (cond version20 (write_low20 e x) (quietly (write_low e x))) (quietly (write_high e x))
 
 -- what that answers to the write
-abbrev pub written_send : Routed → Written
-written_send NotRouted = Done
-written_send (Interrupt i) = Sent i
+abbrev pub written_send : Option IoApicInterrupt → Written
+written_send None = Done
+written_send (Some i) = Sent i
 
 abbrev pub entry_written : IoApicState → ℕ → EntryStep → Writing
-entry_written s g r = writing (put s g r.entry) (written_send r.answer)
+entry_written s g r = writing (put s g r.entry) (Ok (written_send r.answer))
 
 -- IOWIN is written: only the redirection table can be (D-36)
 unfoldable pub write_selected : IoApicState → ℕ → Writing
@@ -87,13 +87,13 @@ write_selected s x =
 -- ---- the EOI register
 
 -- what an EOI of version 0x20 answers to a write
-abbrev pub written_by : Eoi → Written
-written_by eoi.NotEnded = Done
-written_by (eoi.Ended e) = Done
-written_by (eoi.EndedAll e) = EndedAll e
+abbrev pub written_by : Option Eoi → Written
+written_by None = Done
+written_by (Some (eoi.Ended e)) = Done
+written_by (Some (eoi.EndedAll e)) = EndedAll e
 
 abbrev pub eoi_written : Ending → Writing
-eoi_written r = writing r.state (written_by r.answer)
+eoi_written r = writing r.state (Ok (written_by r.answer))
 
 -- it is written, in version 0x20, which alone has it: an EOI of the low byte's vector
 unfoldable pub write_eoi : IoApicState → ℕ → Writing

@@ -1,7 +1,7 @@
 -- The redirection table: what is done to the entry of a GSI, and to the entries that an EOI ends.
 -- 82093AA: IOREDTBL (24 entries), interrupt inputs INTIN0 to INTIN23, the EOI message and Remote IRR.
 -- I/O Controller Hub: EOI register (version 0x20).
-use Rattle.std.specs.Prelude.{ℕ, suc, Bool, true, false, cond, ◌&&◌, List, [], ◌∷◌, eqb, ltb, get_or, set}
+use Rattle.std.specs.Prelude.{ℕ, suc, Bool, true, false, cond, ◌&&◌, List, [], ◌∷◌, eqb, ltb, get_or, set, Option, Some, None}
 use Rattle.utils.specs.Set.{bit, with, without, set_of, first}
 use Rattle.types.specs.Counters.{entry_index}
 use Rattle.types.specs.declared.Gsi.{Gsi}
@@ -9,27 +9,24 @@ use Rattle.types.specs.declared.Vector.{Vector}
 use Rattle.vioapic_entry.specs.Answers.{is_routed}
 use Rattle.vioapic_entry.specs.Redirection.{EntryStep, vector_of, remote_irr, is_fit, awaits, send_entry, move_line, end_entry, end_entry20}
 use Rattle.vioapic_entry.specs.declared.Entry.{Entry}
-use Rattle.vioapic_entry.specs.declared.Routed.{Routed}
-use Rattle.vioapic_entry.specs.declared.Routed.TheVariants.{NotRouted}
+use Rattle.vioapic_entry.specs.declared.IoApicInterrupt.{IoApicInterrupt}
 use Rattle.vioapic.specs.State.{IoApicState}
 use Rattle.vioapic.specs.declared.Eoi.{Eoi}
-use Rattle.vioapic.specs.declared.Eoi.TheVariants.{NotEnded, Ended, EndedAll}
-use Rattle.vioapic.specs.declared.GsiVector.{GsiVector}
-use Rattle.vioapic.specs.declared.GsiVector.TheVariants.{NoVector, Programmed}
+use Rattle.vioapic.specs.declared.Eoi.TheVariants.{Ended, EndedAll}
 
 -- a state after a call, and the call's answer
 pub record Routing : Type 0 where
   pub state : IoApicState
-  pub answer : Routed
+  pub answer : Option IoApicInterrupt
 
 pub record Ending : Type 0 where
   pub state : IoApicState
-  pub answer : Eoi
+  pub answer : Option Eoi
 
-abbrev pub routing : IoApicState → Routed → Routing
+abbrev pub routing : IoApicState → Option IoApicInterrupt → Routing
 routing s r = record { state = s; answer = r }
 
-abbrev pub ending : IoApicState → Eoi → Ending
+abbrev pub ending : IoApicState → Option Eoi → Ending
 ending s r = record { state = s; answer = r }
 
 -- version 0x20; any other number is 0x11
@@ -91,7 +88,7 @@ route_at s g r = routing (put s g r.entry) r.answer
 
 -- a GSI without an entry: nothing happens
 abbrev pub unrouted : IoApicState → Routing
-unrouted s = routing s NotRouted
+unrouted s = routing s None
 
 -- a GSI's entry is sent, its line left as it is
 unfoldable pub interrupt_for_entry : IoApicState → Gsi → Routing
@@ -104,12 +101,12 @@ set_level s gsi up =
     cond (ltb (entry_index gsi) 24) (route_at s (entry_index gsi) (move_line (entry_at s (entry_index gsi)) up)) (unrouted s)
 
 -- the vector of an entry that is fit to be sent
-abbrev pub vector_of_entry : ℕ → GsiVector
-vector_of_entry w = cond (is_fit w) (Programmed (vector_of w)) NoVector
+abbrev pub vector_of_entry : ℕ → Option Vector
+vector_of_entry w = cond (is_fit w) (Some (vector_of w)) None
 
 -- the vector programmed for a GSI
-unfoldable pub vector_for : IoApicState → Gsi → GsiVector
-vector_for s gsi = cond (ltb (entry_index gsi) 24) (vector_of_entry (entry_at s (entry_index gsi)).word) NoVector
+unfoldable pub vector_for : IoApicState → Gsi → Option Vector
+vector_for s gsi = cond (ltb (entry_index gsi) 24) (vector_of_entry (entry_at s (entry_index gsi)).word) None
 
 -- ---- EOIs, by the word of lines in flight (by the table, as document 01 has them: Agreement.antt)
 
@@ -123,12 +120,12 @@ first_awaiting s v = first 24 (ends v s)
 
 abbrev pub end_at : IoApicState → ℕ → Ending
 end_at s g =
-    ending (put s g (end_entry (entry_at s g)).entry) (Ended (record { gsi = record { 0 = g }; pending = (end_entry (entry_at s g)).answer }))
+    ending (put s g (end_entry (entry_at s g)).entry) (Some (Ended (record { gsi = record { 0 = g }; pending = (end_entry (entry_at s g)).answer })))
 
 -- version 0x11: that entry ends (D-31: and no other one)
 unfoldable pub end_of_entry : IoApicState → Vector → Ending
 end_of_entry s v =
-    cond (ltb (first_awaiting s v) 24) (end_at s (first_awaiting s v)) (ending s NotEnded)
+    cond (ltb (first_awaiting s v) 24) (end_at s (first_awaiting s v)) (ending s None)
 
 -- version 0x20: each of them ends
 abbrev pub end_each : Vector → IoApicState → ℕ → Entry → Entry
@@ -142,8 +139,8 @@ flies_on v s g = cond (ends v s g) (remote_irr (end_entry20 (entry_at s g)).entr
 abbrev pub sent_by : Vector → IoApicState → ℕ → Bool
 sent_by v s g = ends v s g && is_routed (end_entry20 (entry_at s g)).answer
 
-abbrev pub every_answer : ℕ → ℕ → Eoi
-every_answer cleared sent = cond (eqb cleared 0) NotEnded (EndedAll (record { cleared = cleared; sent = sent }))
+abbrev pub every_answer : ℕ → ℕ → Option Eoi
+every_answer cleared sent = cond (eqb cleared 0) None (Some (EndedAll (record { cleared = cleared; sent = sent })))
 
 -- a change of each entry, which knows its number
 abbrev pub map_entries : (ℕ → Entry → Entry) → ℕ → List Entry → List Entry

@@ -3,27 +3,26 @@
 // Changed: the state is 32 words that the caller lends (specs/State.antt), without a lock, or by value (`EmulatedIoApic`, which
 // lends its own); it has a version, 0x11 or 0x20, and a word of the lines in flight, so that an EOI looks at these alone; a
 // redirection entry with its two flags is a struct (crate `vioapic_entry`), which a call takes out of the words and puts back;
-// GSIs and vectors are the types' counters; `Option` and `Result` became an enum for each kind of answer, with document 01's
-// number and values (`reply`); an access width is a number; an address below the base, and a base and size whose sum doesn't fit,
+// GSIs and vectors are the types' counters; the error is the types' `Refusal`, and each kind of answer has document 01's number and
+// values (`ToReply` of `types`); an access width is a number; an address below the base, and a base and size whose sum doesn't fit,
 // are refused instead of overflowing. Each function has its contract, and logging is left out.
 
 #![tactic(auto)]
 
-ghost use Rattle.std.specs.Prelude.{◌≡◌, true, false, ◌<◌, ◌%◌, ◌^◌};
+ghost use Rattle.std.specs.Prelude.{◌≡◌, true, false, ◌<◌, ◌%◌, ◌^◌, Some, Ok};
 ghost use Rattle.vioapic_entry.specs.Answers.{routed_reply};
 ghost use Rattle.vioapic_entry.specs.Redirection.{vector_of, remote_irr, is_level, with_remote_irr, without_remote_irr, with_word, with_deferred, with_input, awaits, send_entry, raise_entry, lower_entry, end_entry, end_entry20, write_low, write_high, is_owed, replace_low20, write_low20};
-ghost use Rattle.vioapic_entry.specs.declared.Routed.TheVariants.{Interrupt};
-ghost use Rattle.vioapic.specs.Answers.{eoi_reply, every_reply, gsi_vector_reply, read_reply, written_reply, range_reply, ended_reply};
+ghost use Rattle.vioapic.specs.Answers.{ended_reply, every_reply, ends_reply, eoi_reply, gsi_vector_reply, read_reply, served_reply, written_reply, new_reply, between_reply, range_reply};
 ghost use Rattle.vioapic.specs.declared.IoApicVersion.TheVariants.{V20};
 ghost use Rattle.vioapic.specs.State.{view, new_words};
 ghost use Rattle.vioapic.specs.Table.{is_version20, entry_at, put, routing, route_at, ending, first_awaiting, end_of_entry, every_answer, end_of_every, vector_of_entry};
 ghost use Rattle.vioapic.specs.Registers.{is_entry_word, is_low, entry_of, version_word, read_fixed, read_low, read_selected, writing, written_send, write_selected, read_at, written_by, write_eoi, write_at};
-ghost use Rattle.vioapic.specs.IoApic.{good_width, fits, version_number, version_of, is_version, chip_of, chip_at, new_default, Leaves, Wrote, Makes, created_version, vector_for_gsi, address_range, assert_gsi, set_gsi_level, end_of_interrupt, handle_read, handle_writing};
+ghost use Rattle.vioapic.specs.IoApic.{good_width, fits, version_number, version_of, NamesVersion, chip_of, chip_at, new_default, Leaves, Wrote, Makes, created_version, vector_for_gsi, address_range, assert_gsi, set_gsi_level, end_of_interrupt, handle_read, handle_writing};
 ghost use Rattle.vioapic.specs.Inside.{Keeps, put_flag, with_low, NoneDeferred, Quiet, Flown, forgetting, every_end, end_next, every_ending, cleared_in, sent_in};
 
-use types::{Gsi, Refusal, Reply, Vector};
+use types::{Gsi, Refusal, Reply, ToReply, Vector};
 use utils::{seen, set32, set64};
-use vioapic_entry::{Entry, IoApicInterrupt, Routed};
+use vioapic_entry::{Entry, IoApicInterrupt};
 
 pub const IOAPIC_BASE: u64 = 0xfec0_0000;
 
@@ -73,63 +72,12 @@ const VERSION: usize = 29;
 const IN_FLIGHT: usize = 30;
 
 // The versions that there are.
-#[derive(Clone, Copy)]
+#[derive(Clone, Copy, Debug, PartialEq, Eq, Hash)]
 pub enum IoApicVersion {
     // The 82093AA's.
     V11,
     // That of Intel's I/O Controller Hubs.
     V20,
-}
-
-// Result of a virtual IO APIC EOI broadcast: the GSI whose remote-IRR state was cleared, and the interrupt that should be injected now.
-#[derive(Clone, Copy)]
-pub struct IoApicEoi {
-    pub gsi: Gsi,
-    pub pending: Routed,
-}
-
-// The same in version 0x20, one bit a GSI: those whose remote-IRR state was cleared, and those of them whose interrupt should be injected now.
-#[derive(Clone, Copy)]
-pub struct IoApicEois {
-    pub cleared: u32,
-    pub sent: u32,
-}
-
-#[derive(Clone, Copy)]
-pub enum Eoi {
-    NotEnded,
-    Ended(IoApicEoi),
-    EndedAll(IoApicEois),
-}
-
-// The vector programmed for a GSI.
-#[derive(Clone, Copy)]
-pub enum GsiVector {
-    NoVector,
-    Programmed(Vector),
-}
-
-#[derive(Clone, Copy)]
-pub enum Read {
-    Value(u64),
-    NotRead(Refusal),
-}
-
-#[derive(Clone, Copy)]
-pub enum Written {
-    Done,
-    // Version 0x20: the entry whose low word was written is owed its interrupt.
-    Sent(IoApicInterrupt),
-    // The EOI register's write.
-    EndedAll(IoApicEois),
-    NotWritten(Refusal),
-}
-
-// From the base up to, and without, the end.
-#[derive(Clone, Copy)]
-pub enum AddressRange {
-    Between(u64, u64),
-    NoRange(Refusal),
 }
 
 impl IoApicVersion {
@@ -143,7 +91,8 @@ impl IoApicVersion {
         }
     }
 
-    // That of a number, which is 0x11 where it isn't 0x20 (`is_version` says whether there is one of that number).
+    // That of a lent word, where any number but 0x20 stands for 0x11. What a caller names goes by `try_from`, which refuses a number of no version.
+    // Stays: what may not change (`version_of`; a lent word is never refused).
     pub fn of(number: u64) -> IoApicVersion
         ensures { result ≡ version_of number }
     {
@@ -154,96 +103,136 @@ impl IoApicVersion {
     }
 }
 
-impl IoApicEoi {
-    pub fn reply(self) -> Reply
-        ensures { result ≡ ended_reply self }
-    {
-        let pending = self.pending;
-        match pending {
-            Routed::NotRouted => Reply::One(self.gsi.0 as u64),
-            Routed::Interrupt(interrupt) => Reply::Three(
-                self.gsi.0 as u64,
-                interrupt.vector.0 as u64,
-                types::flag(interrupt.level_triggered),
+// The version of that number, or where there is none `Unsupported`.
+impl TryFrom<u64> for IoApicVersion {
+    type Error = Refusal;
+
+    ghost try_from_gives = { NamesVersion };
+
+    fn try_from(number: u64) -> Result<IoApicVersion, Refusal> {
+        match number {
+            VERSION_11 => Ok(IoApicVersion::V11),
+            VERSION_20 => Ok(IoApicVersion::V20),
+            _ => Err(Refusal::Unsupported),
+        }
+    }
+}
+
+// Result of a virtual IO APIC EOI broadcast: the GSI whose remote-IRR state was cleared, and the interrupt that should be injected now.
+#[derive(Clone, Copy, Debug, PartialEq, Eq, Hash)]
+pub struct IoApicEoi {
+    pub gsi: Gsi,
+    pub pending: Option<IoApicInterrupt>,
+}
+
+// The GSI, and with an interrupt its vector and trigger mode.
+impl ToReply for IoApicEoi {
+    ghost reply_of = { ended_reply };
+
+    fn reply(self) -> Reply {
+        let gsi = self.gsi.0 as u64;
+        match self.pending {
+            None => Reply::One(gsi),
+            Some(interrupt) => Reply::Three(
+                gsi,
+                u64::from(interrupt.vector.0),
+                u64::from(interrupt.level_triggered),
             ),
         }
     }
 }
 
-impl IoApicEois {
-    pub fn reply(self) -> Reply
-        ensures { result ≡ every_reply self }
-    {
-        Reply::Two(self.cleared as u64, self.sent as u64)
+// The same in version 0x20, one bit a GSI: those whose remote-IRR state was cleared, and those of them whose interrupt should be injected now.
+#[derive(Clone, Copy, Debug, PartialEq, Eq, Hash)]
+pub struct IoApicEois {
+    pub cleared: u32,
+    pub sent: u32,
+}
+
+impl ToReply for IoApicEois {
+    ghost reply_of = { every_reply };
+
+    fn reply(self) -> Reply {
+        Reply::Two(u64::from(self.cleared), u64::from(self.sent))
     }
 }
 
-impl Eoi {
-    pub fn reply(self) -> Reply
-        ensures { result ≡ eoi_reply self }
-    {
+// What an EOI has ended: one entry in version 0x11, all that awaited it in version 0x20.
+#[derive(Clone, Copy, Debug, PartialEq, Eq, Hash)]
+pub enum Eoi {
+    Ended(IoApicEoi),
+    EndedAll(IoApicEois),
+}
+
+impl ToReply for Eoi {
+    ghost reply_of = { ends_reply };
+
+    fn reply(self) -> Reply {
         match self {
-            Eoi::NotEnded => Reply::Nothing,
             Eoi::Ended(eoi) => eoi.reply(),
             Eoi::EndedAll(eois) => eois.reply(),
         }
     }
-
-    // The answer of a write that was an EOI.
-    fn written(self) -> Written
-        ensures { result ≡ written_by self }
-    {
-        match self {
-            Eoi::NotEnded => Written::Done,
-            Eoi::Ended(_) => Written::Done,
-            Eoi::EndedAll(eois) => Written::EndedAll(eois),
-        }
-    }
 }
 
-impl GsiVector {
-    pub fn reply(self) -> Reply
-        ensures { result ≡ gsi_vector_reply self }
-    {
-        match self {
-            GsiVector::NoVector => Reply::Nothing,
-            GsiVector::Programmed(vector) => Reply::One(vector.0 as u64),
-        }
-    }
+// What a write that is served has done.
+#[derive(Clone, Copy, Debug, PartialEq, Eq, Hash)]
+pub enum Written {
+    Done,
+    // Version 0x20: the entry whose low word was written is owed its interrupt.
+    Sent(IoApicInterrupt),
+    // The EOI register's write.
+    EndedAll(IoApicEois),
 }
 
-impl Read {
-    pub fn reply(self) -> Reply
-        ensures { result ≡ read_reply self }
-    {
-        match self {
-            Read::Value(value) => Reply::One(value),
-            Read::NotRead(why) => Reply::Refused(why),
-        }
-    }
-}
+impl ToReply for Written {
+    ghost reply_of = { served_reply };
 
-impl Written {
-    pub fn reply(self) -> Reply
-        ensures { result ≡ written_reply self }
-    {
+    fn reply(self) -> Reply {
         match self {
             Written::Done => Reply::Nothing,
             Written::Sent(interrupt) => interrupt.reply(),
             Written::EndedAll(eois) => eois.reply(),
-            Written::NotWritten(why) => Reply::Refused(why),
         }
     }
 }
 
-impl AddressRange {
-    pub fn reply(self) -> Reply
-        ensures { result ≡ range_reply self }
-    {
-        match self {
-            AddressRange::Between(base, end) => Reply::Two(base, end),
-            AddressRange::NoRange(why) => Reply::Refused(why),
+// A write that may have sent an entry.
+impl From<Option<IoApicInterrupt>> for Written {
+    ghost from_gives = { λ answer w. w ≡ written_send answer };
+
+    fn from(answer: Option<IoApicInterrupt>) -> Written {
+        match answer {
+            None => Written::Done,
+            Some(interrupt) => Written::Sent(interrupt),
         }
+    }
+}
+
+// A write that was an EOI.
+impl From<Option<Eoi>> for Written {
+    ghost from_gives = { λ answer w. w ≡ written_by answer };
+
+    fn from(answer: Option<Eoi>) -> Written {
+        match answer {
+            None | Some(Eoi::Ended(_)) => Written::Done,
+            Some(Eoi::EndedAll(eois)) => Written::EndedAll(eois),
+        }
+    }
+}
+
+// Guest-physical addresses from the start up to, and without, the end.
+#[derive(Clone, Copy, Debug, PartialEq, Eq, Hash)]
+pub struct AddressRange {
+    pub start: u64,
+    pub end: u64,
+}
+
+impl ToReply for AddressRange {
+    ghost reply_of = { between_reply };
+
+    fn reply(self) -> Reply {
+        Reply::Two(self.start, self.end)
     }
 }
 
@@ -331,7 +320,7 @@ fn set_deferred(words: &mut [u64; 32], g: usize, deferred: bool)
     ensures { Keeps words.old words.new (view words.new ≡ put (view words.old) g (with_deferred (entry_at (view words.old) g) deferred)) }
 {
     seen(&*words);
-    set_flag(&mut *words, PENDING, g, deferred);
+    set_flag(words, PENDING, g, deferred);
 }
 
 fn set_input(words: &mut [u64; 32], g: usize, up: bool)
@@ -339,7 +328,7 @@ fn set_input(words: &mut [u64; 32], g: usize, up: bool)
     ensures { Keeps words.old words.new (view words.new ≡ put (view words.old) g (with_input (entry_at (view words.old) g) up)) }
 {
     seen(&*words);
-    set_flag(&mut *words, INPUT, g, up);
+    set_flag(words, INPUT, g, up);
 }
 
 // Remote IRR is set, and the line is in flight.
@@ -348,7 +337,7 @@ fn fly(words: &mut [u64; 32], g: usize, word: u64)
     ensures { Keeps words.old words.new (view words.new ≡ put (view words.old) g (with_word (entry_at (view words.old) g) (with_remote_irr word))) }
 {
     seen(&*words);
-    set_flag(&mut *words, IN_FLIGHT, g, true);
+    set_flag(words, IN_FLIGHT, g, true);
     words[g] = vioapic_entry::with_remote_irr(words[g]);
 }
 
@@ -359,7 +348,7 @@ fn rest(words: &mut [u64; 32], g: usize, word: u64)
 {
     seen(&*words);
     words[g] = vioapic_entry::without_remote_irr(word);
-    set_flag(&mut *words, IN_FLIGHT, g, false);
+    set_flag(words, IN_FLIGHT, g, false);
 }
 
 fn is_deferred(words: &[u64; 32], g: usize) -> bool
@@ -383,10 +372,10 @@ fn none_deferred(words: &[u64; 32]) -> bool
     words[PENDING] == 0
 }
 
-fn interrupt(word: u64, level: bool) -> Routed
-    ensures { result ≡ Interrupt (record { vector = vector_of word; level_triggered = level }) }
+fn interrupt(word: u64, level: bool) -> Option<IoApicInterrupt>
+    ensures { result ≡ Some (record { vector = vector_of word; level_triggered = level }) }
 {
-    Routed::Interrupt(IoApicInterrupt {
+    Some(IoApicInterrupt {
         vector: vioapic_entry::vector_of(word),
         level_triggered: level,
     })
@@ -395,94 +384,94 @@ fn interrupt(word: u64, level: bool) -> Routed
 // ---- Lines
 
 // Entry g is sent, if it can be, its line left as it is.
-fn interrupt_for_entry(words: &mut [u64; 32], g: usize, word: u64) -> Routed
+fn interrupt_for_entry(words: &mut [u64; 32], g: usize, word: u64) -> Option<IoApicInterrupt>
     requires { (g < 24) × (word ≡ (entry_at (view words.old) g).word) }
     ensures { Keeps words.old words.new (routing (view words.new) result ≡ route_at (view words.old) g (send_entry (entry_at (view words.old) g))) }
 {
     if !vioapic_entry::is_fit(word) {
-        return Routed::NotRouted;
+        return None;
     }
     if !vioapic_entry::is_level(word) {
         return interrupt(word, false);
     }
     if vioapic_entry::remote_irr(word) {
-        set_deferred(&mut *words, g, true);
-        return Routed::NotRouted;
+        set_deferred(words, g, true);
+        return None;
     }
-    fly(&mut *words, g, word);
+    fly(words, g, word);
     interrupt(word, true)
 }
 
 // Its line goes up.
-fn raise(words: &mut [u64; 32], g: usize) -> Routed
+fn raise(words: &mut [u64; 32], g: usize) -> Option<IoApicInterrupt>
     requires { g < 24 }
     ensures { Keeps words.old words.new (routing (view words.new) result ≡ route_at (view words.old) g (raise_entry (entry_at (view words.old) g))) }
 {
-    let word = word_at(&*words, g);
+    let word = word_at(words, g);
     // The usual case first: not in flight.
     if !vioapic_entry::remote_irr(word) {
-        set_input(&mut *words, g, true);
-        return interrupt_for_entry(&mut *words, g, word);
+        set_input(words, g, true);
+        return interrupt_for_entry(words, g, word);
     }
-    if is_up(&*words, g) {
-        set_deferred(&mut *words, g, true);
-        return Routed::NotRouted;
+    if is_up(words, g) {
+        set_deferred(words, g, true);
+        return None;
     }
-    set_input(&mut *words, g, true);
-    interrupt_for_entry(&mut *words, g, word)
+    set_input(words, g, true);
+    interrupt_for_entry(words, g, word)
 }
 
 // Its line goes down.
-fn lower(words: &mut [u64; 32], g: usize) -> Routed
+fn lower(words: &mut [u64; 32], g: usize) -> Option<IoApicInterrupt>
     requires { g < 24 }
     ensures { Keeps words.old words.new (routing (view words.new) result ≡ route_at (view words.old) g (lower_entry (entry_at (view words.old) g))) }
 {
-    if is_deferred(&*words, g) {
-        set_deferred(&mut *words, g, false);
-        set_input(&mut *words, g, false);
-        return Routed::NotRouted;
+    if is_deferred(words, g) {
+        set_deferred(words, g, false);
+        set_input(words, g, false);
+        return None;
     }
-    set_input(&mut *words, g, false);
-    Routed::NotRouted
+    set_input(words, g, false);
+    None
 }
 
 // Assert an IO APIC input line and return the interrupt to inject.
-pub fn assert_gsi(words: &mut [u64; 32], gsi: Gsi) -> Routed
+pub fn assert_gsi(words: &mut [u64; 32], gsi: Gsi) -> Option<IoApicInterrupt>
     ensures { Leaves words.old words.new (routed_reply result) (assert_gsi (view words.old) gsi) }
 {
     let g = gsi.0;
     if g < ENTRIES {
-        let word = word_at(&*words, g);
-        return interrupt_for_entry(&mut *words, g, word);
+        let word = word_at(words, g);
+        return interrupt_for_entry(words, g, word);
     }
-    Routed::NotRouted
+    None
 }
 
 // Updates one IO APIC input line and returns a newly routable interrupt.
 //
 // Level-triggered inputs remain asserted across guest EOI. Deasserting a line before EOI cancels any deferred redelivery.
-pub fn set_gsi_level(words: &mut [u64; 32], gsi: Gsi, asserted: bool) -> Routed
+pub fn set_gsi_level(words: &mut [u64; 32], gsi: Gsi, asserted: bool) -> Option<IoApicInterrupt>
     ensures { Leaves words.old words.new (routed_reply result) (set_gsi_level (view words.old) gsi asserted) }
 {
     let g = gsi.0;
     if g < ENTRIES {
         if asserted {
-            return raise(&mut *words, g);
+            return raise(words, g);
         }
-        return lower(&mut *words, g);
+        return lower(words, g);
     }
-    Routed::NotRouted
+    None
 }
 
 // Return the guest interrupt vector programmed for a GSI.
-pub fn vector_for_gsi(words: &[u64; 32], gsi: Gsi) -> GsiVector
+pub fn vector_for_gsi(words: &[u64; 32], gsi: Gsi) -> Option<Vector>
     ensures { gsi_vector_reply result ≡ vector_for_gsi (view words.now) gsi }
 {
     let g = gsi.0;
     if g < ENTRIES {
         return vector_of_entry(words[g]);
     }
-    GsiVector::NoVector
+    None
 }
 
 // ---- EOIs
@@ -522,81 +511,81 @@ fn first_awaiting(words: &[u64; 32], vector: Vector) -> usize
 }
 
 // Entry g, which awaits the EOI, is sent again if it can be: in flight as before, so that nothing moves. Else it is at rest.
-fn resend(words: &mut [u64; 32], g: usize, word: u64) -> Routed
+fn resend(words: &mut [u64; 32], g: usize, word: u64) -> Option<IoApicInterrupt>
     requires { (g < 24) × (word ≡ (entry_at (view words.old) g).word) × (remote_irr word ≡ true) × (is_level word ≡ true) }
     ensures { Keeps words.old words.new (routing (view words.new) result ≡ route_at (view words.old) g (send_entry (with_word (entry_at (view words.old) g) (without_remote_irr word)))) }
 {
     if vioapic_entry::is_fit(word) {
         return interrupt(word, true);
     }
-    rest(&mut *words, g, word);
-    Routed::NotRouted
+    rest(words, g, word);
+    None
 }
 
 // Version 0x11: it ends.
-fn end(words: &mut [u64; 32], g: usize) -> Routed
+fn end(words: &mut [u64; 32], g: usize) -> Option<IoApicInterrupt>
     requires { (g < 24) × (remote_irr (entry_at (view words.old) g).word ≡ true) × (is_level (entry_at (view words.old) g).word ≡ true) }
     ensures { Keeps words.old words.new (routing (view words.new) result ≡ route_at (view words.old) g (end_entry (entry_at (view words.old) g))) }
 {
-    let word = word_at(&*words, g);
-    if is_up(&*words, g) {
-        return resend(&mut *words, g, word);
+    let word = word_at(words, g);
+    if is_up(words, g) {
+        return resend(words, g, word);
     }
-    if !is_deferred(&*words, g) {
-        rest(&mut *words, g, word);
-        return Routed::NotRouted;
+    if !is_deferred(words, g) {
+        rest(words, g, word);
+        return None;
     }
-    set_deferred(&mut *words, g, false);
-    resend(&mut *words, g, word)
+    set_deferred(words, g, false);
+    resend(words, g, word)
 }
 
 // The lowest of the entries that await the EOI does.
-fn end_first(words: &mut [u64; 32], vector: Vector) -> Eoi
+fn end_first(words: &mut [u64; 32], vector: Vector) -> Option<Eoi>
     ensures { Keeps words.old words.new (ending (view words.new) result ≡ end_of_entry (view words.old) vector) }
 {
-    let g = first_awaiting(&*words, vector);
+    let g = first_awaiting(words, vector);
     if g < ENTRIES {
-        let pending = end(&mut *words, g);
-        return Eoi::Ended(IoApicEoi {
+        let pending = end(words, g);
+        return Some(Eoi::Ended(IoApicEoi {
             gsi: Gsi(g),
             pending,
-        });
+        }));
     }
-    Eoi::NotEnded
+    None
 }
 
 // What an EOI of version 0x20 has ended so far, in one number: bit g is up where entry g was, and bit 24 + g where it is sent again.
-#[derive(Clone, Copy)]
+#[derive(Clone, Copy, Debug, PartialEq, Eq, Hash)]
 struct Ends(u64);
 
 impl Ends {
-    fn answer(self) -> Eoi
+    fn answer(self) -> Option<Eoi>
         ensures { result ≡ every_answer (cleared_in self) (sent_in self) }
     {
         let cleared = (self.0 % 0x100_0000) as u32;
         if cleared == 0 {
-            return Eoi::NotEnded;
+            return None;
         }
         let sent = (self.0 / 0x100_0000 % 0x100_0000) as u32;
-        Eoi::EndedAll(IoApicEois { cleared, sent })
+        Some(Eoi::EndedAll(IoApicEois { cleared, sent }))
     }
 }
 
 // Version 0x20: entry g ends, and what was deferred goes.
-fn end20(words: &mut [u64; 32], g: usize) -> Routed
+fn end20(words: &mut [u64; 32], g: usize) -> Option<IoApicInterrupt>
     requires { (g < 24) × (remote_irr (entry_at (view words.old) g).word ≡ true) × (is_level (entry_at (view words.old) g).word ≡ true) }
     ensures { Keeps words.old words.new (routing (view words.new) result ≡ route_at (view words.old) g (end_entry20 (entry_at (view words.old) g))) }
 {
-    let word = word_at(&*words, g);
-    if is_deferred(&*words, g) {
-        set_deferred(&mut *words, g, false);
-        return resend(&mut *words, g, word);
+    let word = word_at(words, g);
+    if is_deferred(words, g) {
+        set_deferred(words, g, false);
+        return resend(words, g, word);
     }
-    if is_up(&*words, g) {
-        return resend(&mut *words, g, word);
+    if is_up(words, g) {
+        return resend(words, g, word);
     }
-    rest(&mut *words, g, word);
-    Routed::NotRouted
+    rest(words, g, word);
+    None
 }
 
 // The turn of entry g, which ends if it awaits the EOI.
@@ -604,12 +593,12 @@ fn end_at(words: &mut [u64; 32], g: usize, vector: Vector, ends: Ends) -> Ends
     requires { g < 24 }
     ensures { Keeps words.old words.new (every_end (view words.new) (cleared_in result) (sent_in result) ≡ end_next vector (every_end (view words.old) (cleared_in ends) (sent_in ends)) g) }
 {
-    if !awaits_at(&*words, g, vector) {
+    if !awaits_at(words, g, vector) {
         return ends;
     }
-    let answer = end20(&mut *words, g);
+    let answer = end20(words, g);
     let cleared = set64::with(ends.0, g as u64);
-    if answer.is_routed() {
+    if answer.is_some() {
         return Ends(set64::with(cleared, g as u64 + 24));
     }
     Ends(cleared)
@@ -620,37 +609,40 @@ fn end_every(words: &mut [u64; 32], vector: Vector) -> Ends
     ensures { Keeps words.old words.new (every_ending (every_end (view words.new) (cleared_in result) (sent_in result)) ≡ end_of_every (view words.old) vector) }
 {
     let mut ends = Ends(0);
-    let mut left = in_flight(&*words);
+    let mut left = in_flight(words);
     while left != 0 {
         let g = set32::lowest(left);
-        ends = end_at(&mut *words, g as usize, vector, ends);
+        ends = end_at(words, g as usize, vector, ends);
         left = set32::without(left, g);
     }
     ends
 }
 
 // Process an EOI broadcast from the local APIC.
-pub fn end_of_interrupt(words: &mut [u64; 32], vector: Vector) -> Eoi
+pub fn end_of_interrupt(words: &mut [u64; 32], vector: Vector) -> Option<Eoi>
     ensures { Leaves words.old words.new (eoi_reply result) (end_of_interrupt (view words.old) vector) }
 {
-    if is_version_20(&*words) {
-        return end_every(&mut *words, vector).answer();
+    if is_version_20(words) {
+        return end_every(words, vector).answer();
     }
-    end_first(&mut *words, vector)
+    end_first(words, vector)
 }
 
 // ---- The memory map
 
 // Returns the IO APIC MMIO range.
-pub fn address_range(words: &[u64; 32]) -> AddressRange
+pub fn address_range(words: &[u64; 32]) -> Result<AddressRange, Refusal>
     ensures { range_reply result ≡ address_range (view words.now) }
 {
     let start = base(words);
     let length = size(words);
     if fits(start, length) {
-        return AddressRange::Between(start, start + length);
+        return Ok(AddressRange {
+            start,
+            end: start + length,
+        });
     }
-    AddressRange::NoRange(Refusal::InvalidAddress)
+    Err(Refusal::InvalidAddress)
 }
 
 fn read_selected_register(words: &[u64; 32]) -> u64
@@ -693,18 +685,18 @@ fn read_at(words: &[u64; 32], offset: u64) -> u64
 }
 
 // A read of a good width.
-fn read_within(words: &[u64; 32], addr: u64) -> Read
+fn read_within(words: &[u64; 32], addr: u64) -> Result<u64, Refusal>
     ensures { read_reply result ≡ handle_read (view words.now) addr 4 }
 {
     let start = base(words);
     if addr < start {
-        return Read::NotRead(Refusal::InvalidAddress);
+        return Err(Refusal::InvalidAddress);
     }
-    Read::Value(read_at(words, addr - start))
+    Ok(read_at(words, addr - start))
 }
 
 // Handles an IO APIC MMIO read.
-pub fn handle_read(words: &[u64; 32], addr: u64, width: u64) -> Read
+pub fn handle_read(words: &[u64; 32], addr: u64, width: u64) -> Result<u64, Refusal>
     ensures { read_reply result ≡ handle_read (view words.now) addr width }
 {
     // In two arms, of which the compiler asks the second first: the usual width.
@@ -714,7 +706,7 @@ pub fn handle_read(words: &[u64; 32], addr: u64, width: u64) -> Read
     if width == 4 {
         return read_within(words, addr);
     }
-    Read::NotRead(Refusal::Unsupported)
+    Err(Refusal::Unsupported)
 }
 
 // The register is `after`, which isn't in flight.
@@ -725,7 +717,7 @@ fn ground(words: &mut [u64; 32], g: usize, word: u64, after: u64)
     seen(&*words);
     words[g] = after;
     if vioapic_entry::remote_irr(word) {
-        set_flag(&mut *words, IN_FLIGHT, g, false);
+        set_flag(words, IN_FLIGHT, g, false);
     }
 }
 
@@ -734,11 +726,11 @@ fn write_low(words: &mut [u64; 32], g: usize, value: u32)
     ensures { Keeps words.old words.new (view words.new ≡ put (view words.old) g (write_low (entry_at (view words.old) g) value)) }
 {
     // As mostly, and found at once: nothing is there to be forgotten.
-    if none_deferred(&*words) {
-        let register = word_at(&*words, g);
+    if none_deferred(words) {
+        let register = word_at(words, g);
         if !vioapic_entry::same_low(register, value as u64) {
             ground(
-                &mut *words,
+                words,
                 g,
                 register,
                 vioapic_entry::replace_low(register, value),
@@ -746,19 +738,14 @@ fn write_low(words: &mut [u64; 32], g: usize, value: u32)
         }
         return;
     }
-    let word = word_at(&*words, g);
+    let word = word_at(words, g);
     if !vioapic_entry::same_low(word, value as u64) {
-        set_deferred(&mut *words, g, false);
-        ground(
-            &mut *words,
-            g,
-            word,
-            vioapic_entry::replace_low(word, value),
-        );
+        set_deferred(words, g, false);
+        ground(words, g, word, vioapic_entry::replace_low(word, value));
         return;
     }
     if vioapic_entry::is_masked(word) {
-        set_deferred(&mut *words, g, false);
+        set_deferred(words, g, false);
     }
 }
 
@@ -774,10 +761,10 @@ fn lay(words: &mut [u64; 32], selected: u32, g: usize, word: u64, value: u32) ->
         return false;
     }
     if !vioapic_entry::is_level(value as u64) {
-        set_flag(&mut *words, IN_FLIGHT, g, false);
+        set_flag(words, IN_FLIGHT, g, false);
         return false;
     }
-    if none_deferred(&*words) {
+    if none_deferred(words) {
         // Remote IRR again, where it lies. The entry is named by the selector: where the compiler sees that it is the one just stored, it puts the register together anew.
         let again = selected as usize / 2 - 8;
         words[again] = vioapic_entry::with_remote_irr(words[again]);
@@ -793,13 +780,13 @@ fn forget(words: &mut [u64; 32], g: usize, word: u64, value: u32)
     ensures { Keeps words.old words.new (view words.new ≡ put (view words.old) g (forgetting word (entry_at (view words.old) g) value)) }
 {
     // As mostly, and found at once.
-    if none_deferred(&*words) {
+    if none_deferred(words) {
         return;
     }
     if vioapic_entry::keeps_deferred(word, value) {
         return;
     }
-    set_deferred(&mut *words, g, false);
+    set_deferred(words, g, false);
 }
 
 // A level entry, its line up, that isn't in flight. `word` is its register.
@@ -830,37 +817,32 @@ fn is_quiet(words: &[u64; 32], g: usize) -> bool
 
 // And the entry is sent if it is owed that. One in flight isn't: with a level word it stays in flight, and an edge one isn't owed anything. Else the usual case first:
 // the line is down.
-fn write_low20(words: &mut [u64; 32], selected: u32, g: usize, value: u32) -> Routed
+fn write_low20(
+    words: &mut [u64; 32],
+    selected: u32,
+    g: usize,
+    value: u32,
+) -> Option<IoApicInterrupt>
     requires { (g < 24) × (is_entry_word selected ≡ true) × (g ≡ entry_of selected) }
     ensures { Keeps words.old words.new (routing (view words.new) result ≡ route_at (view words.old) g (write_low20 (entry_at (view words.old) g) value)) }
 {
-    let word = word_at(&*words, g);
-    if lay(&mut *words, selected, g, word, value) {
-        return Routed::NotRouted;
+    let word = word_at(words, g);
+    if lay(words, selected, g, word, value) {
+        return None;
     }
     if vioapic_entry::remote_irr(word) {
-        forget(&mut *words, g, word, value);
-        return Routed::NotRouted;
+        forget(words, g, word, value);
+        return None;
     }
-    if is_quiet(&*words, g) {
-        return Routed::NotRouted;
+    if is_quiet(words, g) {
+        return None;
     }
-    forget(&mut *words, g, word, value);
+    forget(words, g, word, value);
     let after = vioapic_entry::replace_resting(word, value);
-    if is_owed(&*words, g, after) {
-        return interrupt_for_entry(&mut *words, g, after);
+    if is_owed(words, g, after) {
+        return interrupt_for_entry(words, g, after);
     }
-    Routed::NotRouted
-}
-
-// What a write answers that may have sent an entry.
-fn written_send(answer: Routed) -> Written
-    ensures { result ≡ written_send answer }
-{
-    match answer {
-        Routed::NotRouted => Written::Done,
-        Routed::Interrupt(interrupt) => Written::Sent(interrupt),
-    }
+    None
 }
 
 fn write_high(words: &mut [u64; 32], g: usize, value: u32)
@@ -872,19 +854,19 @@ fn write_high(words: &mut [u64; 32], g: usize, value: u32)
 }
 
 fn write_selected_register(words: &mut [u64; 32], value: u32) -> Written
-    ensures { Keeps words.old words.new (writing (view words.new) result ≡ write_selected (view words.old) value) }
+    ensures { Keeps words.old words.new (writing (view words.new) (Ok result) ≡ write_selected (view words.old) value) }
 {
-    let selected = selector(&*words);
+    let selected = selector(words);
     if is_entry_word(selected) {
         let g = entry_of(selected);
         if is_low(selected) {
-            if is_version_20(&*words) {
-                return written_send(write_low20(&mut *words, selected, g, value));
+            if is_version_20(words) {
+                return Written::from(write_low20(words, selected, g, value));
             }
-            write_low(&mut *words, g, value);
+            write_low(words, g, value);
             return Written::Done;
         }
-        write_high(&mut *words, g, value);
+        write_high(words, g, value);
         return Written::Done;
     }
     Written::Done
@@ -892,14 +874,12 @@ fn write_selected_register(words: &mut [u64; 32], value: u32) -> Written
 
 // The EOI register, which version 0x20 alone has.
 fn write_eoi(words: &mut [u64; 32], value: u32) -> Written
-    ensures { Keeps words.old words.new (writing (view words.new) result ≡ write_eoi (view words.old) value) }
+    ensures { Keeps words.old words.new (writing (view words.new) (Ok result) ≡ write_eoi (view words.old) value) }
 {
-    if !is_version_20(&*words) {
+    if !is_version_20(words) {
         return Written::Done;
     }
-    end_every(&mut *words, Vector((value % 0x100) as u8))
-        .answer()
-        .written()
+    Written::from(end_every(words, Vector((value % 0x100) as u8)).answer())
 }
 
 // The word with another lower half.
@@ -911,7 +891,7 @@ fn with_low(word: u64, value: u32) -> u64
 
 // IOREGSEL.
 fn select(words: &mut [u64; 32], value: u32) -> Written
-    ensures { Keeps words.old words.new (writing (view words.new) result ≡ write_at (view words.old) 0 value) }
+    ensures { Keeps words.old words.new (writing (view words.new) (Ok result) ≡ write_at (view words.old) 0 value) }
 {
     seen(&*words);
     words[SELECTOR] = with_low(words[SELECTOR], value);
@@ -921,42 +901,37 @@ fn select(words: &mut [u64; 32], value: u32) -> Written
 // Any other offset. Of two tests in a row the compiler asks the second first: the window's.
 fn write_at(words: &mut [u64; 32], offset: u64, value: u32) -> Written
     requires { 0 < offset }
-    ensures { Keeps words.old words.new (writing (view words.new) result ≡ write_at (view words.old) offset value) }
+    ensures { Keeps words.old words.new (writing (view words.new) (Ok result) ≡ write_at (view words.old) offset value) }
 {
     if offset == IOEOI {
-        return write_eoi(&mut *words, value);
+        return write_eoi(words, value);
     }
     if offset == IOWIN {
-        return write_selected_register(&mut *words, value);
+        return write_selected_register(words, value);
     }
     Written::Done
 }
 
 // Handles an IO APIC MMIO write.
-pub fn handle_write(words: &mut [u64; 32], addr: u64, width: u64, value: u64) -> Written
+pub fn handle_write(
+    words: &mut [u64; 32],
+    addr: u64,
+    width: u64,
+    value: u64,
+) -> Result<Written, Refusal>
     ensures { Wrote words.old words.new result (handle_writing (view words.old) addr width value) }
 {
     if !good_width(width) {
-        return Written::NotWritten(Refusal::Unsupported);
+        return Err(Refusal::Unsupported);
     }
-    let start = base(&*words);
+    let start = base(words);
     if addr == start {
-        return select(&mut *words, (value % 0x1_0000_0000) as u32);
+        return Ok(select(words, (value % 0x1_0000_0000) as u32));
     }
     if addr < start {
-        return Written::NotWritten(Refusal::InvalidAddress);
+        return Err(Refusal::InvalidAddress);
     }
-    write_at(&mut *words, addr - start, (value % 0x1_0000_0000) as u32)
-}
-
-// Whether there is a version of that number.
-pub fn is_version(number: u64) -> bool
-    ensures { result ≡ is_version number }
-{
-    if number == VERSION_11 {
-        return true;
-    }
-    number == VERSION_20
+    Ok(write_at(words, addr - start, (value % 0x1_0000_0000) as u32))
 }
 
 fn put_new(words: &mut [u64; 32], version: u64, base: u64, size: u64)
@@ -971,35 +946,40 @@ fn put_new(words: &mut [u64; 32], version: u64, base: u64, size: u64)
 }
 
 // Create a new IO APIC, of either version: its range alone can be refused.
-pub fn new_version(words: &mut [u64; 32], base: u64, size: u64, version: IoApicVersion) -> Written
-    ensures { Makes words.old words.new (written_reply result) (created_version (view words.old) base size version) (new_words (version_number version) base size) }
+pub fn new_version(
+    words: &mut [u64; 32],
+    base: u64,
+    size: u64,
+    version: IoApicVersion,
+) -> Result<(), Refusal>
+    ensures { Makes words.old words.new (new_reply result) (created_version (view words.old) base size version) (new_words (version_number version) base size) }
 {
     if !fits(base, size) {
-        return Written::NotWritten(Refusal::InvalidAddress);
+        return Err(Refusal::InvalidAddress);
     }
-    put_new(&mut *words, version.number(), base, size);
-    Written::Done
+    put_new(words, version.number(), base, size);
+    Ok(())
 }
 
 // Of version 0x20; the Rust's is 0x11 (`new_version`).
-pub fn new(words: &mut [u64; 32], base: u64, size: u64) -> Written
-    ensures { Makes words.old words.new (written_reply result) (created_version (view words.old) base size V20) (new_words 0x20 base size) }
+pub fn new(words: &mut [u64; 32], base: u64, size: u64) -> Result<(), Refusal>
+    ensures { Makes words.old words.new (new_reply result) (created_version (view words.old) base size V20) (new_words 0x20 base size) }
 {
-    new_version(&mut *words, base, size, IoApicVersion::V20)
+    new_version(words, base, size, IoApicVersion::V20)
 }
 
 // Create an IO APIC at the default PC-compatible GPA.
-pub fn new_default(words: &mut [u64; 32]) -> Written
-    ensures { Makes words.old words.new (written_reply result) (created_version (view words.old) 0xfec00000 0x1000 V20) (new_words 0x20 0xfec00000 0x1000) }
+pub fn new_default(words: &mut [u64; 32]) -> Result<(), Refusal>
+    ensures { Makes words.old words.new (new_reply result) (created_version (view words.old) 0xfec00000 0x1000 V20) (new_words 0x20 0xfec00000 0x1000) }
 {
-    new(&mut *words, IOAPIC_BASE, IOAPIC_SIZE)
+    new(words, IOAPIC_BASE, IOAPIC_SIZE)
 }
 
 // The same of either version.
-pub fn new_default_version(words: &mut [u64; 32], version: IoApicVersion) -> Written
-    ensures { Makes words.old words.new (written_reply result) (created_version (view words.old) 0xfec00000 0x1000 version) (new_words (version_number version) 0xfec00000 0x1000) }
+pub fn new_default_version(words: &mut [u64; 32], version: IoApicVersion) -> Result<(), Refusal>
+    ensures { Makes words.old words.new (new_reply result) (created_version (view words.old) 0xfec00000 0x1000 version) (new_words (version_number version) 0xfec00000 0x1000) }
 {
-    new_version(&mut *words, IOAPIC_BASE, IOAPIC_SIZE, version)
+    new_version(words, IOAPIC_BASE, IOAPIC_SIZE, version)
 }
 
 // ---- What the registers say
@@ -1031,13 +1011,13 @@ fn read_fixed(version: u64, selector: u32) -> u64
 }
 
 // The vector that an entry's register gives its line.
-fn vector_of_entry(word: u64) -> GsiVector
+fn vector_of_entry(word: u64) -> Option<Vector>
     ensures { result ≡ vector_of_entry word }
 {
     if vioapic_entry::is_fit(word) {
-        return GsiVector::Programmed(vioapic_entry::vector_of(word));
+        return Some(vioapic_entry::vector_of(word));
     }
-    GsiVector::NoVector
+    None
 }
 
 fn is_entry_word(selector: u32) -> bool
@@ -1082,54 +1062,32 @@ fn fits(base: u64, size: u64) -> bool
 // ---- The same by value
 
 // A minimal emulated x86 IO APIC.
-#[derive(Clone, Copy)]
+#[derive(Clone, Copy, Debug, PartialEq, Eq, Hash)]
 pub struct EmulatedIoApic {
     pub words: [u64; 32],
-}
-
-// An IO APIC after a call, and the call's answer.
-#[derive(Clone, Copy)]
-pub struct IoApicRouting {
-    pub chip: EmulatedIoApic,
-    pub answer: Routed,
-}
-
-#[derive(Clone, Copy)]
-pub struct IoApicEnding {
-    pub chip: EmulatedIoApic,
-    pub answer: Eoi,
-}
-
-#[derive(Clone, Copy)]
-pub struct IoApicWriting {
-    pub chip: EmulatedIoApic,
-    pub answer: Written,
 }
 
 impl EmulatedIoApic {
     // Create a new `EmulatedIoApic`, of version 0x20. Where base and size don't fit, nothing is created: beside the refusal stands
     // a chip that covers no address.
-    pub fn new(base: u64, size: u64) -> IoApicWriting
-        ensures { Makes (new_words 0x20 0 0) result.chip.words (written_reply result.answer) (created_version (chip_at 0 0) base size V20) (new_words 0x20 base size) }
+    pub fn new(base: u64, size: u64) -> (Self, Result<(), Refusal>)
+        ensures { Makes (new_words 0x20 0 0) result.0.words (new_reply result.1) (created_version (chip_at 0 0) base size V20) (new_words 0x20 base size) }
     {
         EmulatedIoApic::new_version(base, size, IoApicVersion::V20)
     }
 
     // The same of either version.
-    pub fn new_version(base: u64, size: u64, version: IoApicVersion) -> IoApicWriting
-        ensures { Makes (new_words 0x20 0 0) result.chip.words (written_reply result.answer) (created_version (chip_at 0 0) base size version) (new_words (version_number version) base size) }
+    pub fn new_version(base: u64, size: u64, version: IoApicVersion) -> (Self, Result<(), Refusal>)
+        ensures { Makes (new_words 0x20 0 0) result.0.words (new_reply result.1) (created_version (chip_at 0 0) base size version) (new_words (version_number version) base size) }
     {
         let mut words = [0; 32];
         put_new(&mut words, VERSION_20, 0, 0);
         let answer = new_version(&mut words, base, size, version);
-        IoApicWriting {
-            chip: EmulatedIoApic { words },
-            answer,
-        }
+        (EmulatedIoApic { words }, answer)
     }
 
     // Create an IO APIC at the default PC-compatible GPA.
-    pub fn new_default() -> EmulatedIoApic
+    pub fn new_default() -> Self
         ensures { (view result.words ≡ new_default) × (result.words ≡ new_words 0x20 0xfec00000 0x1000) }
     {
         let mut words = [0; 32];
@@ -1138,7 +1096,7 @@ impl EmulatedIoApic {
     }
 
     // The same of either version.
-    pub fn new_default_version(version: IoApicVersion) -> EmulatedIoApic
+    pub fn new_default_version(version: IoApicVersion) -> Self
         ensures { (view result.words ≡ chip_of (version_number version) 0xfec00000 0x1000) × (result.words ≡ new_words (version_number version) 0xfec00000 0x1000) }
     {
         let mut words = [0; 32];
@@ -1147,55 +1105,60 @@ impl EmulatedIoApic {
     }
 
     // Return the guest interrupt vector programmed for a GSI.
-    pub fn vector_for_gsi(self, gsi: Gsi) -> GsiVector
+    pub fn vector_for_gsi(self, gsi: Gsi) -> Option<Vector>
         ensures { gsi_vector_reply result ≡ vector_for_gsi (view self.words) gsi }
     {
         vector_for_gsi(&self.words, gsi)
     }
 
     // Assert an IO APIC input line and return the interrupt to inject.
-    pub fn assert_gsi(mut self, gsi: Gsi) -> IoApicRouting
-        ensures { Leaves self.words result.chip.words (routed_reply result.answer) (assert_gsi (view self.words) gsi) }
+    pub fn assert_gsi(mut self, gsi: Gsi) -> (Self, Option<IoApicInterrupt>)
+        ensures { Leaves self.words result.0.words (routed_reply result.1) (assert_gsi (view self.words) gsi) }
     {
         let answer = assert_gsi(&mut self.words, gsi);
-        IoApicRouting { chip: self, answer }
+        (self, answer)
     }
 
     // Updates one IO APIC input line and returns a newly routable interrupt.
-    pub fn set_gsi_level(mut self, gsi: Gsi, asserted: bool) -> IoApicRouting
-        ensures { Leaves self.words result.chip.words (routed_reply result.answer) (set_gsi_level (view self.words) gsi asserted) }
+    pub fn set_gsi_level(mut self, gsi: Gsi, asserted: bool) -> (Self, Option<IoApicInterrupt>)
+        ensures { Leaves self.words result.0.words (routed_reply result.1) (set_gsi_level (view self.words) gsi asserted) }
     {
         let answer = set_gsi_level(&mut self.words, gsi, asserted);
-        IoApicRouting { chip: self, answer }
+        (self, answer)
     }
 
     // Process an EOI broadcast from the local APIC.
-    pub fn end_of_interrupt(mut self, vector: Vector) -> IoApicEnding
-        ensures { Leaves self.words result.chip.words (eoi_reply result.answer) (end_of_interrupt (view self.words) vector) }
+    pub fn end_of_interrupt(mut self, vector: Vector) -> (Self, Option<Eoi>)
+        ensures { Leaves self.words result.0.words (eoi_reply result.1) (end_of_interrupt (view self.words) vector) }
     {
         let answer = end_of_interrupt(&mut self.words, vector);
-        IoApicEnding { chip: self, answer }
+        (self, answer)
     }
 
     // Returns the IO APIC MMIO range.
-    pub fn address_range(self) -> AddressRange
+    pub fn address_range(self) -> Result<AddressRange, Refusal>
         ensures { range_reply result ≡ address_range (view self.words) }
     {
         address_range(&self.words)
     }
 
     // Handles an IO APIC MMIO read.
-    pub fn handle_read(self, addr: u64, width: u64) -> Read
+    pub fn handle_read(self, addr: u64, width: u64) -> Result<u64, Refusal>
         ensures { read_reply result ≡ handle_read (view self.words) addr width }
     {
         handle_read(&self.words, addr, width)
     }
 
     // Handles an IO APIC MMIO write.
-    pub fn handle_write(mut self, addr: u64, width: u64, val: u64) -> IoApicWriting
-        ensures { Wrote self.words result.chip.words result.answer (handle_writing (view self.words) addr width val) }
+    pub fn handle_write(
+        mut self,
+        addr: u64,
+        width: u64,
+        val: u64,
+    ) -> (Self, Result<Written, Refusal>)
+        ensures { Wrote self.words result.0.words result.1 (handle_writing (view self.words) addr width val) }
     {
         let answer = handle_write(&mut self.words, addr, width, val);
-        IoApicWriting { chip: self, answer }
+        (self, answer)
     }
 }

@@ -1,4 +1,5 @@
 -- A call's answer, its reply and the reply's code: l are the words before, w those after. Assumes nothing.
+use Rattle.std.specs.Prelude.{Result, Ok, Err}
 use Prim.Native.Nat.{ℕ, ◌<◌, ◌≤◌}
 use mathlib.Core.Bool.{Bool, true, false, not, cond, ◌||◌}
 use mathlib.Core.List.{List, [], ◌∷◌}
@@ -21,7 +22,6 @@ use Rattle.vioapic.specs.declared.IoApicVersion.{IoApicVersion}
 use Rattle.vioapic.specs.declared.IoApicVersion.TheVariants.{V11, V20}
 use Rattle.vioapic.specs.declared.Written.{Written}
 use Rattle.vioapic.specs.declared.AddressRange.{AddressRange}
-use Rattle.vioapic.specs.declared.AddressRange.TheVariants.{Between, NoRange}
 use Rattle.vioapic_c.specs.Calls.{Coded, Made, new_number, end_number, range_words}
 
 module _ (l w : List ℕ) (r x : Reply) (n : ℕ) (same : x ≡ r) (en : n ≡ reply_code x) where
@@ -49,7 +49,7 @@ module _ (l w : List ℕ) (r x : Reply) (n : ℕ) (same : x ≡ r) (en : n ≡ r
   unfolding end_number
   end_coded v h k = rw (lt-ltb _ _ h) (coded (end_of_interrupt (view l) (record { 0 = v })) k)
 
-pub write_coded : (l w : List ℕ) (r : Written) (x : Reply) (n addr width value : ℕ) → Wrote l w r (handle_writing (view l) addr width value) → x ≡ written_reply r → n ≡ reply_code x
+pub write_coded : (l w : List ℕ) (r : Result Written Refusal) (x : Reply) (n addr width value : ℕ) → Wrote l w r (handle_writing (view l) addr width value) → x ≡ written_reply r → n ≡ reply_code x
     → Coded l w n (handle_write (view l) addr width value)
 write_coded l w r x n addr width value k same en = coded l w (written_reply r) x n same en (handle_write (view l) addr width value) (wrote_leaves l w r addr width value k)
 
@@ -66,17 +66,19 @@ number_of n h = go (eqb n 0x11) (eqb n 0x20) refl refl h
     go true false p q s = sym (eqb-true n 0x11 p)
     go false false p q s = never s refl
 
-module _ (l : List ℕ) (base size version : ℕ) (b : Bool) (is : b ≡ is_version version) where
-  pub new_unknown : (n : ℕ) → not b ≡ true → n ≡ reply_code (Refused Unsupported) → Made l l n (new_number (view l) base size version) (new_words version base size)
+module _ (l : List ℕ) (base size version : ℕ) where
+  pub new_unknown : (n : ℕ) (why : Refusal) → (is_version version ≡ false) × (why ≡ Unsupported) → n ≡ reply_code (Refused why)
+      → Made l l n (new_number (view l) base size version) (new_words version base size)
   unfolding new_number
-  new_unknown n h e = rw (sym is ∙ not-true b h) (record { shows = (refl, e); words = refl })
+  new_unknown n why names e = rw names.0 (record { shows = (refl, e ∙ ap (λ (z : Refusal). reply_code (Refused z)) names.1); words = refl })
 
-  pub new_known : (w : List ℕ) (v : IoApicVersion) (r x : Reply) (n : ℕ) → not b ≡ false → v ≡ version_of version
+  pub new_known : (w : List ℕ) (v : IoApicVersion) (r x : Reply) (n : ℕ) → (is_version version ≡ true) × (v ≡ version_of version)
       → Makes l w r (created_version (view l) base size v) (new_words (version_number v) base size) → x ≡ r → n ≡ reply_code x
       → Made l w n (new_number (view l) base size version) (new_words version base size)
   unfolding new_number
-  new_known w v r x n h q k same en =
-      let s : is_version version ≡ true = sym is ∙ not-false b h in
+  new_known w v r x n names k same en =
+      let s = names.0 in
+      let q = names.1 in
       let p = ap (λ (z : ℕ). new_words z base size) (ap version_number q ∙ number_of version s) in
       let o = ap (created_version (view l) base size) q in
       rw s (subst (Made l w n (created_version (view l) base size (version_of version))) p
@@ -87,11 +89,11 @@ module _ (l : List ℕ) (base size version : ℕ) (b : Bool) (is : b ≡ is_vers
 pub told : (r x y : Reply) (n : ℕ) → x ≡ r → r ≡ y → n ≡ reply_code x → n ≡ reply_code y
 told r x y n a b e = e ∙ ap reply_code (a ∙ b)
 
-module _ (l range : List ℕ) (a : AddressRange) (n : ℕ) (is : range_reply a ≡ address_range (view l)) where
-  pub range_between : (base end : ℕ) → a ≡ Between base end → n ≡ reply_code Nothing → lent (base ∷ end ∷ []) n ≡ range_words l range
+module _ (l range : List ℕ) (a : Result AddressRange Refusal) (n : ℕ) (is : range_reply a ≡ address_range (view l)) where
+  pub range_between : (between : AddressRange) → a ≡ Ok between → n ≡ reply_code Nothing → lent (between.start ∷ between.end ∷ []) n ≡ range_words l range
   unfolding range_words
-  range_between base end e k = rw (← is, e, k)
+  range_between between e k = rw (← is, e, k)
 
-  pub range_none : (why : Refusal) → a ≡ NoRange why → n ≡ reply_code (Refused why) → lent range n ≡ range_words l range
+  pub range_none : (why : Refusal) → a ≡ Err why → n ≡ reply_code (Refused why) → lent range n ≡ range_words l range
   unfolding range_words
   range_none why e k = rw (← is, e, k)

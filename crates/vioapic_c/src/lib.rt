@@ -11,8 +11,8 @@ ghost use Rattle.vioapic.specs.IoApic.{created_version, vector_for_gsi, assert_g
 ghost use Rattle.vioapic_c.specs.Calls.{Coded, Made, new_number, end_number, range_words};
 
 use reply_code::{code, is_up};
-use types::{Gsi, Refusal, Reply, Vector};
-use vioapic::{AddressRange, IOAPIC_BASE, IOAPIC_SIZE, IoApicVersion, is_version};
+use types::{Gsi, Refusal, Reply, ToReply, Vector};
+use vioapic::{IOAPIC_BASE, IOAPIC_SIZE, IoApicVersion};
 
 #[unsafe(no_mangle)]
 pub extern "C" fn sillwander_ioapic_new_version(
@@ -23,31 +23,31 @@ pub extern "C" fn sillwander_ioapic_new_version(
 ) -> u64
     ensures { Made words.old words.new result (new_number (view words.old) base size version) (new_words version base size) }
 {
-    if !is_version(version) {
-        return code(Reply::Refused(Refusal::Unsupported));
+    match IoApicVersion::try_from(version) {
+        Ok(version) => code(vioapic::new_version(words, base, size, version).reply()),
+        Err(why) => code(Reply::Refused(why)),
     }
-    code(vioapic::new_version(&mut *words, base, size, IoApicVersion::of(version)).reply())
 }
 
 #[unsafe(no_mangle)]
 pub extern "C" fn sillwander_ioapic_new(words: &mut [u64; 32], base: u64, size: u64) -> u64
     ensures { Made words.old words.new result (created_version (view words.old) base size V20) (new_words 0x20 base size) }
 {
-    code(vioapic::new(&mut *words, base, size).reply())
+    code(vioapic::new(words, base, size).reply())
 }
 
 #[unsafe(no_mangle)]
 pub extern "C" fn sillwander_ioapic_new_default(words: &mut [u64; 32]) -> u64
     ensures { Made words.old words.new result (created_version (view words.old) 0xfec00000 0x1000 V20) (new_words 0x20 0xfec00000 0x1000) }
 {
-    code(vioapic::new_default(&mut *words).reply())
+    code(vioapic::new_default(words).reply())
 }
 
 #[unsafe(no_mangle)]
 pub extern "C" fn sillwander_ioapic_new_default_version(words: &mut [u64; 32], version: u64) -> u64
     ensures { Made words.old words.new result (new_number (view words.old) 0xfec00000 0x1000 version) (new_words version 0xfec00000 0x1000) }
 {
-    sillwander_ioapic_new_version(&mut *words, IOAPIC_BASE, IOAPIC_SIZE, version)
+    sillwander_ioapic_new_version(words, IOAPIC_BASE, IOAPIC_SIZE, version)
 }
 
 #[unsafe(no_mangle)]
@@ -61,7 +61,7 @@ pub extern "C" fn sillwander_ioapic_vector_for_gsi(words: &[u64; 32], gsi: usize
 pub extern "C" fn sillwander_ioapic_assert_gsi(words: &mut [u64; 32], gsi: usize) -> u64
     ensures { Coded words.old words.new result (assert_gsi (view words.old) (record { 0 = gsi })) }
 {
-    code(vioapic::assert_gsi(&mut *words, Gsi(gsi)).reply())
+    code(vioapic::assert_gsi(words, Gsi(gsi)).reply())
 }
 
 #[unsafe(no_mangle)]
@@ -72,7 +72,7 @@ pub extern "C" fn sillwander_ioapic_set_gsi_level(
 ) -> u64
     ensures { Coded words.old words.new result (set_gsi_level (view words.old) (record { 0 = gsi }) (is_up asserted)) }
 {
-    code(vioapic::set_gsi_level(&mut *words, Gsi(gsi), is_up(asserted)).reply())
+    code(vioapic::set_gsi_level(words, Gsi(gsi), is_up(asserted)).reply())
 }
 
 #[unsafe(no_mangle)]
@@ -82,7 +82,7 @@ pub extern "C" fn sillwander_ioapic_end_of_interrupt(words: &mut [u64; 32], vect
     if 256 <= vector {
         return code(Reply::Refused(Refusal::OutOfRange));
     }
-    code(vioapic::end_of_interrupt(&mut *words, Vector(vector as u8)).reply())
+    code(vioapic::end_of_interrupt(words, Vector(vector as u8)).reply())
 }
 
 #[unsafe(no_mangle)]
@@ -90,11 +90,11 @@ pub extern "C" fn sillwander_ioapic_address_range(words: &[u64; 32], range: &mut
     ensures { lent range.new result ≡ range_words words.now range.old }
 {
     match vioapic::address_range(words) {
-        AddressRange::Between(base, end) => {
-            *range = [base, end];
+        Ok(between) => {
+            *range = [between.start, between.end];
             code(Reply::Nothing)
         }
-        AddressRange::NoRange(why) => code(Reply::Refused(why)),
+        Err(refusal) => code(Reply::Refused(refusal)),
     }
 }
 
@@ -114,5 +114,5 @@ pub extern "C" fn sillwander_ioapic_handle_write(
 ) -> u64
     ensures { Coded words.old words.new result (handle_write (view words.old) addr width value) }
 {
-    code(vioapic::handle_write(&mut *words, addr, width, value).reply())
+    code(vioapic::handle_write(words, addr, width, value).reply())
 }

@@ -4,7 +4,7 @@
 #![tactic(auto)]
 
 use std::io::{self, Write};
-use types::{Gsi, Reply, Vector};
+use types::{Gsi, Reply, ToReply, Vector};
 use vioapic::{EmulatedIoApic, IoApicVersion};
 
 const IOREGSEL: u64 = 0xfec0_0000;
@@ -19,39 +19,35 @@ fn say<W: Write>(out: &mut W, what: &[u8], reply: Reply) -> io::Result<()> {
 }
 
 fn select(chip: EmulatedIoApic, register: u64) -> EmulatedIoApic {
-    let writing = chip.handle_write(IOREGSEL, 4, register);
-    writing.chip
+    let (chip, _done) = chip.handle_write(IOREGSEL, 4, register);
+    chip
 }
 
 fn write(chip: EmulatedIoApic, value: u64) -> EmulatedIoApic {
-    let writing = chip.handle_write(IOWIN, 4, value);
-    writing.chip
+    let (chip, _done) = chip.handle_write(IOWIN, 4, value);
+    chip
 }
 
 fn read<W: Write>(out: &mut W, chip: EmulatedIoApic) -> io::Result<()> {
-    let got = chip.handle_read(IOWIN, 4);
-    say(out, b"read", got.reply())
+    say(out, b"read", chip.handle_read(IOWIN, 4).reply())
 }
 
 fn raise<W: Write>(out: &mut W, chip: EmulatedIoApic, gsi: usize) -> io::Result<EmulatedIoApic> {
-    let routing = chip.set_gsi_level(Gsi(gsi), true);
-    let answer = routing.answer;
+    let (chip, answer) = chip.set_gsi_level(Gsi(gsi), true);
     say(out, b"raise", answer.reply())?;
-    Ok(routing.chip)
+    Ok(chip)
 }
 
 fn lower<W: Write>(out: &mut W, chip: EmulatedIoApic, gsi: usize) -> io::Result<EmulatedIoApic> {
-    let routing = chip.set_gsi_level(Gsi(gsi), false);
-    let answer = routing.answer;
+    let (chip, answer) = chip.set_gsi_level(Gsi(gsi), false);
     say(out, b"lower", answer.reply())?;
-    Ok(routing.chip)
+    Ok(chip)
 }
 
 fn eoi<W: Write>(out: &mut W, chip: EmulatedIoApic, vector: u8) -> io::Result<EmulatedIoApic> {
-    let ending = chip.end_of_interrupt(Vector(vector));
-    let answer = ending.answer;
+    let (chip, answer) = chip.end_of_interrupt(Vector(vector));
     say(out, b"EOI", answer.reply())?;
-    Ok(ending.chip)
+    Ok(chip)
 }
 
 // A new chip of document 01's version.
@@ -113,24 +109,17 @@ fn example_6<W: Write>(out: &mut W) -> io::Result<()> {
     say(out, b"read of width 2 below the base", narrow.reply())?;
     let wide = chip.handle_read(0xfebf_ffff, 4);
     say(out, b"read of width 4 below the base", wide.reply())?;
-    let narrow = chip.handle_write(0xfebf_ffff, 2, 0);
-    let narrow_answer = narrow.answer;
-    say(
-        out,
-        b"write of width 2 below the base",
-        narrow_answer.reply(),
-    )?;
-    let wide = chip.handle_write(0xfebf_ffff, 4, 0);
-    let wide_answer = wide.answer;
-    say(out, b"write of width 4 below the base", wide_answer.reply())
+    let (chip, narrow) = chip.handle_write(0xfebf_ffff, 2, 0);
+    say(out, b"write of width 2 below the base", narrow.reply())?;
+    let (_chip, wide) = chip.handle_write(0xfebf_ffff, 4, 0);
+    say(out, b"write of width 4 below the base", wide.reply())
 }
 
 // A write whose reply is told.
 fn tell<W: Write>(out: &mut W, chip: EmulatedIoApic, value: u64) -> io::Result<EmulatedIoApic> {
-    let writing = chip.handle_write(IOWIN, 4, value);
-    let answer = writing.answer;
+    let (chip, answer) = chip.handle_write(IOWIN, 4, value);
     say(out, b"write", answer.reply())?;
-    Ok(writing.chip)
+    Ok(chip)
 }
 
 // A threaded handler: the guest masks the entry, ends the interrupt, and unmasks the entry when its thread has run. The device still holds

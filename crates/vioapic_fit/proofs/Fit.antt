@@ -1,5 +1,6 @@
 -- Every reply of the I/O APIC that a code stands for fits it, so that equal codes and words come from equal outcomes (`shown_same` of `reply_code`).
 -- Assumes nothing but that words are below 2^64.
+use Rattle.std.specs.Prelude.{Option, Some, None, Ok}
 use Prim.Native.Nat.{ℕ, ◌-◌, ◌/◌, ◌%◌, ◌^◌, ◌<◌}
 use native.Mathlib.Omega.{arith}
 use mathlib.Core.Bool.{Bool, true, false, cond, ◌&&◌}
@@ -24,41 +25,40 @@ use Rattle.vioapic_entry.specs.Redirection.{EntryStep, is_fit, is_level, remote_
 use Rattle.vioapic.specs.Registers.{is_entry_word, entry_of, is_low, read_fixed, read_low, read_word, read_selected, read_at, write_word, written_send, write_selected, written_by, write_eoi, write_at}
 use Rattle.vioapic.specs.Table.{is_version20, entry_at, interrupt_for_entry, set_level, first_awaiting, end_of_entry, ends, sent_by, every_answer, end_of_every, end_of, vector_for}
 use Rattle.vioapic_entry.specs.declared.Entry.{Entry}
-use Rattle.vioapic_entry.specs.declared.Routed.{Routed}
-use Rattle.vioapic_entry.specs.declared.Routed.TheVariants.{NotRouted, Interrupt}
+use Rattle.vioapic_entry.specs.declared.IoApicInterrupt.{IoApicInterrupt}
 use Rattle.vioapic.specs.State.{IoApicState, view}
-use Rattle.vioapic.specs.declared.Eoi.TheVariants.{NotEnded, EndedAll}
+use Rattle.vioapic.specs.declared.Eoi.TheVariants.{EndedAll}
 use Rattle.vioapic.proofs.Words.{view_at}
 
 -- an interrupt whose vector is a byte
-abbrev Small : Routed → Type 0
-Small NotRouted = Unit
-Small (Interrupt i) = i.vector.0 < 2 ^ 8
+abbrev Small : Option IoApicInterrupt → Type 0
+Small None = Unit
+Small (Some i) = i.vector.0 < 2 ^ 8
 
 flag_small : (b : Bool) → flag b < 2
 flag_small true = omega arith
 flag_small false = omega arith
 
-routed_fits : (r : Routed) → Small r → Fits (routed_reply r)
-routed_fits NotRouted s = tt
-routed_fits (Interrupt i) s = (omega (arith, s), omega (arith, flag_small i.level_triggered))
+routed_fits : (r : Option IoApicInterrupt) → Small r → Fits (routed_reply r)
+routed_fits None s = tt
+routed_fits (Some i) s = (omega (arith, s), omega (arith, flag_small i.level_triggered))
 
-pending_fits : (g : ℕ) (r : Routed) → g < 24 → Small r → Fits (pending_reply g r)
-pending_fits g NotRouted h s = omega arith
-pending_fits g (Interrupt i) h s = (omega arith, omega (arith, s), omega (arith, flag_small i.level_triggered))
+pending_fits : (g : ℕ) (r : Option IoApicInterrupt) → g < 24 → Small r → Fits (pending_reply g r)
+pending_fits g None h s = omega arith
+pending_fits g (Some i) h s = (omega arith, omega (arith, s), omega (arith, flag_small i.level_triggered))
 
 -- the sets of an EOI of version 0x20 have 24 bits each
 every_fits : (c s : ℕ) → c < 2 ^ 24 → s < 2 ^ 24 → Fits (eoi_reply (every_answer c s))
 every_fits c s h k = go (eqb c 0)
   where
-    go : (b : Bool) → Fits (eoi_reply (cond b NotEnded (EndedAll (record { cleared = c; sent = s }))))
+    go : (b : Bool) → Fits (eoi_reply (cond b None (Some (EndedAll (record { cleared = c; sent = s })))))
     go true = tt
     go false = (h, k)
 
-every_write_fits : (c s : ℕ) → c < 2 ^ 24 → s < 2 ^ 24 → Fits (written_reply (written_by (every_answer c s)))
+every_write_fits : (c s : ℕ) → c < 2 ^ 24 → s < 2 ^ 24 → Fits (written_reply (Ok (written_by (every_answer c s))))
 every_write_fits c s h k = go (eqb c 0)
   where
-    go : (b : Bool) → Fits (written_reply (written_by (cond b NotEnded (EndedAll (record { cleared = c; sent = s })))))
+    go : (b : Bool) → Fits (written_reply (Ok (written_by (cond b None (Some (EndedAll (record { cleared = c; sent = s })))))))
     go true = tt
     go false = (h, k)
 
@@ -90,9 +90,9 @@ unfolding write_word write_low20
 write_small n sel e x =
     either (is_low sel) _ _ (either n _ _ (either (is_owed (store_low20 e x)) _ _ (send_small (store_low20 e x)) tt) tt) tt
 
-written_send_fits : (r : Routed) → Small r → Fits (written_reply (written_send r))
-written_send_fits NotRouted s = tt
-written_send_fits (Interrupt i) s = routed_fits (Interrupt i) s
+written_send_fits : (r : Option IoApicInterrupt) → Small r → Fits (written_reply (Ok (written_send r)))
+written_send_fits None s = tt
+written_send_fits (Some i) s = routed_fits (Some i) s
 
 module _ (m : IoApicState) where
   pub assert_fits : (gsi : Gsi) → Fits (assert_gsi m gsi).reply

@@ -1,4 +1,5 @@
 -- Demand 3 in version 0x20, and the cure. Assumes nothing.
+use Rattle.std.specs.Prelude.{Some, None, Ok}
 use Prim.Native.Nat.{ℕ, zero, suc, ◌+◌, ◌-◌, ◌/◌, ◌%◌, ◌^◌, ◌<◌}
 use native.Mathlib.Omega.{arith}
 use native.Mathlib.Decide.{ℕ_discrete}
@@ -25,7 +26,7 @@ use Rattle.vioapic.specs.IoApic.{good_width, chip_of, set_gsi_level, assert_gsi,
 use Rattle.vioapic.specs.Calls.{Call, SetGsiLevel, AssertGsi, EndOfInterrupt, VectorForGsi, AddressRange, HandleRead, HandleWrite, outcome, next, run}
 use Rattle.vioapic_entry.specs.declared.Entry.{Entry}
 use Rattle.vioapic.specs.State.{IoApicState}
-use Rattle.vioapic.specs.declared.Eoi.TheVariants.{NotEnded, EndedAll}
+use Rattle.vioapic.specs.declared.Eoi.TheVariants.{EndedAll}
 use Rattle.vioapic_theorems.specs.Sends.{resends, write_sends, sent, sends}
 use Rattle.vioapic_theorems.specs.Premises.{all_true, always, line_up, asks, throughout}
 use Rattle.vioapic_theorems.specs.Heard20.{is_eoi_at, eois_at, again, EveryEnded, unmasked, keeps, held_up, own_eoi, stays_level, asks_at_eoi, own_eois, SentAtItsEois, Heard20, Demand3Of20, waits, BothSent, sent_at_eoi, BothHeard, NeverStarved}
@@ -86,18 +87,18 @@ module _ (v : Vector) (e : Entry) where
 -- ---- an EOI's answer
 
 answer_sent : (cleared named g : ℕ) (b : Bool) → bit named g ≡ b → (cleared ≡ 0 → b ≡ false)
-    → (resends g (eoi_reply (every_answer cleared named)) ≡ cond b 1 0) × (resends g (written_reply (written_by (every_answer cleared named))) ≡ cond b 1 0)
+    → (resends g (eoi_reply (every_answer cleared named)) ≡ cond b 1 0) × (resends g (written_reply (Ok (written_by (every_answer cleared named)))) ≡ cond b 1 0)
 answer_sent cleared named g b p z = go (eqb cleared 0) refl
   where
     go : (a : Bool) → eqb cleared 0 ≡ a
-        → (resends g (eoi_reply (cond a NotEnded (EndedAll (record { cleared = cleared; sent = named })))) ≡ cond b 1 0)
-        × (resends g (written_reply (written_by (cond a NotEnded (EndedAll (record { cleared = cleared; sent = named }))))) ≡ cond b 1 0)
+        → (resends g (eoi_reply (cond a None (Some (EndedAll (record { cleared = cleared; sent = named }))))) ≡ cond b 1 0)
+        × (resends g (written_reply (Ok (written_by (cond a None (Some (EndedAll (record { cleared = cleared; sent = named }))))))) ≡ cond b 1 0)
     go true e = let y : b ≡ false = z (eqb-true cleared 0 e) in rw y (refl, refl)
     go false e = rw p (refl, refl)
 
 -- it names those entries that are sent again
 every_sent : (s : IoApicState) (v : Vector) (g : ℕ) → Agrees s → g < 24
-    → (resends g (eoi_reply (end_of_every s v).answer) ≡ cond (again v (entry_at s g)) 1 0) × (resends g (written_reply (written_by (end_of_every s v).answer)) ≡ cond (again v (entry_at s g)) 1 0)
+    → (resends g (eoi_reply (end_of_every s v).answer) ≡ cond (again v (entry_at s g)) 1 0) × (resends g (written_reply (Ok (written_by (end_of_every s v).answer))) ≡ cond (again v (entry_at s g)) 1 0)
 unfolding end_of_every_in_table
 every_sent s v g a l =
     rw (every_in_table s v a)
@@ -131,7 +132,7 @@ by_write m addr width x n a p e =
     let y : x % 2 ^ 32 % 2 ^ 8 ≡ x % 2 ^ 8 = omega arith in
     let u : Vector = record { 0 = x % 2 ^ 8 } in
     let away : eqb addr (m.base + 0x10) ≡ false = ne_eqb addr (m.base + 0x10) (omega arith) in
-    let w : handle_write m addr width x ≡ record { state = (end_of_every m u).state; reply = written_reply (written_by (end_of_every m u).answer) } = rw (p, q, o, n, y) in
+    let w : handle_write m addr width x ≡ record { state = (end_of_every m u).state; reply = written_reply (Ok (written_by (end_of_every m u).answer)) } = rw (p, q, o, n, y) in
     record {
       after = ap (λ (r : Outcome IoApicState). r.state) w;
       reply = λ g l. rw away (ap (λ (r : Outcome IoApicState). resends g r.reply) w ∙ (every_sent m u g a l).1);

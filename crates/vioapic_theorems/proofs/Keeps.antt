@@ -1,4 +1,5 @@
 -- The chip's rules are kept by every public call, refused calls hand the chip back, and a selector names an entry of the table. Assumes nothing.
+use Rattle.std.specs.Prelude.{Option, Some, None, Ok}
 use Prim.Native.Nat.{ℕ, zero, suc, ◌%◌, ◌-◌, ◌<◌}
 use native.Mathlib.Omega.{arith}
 use native.Mathlib.Decide.{ℕ_discrete}
@@ -20,10 +21,9 @@ use Rattle.vioapic.specs.Registers.{Writing, written_send, written_by}
 use Rattle.vioapic.specs.IoApic.{set_gsi_level, assert_gsi, end_of_interrupt, handle_write}
 use Rattle.vioapic.specs.Calls.{Call, SetGsiLevel, AssertGsi, EndOfInterrupt, VectorForGsi, AddressRange, HandleRead, HandleWrite, outcome, next, run}
 use Rattle.vioapic_entry.specs.declared.Entry.{Entry}
-use Rattle.vioapic_entry.specs.declared.Routed.{Routed}
-use Rattle.vioapic_entry.specs.declared.Routed.TheVariants.{NotRouted, Interrupt}
+use Rattle.vioapic_entry.specs.declared.IoApicInterrupt.{IoApicInterrupt}
 use Rattle.vioapic.specs.declared.Eoi.{Eoi}
-use Rattle.vioapic.specs.declared.Eoi.TheVariants.{NotEnded, Ended, EndedAll}
+use Rattle.vioapic.specs.declared.Eoi.TheVariants.{Ended, EndedAll}
 use Rattle.vioapic.specs.State.{IoApicState}
 use Rattle.vioapic_theorems.specs.Rules.{implies, entry_rules, ChipRules, NewKeepsRules, CallsKeepRules, RunsKeepRules, CallsKeepVersion, RefusedKeeps, TableIndex}
 use Rattle.vioapic_entry.proofs.Fields.{same_fit, same_level, alike_with, alike_without, alike_high, irr_with, irr_without, irr_low, irr_high}
@@ -240,27 +240,27 @@ run_is_version20 m (c ∷ cs) = run_is_version20 (next m c) cs ∙ call_is_versi
 
 -- ---- refusals
 
-routed_done : (r : Routed) → reply_number (routed_reply r) ≡ 0
-routed_done NotRouted = refl
-routed_done (Interrupt i) = refl
+routed_done : (r : Option IoApicInterrupt) → reply_number (routed_reply r) ≡ 0
+routed_done None = refl
+routed_done (Some i) = refl
 
-eoi_done : (r : Eoi) → reply_number (eoi_reply r) ≡ 0
-eoi_done NotEnded = refl
-eoi_done (Ended e) = go e.gsi.0 e.pending
+eoi_done : (r : Option Eoi) → reply_number (eoi_reply r) ≡ 0
+eoi_done None = refl
+eoi_done (Some (Ended e)) = go e.gsi.0 e.pending
   where
-    go : (g : ℕ) (r : Routed) → reply_number (eoi_reply (Ended (record { gsi = record { 0 = g }; pending = r }))) ≡ 0
-    go g NotRouted = refl
-    go g (Interrupt i) = refl
-eoi_done (EndedAll e) = refl
+    go : (g : ℕ) (r : Option IoApicInterrupt) → reply_number (eoi_reply (Some (Ended (record { gsi = record { 0 = g }; pending = r })))) ≡ 0
+    go g None = refl
+    go g (Some i) = refl
+eoi_done (Some (EndedAll e)) = refl
 
-written_done : (r : Eoi) → reply_number (written_reply (written_by r)) ≡ 0
-written_done NotEnded = refl
-written_done (Ended e) = refl
-written_done (EndedAll e) = refl
+written_done : (r : Option Eoi) → reply_number (written_reply (Ok (written_by r))) ≡ 0
+written_done None = refl
+written_done (Some (Ended e)) = refl
+written_done (Some (EndedAll e)) = refl
 
-send_done : (r : Routed) → reply_number (written_reply (written_send r)) ≡ 0
-send_done NotRouted = refl
-send_done (Interrupt i) = refl
+send_done : (r : Option IoApicInterrupt) → reply_number (written_reply (Ok (written_send r))) ≡ 0
+send_done None = refl
+send_done (Some i) = refl
 
 writes_done : (s : IoApicState) (o x : ℕ) (w : Writing) → Writes s o x w → reply_number (written_reply w.answer) ≡ 0
 writes_done s o x w (Writes.selected y) = refl

@@ -1,4 +1,5 @@
 -- Demand 3 with the premises that are needed: each call's part in the count, and then a run of calls. Assumes nothing.
+use Rattle.std.specs.Prelude.{Option, Some, None}
 use Prim.Native.Nat.{ℕ, zero, suc, ◌+◌, ◌-◌, ◌%◌, ◌<◌}
 use native.Mathlib.Omega.{arith}
 use native.Mathlib.Decide.{ℕ_discrete}
@@ -21,8 +22,7 @@ use Rattle.vioapic.proofs.Agree.{calls_agree}
 use Rattle.vioapic.specs.IoApic.{set_gsi_level, assert_gsi, end_of_interrupt, handle_write}
 use Rattle.vioapic.specs.Calls.{Call, SetGsiLevel, AssertGsi, EndOfInterrupt, VectorForGsi, AddressRange, HandleRead, HandleWrite, outcome, next}
 use Rattle.vioapic_entry.specs.declared.Entry.{Entry}
-use Rattle.vioapic_entry.specs.declared.Routed.{Routed}
-use Rattle.vioapic_entry.specs.declared.Routed.TheVariants.{NotRouted, Interrupt}
+use Rattle.vioapic_entry.specs.declared.IoApicInterrupt.{IoApicInterrupt}
 use Rattle.vioapic.specs.State.{IoApicState}
 use Rattle.vioapic_theorems.specs.Rules.{implies}
 use Rattle.vioapic_theorems.specs.Sends.{resends, sent, sends, is_eoi, eois, lower_in_flight}
@@ -64,13 +64,13 @@ passes : (v : Vector) (g : ℕ) (m : IoApicState) (c : Call) → Quiet v g m c �
 passes v g m c k i l = record { going = k.going; count = λ n. rw (k.unsent, i, l) (omega arith) }
 
 -- what an EOI's reply carries
-pub resends_one : (g h : ℕ) (r : Routed) → resends g (pending_reply h r) ≡ cond (eqb h g) (one r) 0
-resends_one g h NotRouted = go (eqb h g)
+pub resends_one : (g h : ℕ) (r : Option IoApicInterrupt) → resends g (pending_reply h r) ≡ cond (eqb h g) (one r) 0
+resends_one g h None = go (eqb h g)
   where
     go : (b : Bool) → ◌≡◌ {A = ℕ} 0 (cond b 0 0)
     go true = refl
     go false = refl
-resends_one g h (Interrupt i) = refl
+resends_one g h (Some i) = refl
 
 unsent : (h g : ℕ) (b : Bool) → not (ltb h g && b) ≡ true → h < g → b ≡ false
 unsent h g b e l = let k : not b ≡ true = rw (lt-ltb h g l) at e in not_is b k

@@ -1,4 +1,5 @@
 -- An entry in flight over a call that is no EOI of its vector: it flies on, and isn't sent. Assumes nothing.
+use Rattle.std.specs.Prelude.{Option, Some, None, Ok}
 use Prim.Native.Nat.{ℕ, ◌+◌, ◌-◌, ◌%◌, ◌^◌, ◌≤◌, ◌<◌}
 use native.Mathlib.Omega.{arith}
 use native.Mathlib.Decide.{ℕ_discrete}
@@ -21,8 +22,7 @@ use Rattle.vioapic.specs.Registers.{written_send, entry_of}
 use Rattle.vioapic.specs.IoApic.{set_gsi_level, assert_gsi, handle_write}
 use Rattle.vioapic.specs.Calls.{Call, SetGsiLevel, AssertGsi, HandleWrite, outcome, next}
 use Rattle.vioapic_entry.specs.declared.Entry.{Entry}
-use Rattle.vioapic_entry.specs.declared.Routed.{Routed}
-use Rattle.vioapic_entry.specs.declared.Routed.TheVariants.{NotRouted, Interrupt}
+use Rattle.vioapic_entry.specs.declared.IoApicInterrupt.{IoApicInterrupt}
 use Rattle.vioapic.specs.State.{IoApicState}
 use Rattle.vioapic_theorems.specs.Sends.{routes, write_sends, sent}
 use Rattle.vioapic_theorems.specs.Premises.{keeps_low}
@@ -56,13 +56,13 @@ only h g n z = go (ℕ_discrete h g)
     go (no p) = rw (ne_eqb h g p)
 
 -- what a line's reply carries, and that of a write to the window
-pub routes_one : (r : Routed) → routes (routed_reply r) ≡ one r
-routes_one NotRouted = refl
-routes_one (Interrupt i) = refl
+pub routes_one : (r : Option IoApicInterrupt) → routes (routed_reply r) ≡ one r
+routes_one None = refl
+routes_one (Some i) = refl
 
-pub write_one : (r : Routed) → routes (written_reply (written_send r)) ≡ one r
-write_one NotRouted = refl
-write_one (Interrupt i) = refl
+pub write_one : (r : Option IoApicInterrupt) → routes (written_reply (Ok (written_send r))) ≡ one r
+write_one None = refl
+write_one (Some i) = refl
 
 -- the entry at g after a call that replaces entry h
 pub at_replaced : (P : Entry → Type 0) (g : ℕ) (m : IoApicState) (h : ℕ) (f : Entry) → length m.entries ≡ 24 → h < 24 → (h ≡ g → P f) → P (entry_at m g) → P (entry_at (put m h f) g)
@@ -147,8 +147,8 @@ writes_nothing g m addr = no_send (eqb addr (m.base + 0x10)) (eqb (entry_of m.se
 pub writes_refused : (g : ℕ) (m : IoApicState) (addr : ℕ) (why : Refusal) → write_sends g m addr (Refused why) ≡ 0
 writes_refused g m addr why = no_send (eqb addr (m.base + 0x10)) (eqb (entry_of m.selector) g)
 
-pub writes_window : (g : ℕ) (m : IoApicState) (addr h : ℕ) (r : Routed) → m.base ≤ addr → addr - m.base ≡ 0x10 → h ≡ entry_of m.selector
-    → write_sends g m addr (written_reply (written_send r)) ≡ cond (eqb h g) (one r) 0
+pub writes_window : (g : ℕ) (m : IoApicState) (addr h : ℕ) (r : Option IoApicInterrupt) → m.base ≤ addr → addr - m.base ≡ 0x10 → h ≡ entry_of m.selector
+    → write_sends g m addr (written_reply (Ok (written_send r))) ≡ cond (eqb h g) (one r) 0
 writes_window g m addr h r l o i =
     let e : eqb addr (m.base + 0x10) ≡ true = eq-eqb addr (m.base + 0x10) (omega arith) in
     rw (e, ← i, write_one r)

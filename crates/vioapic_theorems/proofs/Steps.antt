@@ -1,4 +1,5 @@
 -- What each rule does to an entry that is in flight, and what it keeps. Assumes nothing.
+use Rattle.std.specs.Prelude.{Option, Some, None}
 use Prim.Native.Nat.{ℕ, ◌/◌, ◌%◌, ◌^◌, ◌<◌}
 use native.Mathlib.Omega.{arith}
 use mathlib.Core.Bool.{Bool, true, false, not, cond, ◌&&◌, ◌||◌}
@@ -12,8 +13,7 @@ use Rattle.types.specs.declared.Reply.TheVariants.{Refused, Nothing, One, Two, T
 use Rattle.vioapic_entry.specs.Answers.{routed_reply}
 use Rattle.vioapic_entry.specs.Redirection.{EntryStep, is_fit, is_level, remote_irr, has_vector, awaits, low_part, with_remote_irr, without_remote_irr, with_word, with_deferred, with_input, is_masked, quietly, send_entry, end_entry20, without_status, same_low20, keeps_deferred, store_low20}
 use Rattle.vioapic_entry.specs.declared.Entry.{Entry}
-use Rattle.vioapic_entry.specs.declared.Routed.{Routed}
-use Rattle.vioapic_entry.specs.declared.Routed.TheVariants.{NotRouted, Interrupt}
+use Rattle.vioapic_entry.specs.declared.IoApicInterrupt.{IoApicInterrupt}
 use Rattle.vioapic_theorems.specs.Rules.{implies}
 use Rattle.vioapic_theorems.specs.Premises.{asks, level_sent}
 use Rattle.vioapic_entry.proofs.Fields.{Alike, alike_refl, alike_then, same_fit, same_level, same_vector, alike_with, alike_without, alike_high, irr_with, irr_without, irr_low, irr_high, low_written, alike_low20, irr_low20}
@@ -29,9 +29,9 @@ imply true b f = f refl
 imply false b f = refl
 
 -- 1 for an interrupt, 0 for none
-abbrev pub one : Routed → ℕ
-one NotRouted = 0
-one (Interrupt i) = 1
+abbrev pub one : Option IoApicInterrupt → ℕ
+one None = 0
+one (Some i) = 1
 
 -- ---- an entry in flight with v
 
@@ -215,7 +215,7 @@ end_pending e = go (e.input_level || e.pending_level)
 -- ---- the guest's writes, version 0x11
 
 -- nothing is sent
-pub wrote_quiet : (n : Bool) (e : Entry) (x : ℕ) (r : EntryStep) → n ≡ false → Wrote n e x r → r.answer ≡ NotRouted
+pub wrote_quiet : (n : Bool) (e : Entry) (x : ℕ) (r : EntryStep) → n ≡ false → Wrote n e x r → r.answer ≡ None
 wrote_quiet n e x r old (Wrote.kept o b c) = refl
 wrote_quiet n e x r old (Wrote.changed o c) = refl
 wrote_quiet n e x r old (Wrote.stored o s) = never o old

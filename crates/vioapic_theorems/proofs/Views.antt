@@ -1,4 +1,5 @@
 -- The cases of each rule of an entry and of each call, so that what is shown of them is shown case by case. Assumes nothing.
+use Rattle.std.specs.Prelude.{None, Err}
 use Prim.Native.Nat.{ℕ, ◌-◌, ◌%◌, ◌^◌, ◌≤◌, ◌<◌}
 use native.Mathlib.Omega.{arith}
 use mathlib.Core.Bool.{Bool, true, false, cond, ◌&&◌, ◌||◌}
@@ -18,8 +19,6 @@ use Rattle.vioapic.specs.IoApic.{good_width, writing_outcome, refuse, handle_wri
 use Rattle.vioapic.proofs.Ways.{entry_word_range}
 use Rattle.vioapic_entry.specs.declared.Entry.{Entry}
 use Rattle.vioapic.specs.State.{IoApicState}
-use Rattle.vioapic.specs.declared.Eoi.TheVariants.{NotEnded}
-use Rattle.vioapic.specs.declared.Written.TheVariants.{NotWritten}
 use Rattle.vioapic_theorems.specs.Premises.{asks}
 
 -- ---- an entry is sent
@@ -166,13 +165,13 @@ level_view s gsi b = routes_view s gsi (λ e. move_line e b)
 
 pub data Ends (s : IoApicState) (v : Vector) : Ending → Type 0 where
   found : first_awaiting s v < 24 → Ends s v (end_at s (first_awaiting s v))
-  unfound : 24 ≤ first_awaiting s v → Ends s v (ending s NotEnded)
+  unfound : 24 ≤ first_awaiting s v → Ends s v (ending s None)
 
 ends_view : (s : IoApicState) (v : Vector) → Ends s v (end_of_entry s v)
 unfolding end_of_entry
 ends_view s v = go (ltb (first_awaiting s v) 24) refl
   where
-    go : (b : Bool) → ltb (first_awaiting s v) 24 ≡ b → Ends s v (cond b (end_at s (first_awaiting s v)) (ending s NotEnded))
+    go : (b : Bool) → ltb (first_awaiting s v) 24 ≡ b → Ends s v (cond b (end_at s (first_awaiting s v)) (ending s None))
     go true p = found (ltb-true (first_awaiting s v) 24 p)
     go false p = unfound (ltb-false (first_awaiting s v) 24 p)
 
@@ -227,7 +226,7 @@ unfolding handle_write
 write_view m addr width x = go (good_width width) (leb m.base addr) refl refl
   where
     go : (a b : Bool) → good_width width ≡ a → leb m.base addr ≡ b
-        → Write m addr width x (writing_outcome (cond a (cond b (write_at m (addr - m.base) (x % 2 ^ 32)) (writing m (NotWritten InvalidAddress))) (writing m (NotWritten Unsupported))))
+        → Write m addr width x (writing_outcome (cond a (cond b (write_at m (addr - m.base) (x % 2 ^ 32)) (writing m (Err InvalidAddress))) (writing m (Err Unsupported))))
     go false b p q = refused Unsupported
     go true false p q = refused InvalidAddress
     go true true p q = served p (leb-true m.base addr q) (writes_view m (addr - m.base) (x % 2 ^ 32))

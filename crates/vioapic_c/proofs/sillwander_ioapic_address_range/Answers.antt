@@ -1,8 +1,8 @@
 use Rattle.vioapic_c.proofs.Ways.{range_between, range_none}
 use Rattle.vioapic_c.proofs.sillwander_ioapic_address_range.Goals as goal
 
-pub returns-in-Between : goal.returns-in-Between
-returns-in-Between c = search range_between
+pub returns-in-Ok : goal.returns-in-Ok
+returns-in-Ok c = search range_between
 
-pub returns-in-NoRange : goal.returns-in-NoRange
-returns-in-NoRange c = search range_none
+pub returns-in-Err : goal.returns-in-Err
+returns-in-Err c = search range_none

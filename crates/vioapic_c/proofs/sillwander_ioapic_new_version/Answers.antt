@@ -1,8 +1,8 @@
 use Rattle.vioapic_c.proofs.Ways.{new_unknown, new_known}
 use Rattle.vioapic_c.proofs.sillwander_ioapic_new_version.Goals as goal
 
-pub returns-then-not-is_version : goal.returns-then-not-is_version
-returns-then-not-is_version c = search new_unknown
+pub returns-in-Err : goal.returns-in-Err
+returns-in-Err c = new_unknown _ _ _ _ _ _ c.in-Err.ensures c.code-in-Err.ensures
 
-pub returns : goal.returns
-returns c = search new_known
+pub returns-in-Ok : goal.returns-in-Ok
+returns-in-Ok c = new_known _ _ _ _ _ _ _ _ _ c.in-Ok.ensures c.new_version.ensures c.reply.ensures c.code.ensures
