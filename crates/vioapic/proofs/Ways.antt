@@ -1,5 +1,5 @@
 -- A law for each way out of the calls: l are the words before, w those after. Assumes nothing.
-use Rattle.std.specs.Prelude.{Option, Some, None, Result, Ok, Err}
+use Rattle.std.specs.Prelude.{Option, Some, None, Result, Ok, Err, is_ok}
 use Prim.Native.Nat.{ℕ, ◌+◌, ◌-◌, ◌/◌, ◌%◌, ◌^◌, ◌≤◌, ◌<◌}
 use native.Mathlib.Omega.{arith}
 use mathlib.Core.Bool.{Bool, true, false, not}
@@ -26,7 +26,7 @@ use Rattle.vioapic.specs.Answers.{eoi_reply, gsi_vector_reply, written_reply}
 use Rattle.vioapic.specs.State.{IoApicState, view, entries_from, new_words}
 use Rattle.vioapic.specs.Table.{Routing, routing, ending, entry_at, put, route_at, interrupt_for_entry, set_level, is_version20, first_awaiting, end_of_entry, every_answer, end_of_every, end_of, vector_of_entry, vector_for}
 use Rattle.vioapic.specs.Registers.{is_entry_word, entry_of, is_low, read_word, read_fixed, read_low, read_selected, write_word, writing, written_send, entry_written, write_selected, write_at, done, written_by, write_eoi, read_at}
-use Rattle.vioapic.specs.IoApic.{routing_outcome, ending_outcome, writing_outcome, good_width, fits, version_number, version_of, chip_of, chip_at, new_default, Leaves, Wrote, new_or, Makes, created_version, vector_for_gsi, address_range, assert_gsi, set_gsi_level, end_of_interrupt, handle_read, handle_writing, handle_write}
+use Rattle.vioapic.specs.IoApic.{routing_outcome, ending_outcome, writing_outcome, good_width, fits, version_number, version_of, chip_of, chip_at, new_default, Leaves, Wrote, new_or, Makes, created_version, vector_for_gsi, address_range, assert_gsi, set_gsi_level, end_of_interrupt, handle_read, handle_writing, handle_write, is_version, NamesVersion}
 use Rattle.vioapic.specs.Inside.{Keeps, with_low, every_end, every_ending, cleared_in, sent_in}
 use Rattle.vioapic.specs.declared.Ends.{Ends}
 use Rattle.vioapic.specs.declared.IoApicVersion.{IoApicVersion}
@@ -328,6 +328,11 @@ unfolding handle_write
 wrote_leaves l w r addr width x k = record { outcome = ap writing_outcome k.outcome; untouched = k.untouched; kept = k.kept }
 
 -- ---- a new state
+
+-- what names a version is the number of one
+pub names_ok : (number : ℕ) (r : Result IoApicVersion Refusal) (b : Bool) → NamesVersion number r → b ≡ is_ok r → b ≡ is_version number
+names_ok number (Ok v) b names e = e ∙ sym names.0
+names_ok number (Err why) b names e = e ∙ sym names.0
 
 pub new_shows : (version base size : ℕ) → view (new_words version base size) ≡ chip_of version base size
 unfolding view entries_from

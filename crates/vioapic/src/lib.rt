@@ -17,7 +17,7 @@ ghost use Rattle.vioapic.specs.declared.IoApicVersion.TheVariants.{V20};
 ghost use Rattle.vioapic.specs.State.{view, new_words};
 ghost use Rattle.vioapic.specs.Table.{is_version20, entry_at, put, routing, route_at, ending, first_awaiting, end_of_entry, every_answer, end_of_every, vector_of_entry};
 ghost use Rattle.vioapic.specs.Registers.{is_entry_word, is_low, entry_of, version_word, read_fixed, read_low, read_selected, writing, written_send, write_selected, read_at, written_by, write_eoi, write_at};
-ghost use Rattle.vioapic.specs.IoApic.{good_width, fits, version_number, version_of, NamesVersion, chip_of, chip_at, new_default, Leaves, Wrote, Makes, created_version, vector_for_gsi, address_range, assert_gsi, set_gsi_level, end_of_interrupt, handle_read, handle_writing};
+ghost use Rattle.vioapic.specs.IoApic.{good_width, fits, version_number, version_of, is_version, NamesVersion, chip_of, chip_at, new_default, Leaves, Wrote, Makes, created_version, vector_for_gsi, address_range, assert_gsi, set_gsi_level, end_of_interrupt, handle_read, handle_writing};
 ghost use Rattle.vioapic.specs.Inside.{Keeps, put_flag, with_low, NoneDeferred, Quiet, Flown, forgetting, every_end, end_next, every_ending, cleared_in, sent_in};
 
 use types::{Gsi, Refusal, Reply, ToReply, Vector};
@@ -219,6 +219,14 @@ impl From<Option<Eoi>> for Written {
             Some(Eoi::EndedAll(eois)) => Written::EndedAll(eois),
         }
     }
+}
+
+// Whether there is a version of that number.
+#[tactic(auto, using(crate::proofs::Ways::names_ok))]
+pub fn is_version(number: u64) -> bool
+    ensures { result ≡ is_version number }
+{
+    IoApicVersion::try_from(number).is_ok()
 }
 
 // Guest-physical addresses from the start up to, and without, the end.
