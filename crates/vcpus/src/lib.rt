@@ -15,28 +15,19 @@ use vcpus_ipi::{Effect, Plan, Sent, Vcpu};
 fn scan(records: &[Vcpu], plan: Plan) -> Plan
     ensures { result ≡ seen_all 0 plan records.now }
 {
-    let n = records.len();
-    let mut p = plan;
-    let mut i = 0;
-    while i < n {
-        let r = records[i];
-        p = vcpus_ipi::seen(p, r, i);
-        i += 1;
+    let mut seen = plan;
+    for (at, vcpu) in records.iter().enumerate() {
+        seen = vcpus_ipi::seen(seen, *vcpu, at);
     }
-    p
+    seen
 }
 
 // Every record becomes what the effect leaves of it.
 fn deliver(records: &mut [Vcpu], effect: Effect)
     ensures { records.new ≡ changed_all effect 0 records.old }
 {
-    let n = records.len();
-    let mut i = 0;
-    while i < n {
-        let r = records[i];
-        let t = vcpus_ipi::changed(r, effect, i);
-        records[i] = t;
-        i += 1;
+    for (at, vcpu) in records.iter_mut().enumerate() {
+        *vcpu = vcpus_ipi::changed(*vcpu, effect, at);
     }
 }
 
@@ -51,8 +42,7 @@ pub fn sillwander_vcpus_send(
 ) -> Sent
     ensures { left records.new result ≡ leaves (send_ipi records.old (ask_of sender offset value width active)) }
 {
-    let n = records.len();
-    let begun = vcpus_ipi::begin(n, sender, offset, value, width, active);
+    let begun = vcpus_ipi::begin(records.len(), sender, offset, value, width, active);
     let found = scan(records, begun);
     let asked = vcpus_ipi::asked(found);
     let reached = scan(records, asked);
@@ -67,32 +57,26 @@ pub struct Vcpus {
     pub records: [Vcpu; 64],
 }
 
-#[derive(Clone, Copy)]
-pub struct VcpusSent {
-    pub records: [Vcpu; 64],
-    pub sent: Sent,
-}
-
-fn send_by_value(
-    vcpus: Vcpus,
-    sender: usize,
-    offset: u64,
-    value: u64,
-    width: u64,
-    active: u64,
-) -> VcpusSent
-    ensures { left_after result ≡ leaves (send_ipi vcpus.records (ask_of sender offset value width active)) }
-{
-    let mut records = vcpus.records;
-    let sent = sillwander_vcpus_send(&mut records, sender, offset, value, width, active);
-    VcpusSent { records, sent }
-}
-
 impl Vcpus {
-    // The same by value.
-    pub fn send(self, sender: VcpuId, offset: u64, value: u64, width: u8, active: u64) -> VcpusSent
+    // The same by value: the vCPUs after the call, and what the caller is answered.
+    pub fn send(
+        mut self,
+        sender: VcpuId,
+        offset: u64,
+        value: u64,
+        width: u8,
+        active: u64,
+    ) -> (Vcpus, Sent)
         ensures { left_after result ≡ leaves (send_ipi self.records (ask_of sender.0 offset value width active)) }
     {
-        send_by_value(self, sender.0, offset, value, width as u64, active)
+        let sent = sillwander_vcpus_send(
+            &mut self.records,
+            sender.0,
+            offset,
+            value,
+            u64::from(width),
+            active,
+        );
+        (self, sent)
     }
 }
