@@ -29,8 +29,8 @@ use vlapic_requests::Acceptance;
 pub fn new(ioapic: &mut [u64; 32], apic: &mut [u64; 48])
     ensures { Makes ioapic.new apic.new }
 {
-    vioapic::new_version(&mut *ioapic, IOAPIC_BASE, IOAPIC_SIZE, IoApicVersion::V20);
-    vlapic_words::new(&mut *apic);
+    vioapic::new_version(ioapic, IOAPIC_BASE, IOAPIC_SIZE, IoApicVersion::V20);
+    vlapic_words::new(apic);
 }
 
 // ---- What the I/O APIC sends becomes a request
@@ -40,7 +40,7 @@ fn request_routed(apic: &mut [u64; 48], routed: Routed)
 {
     match routed {
         Routed::NotRouted => {}
-        Routed::Interrupt(i) => vlapic_requests::request(&mut *apic, i.vector, i.level_triggered),
+        Routed::Interrupt(i) => vlapic_requests::request(apic, i.vector, i.level_triggered),
     }
 }
 
@@ -51,7 +51,7 @@ fn request_resent(apic: &mut [u64; 48], vector: Vector, sent: u32)
     if sent == 0 {
         return;
     }
-    vlapic_requests::request(&mut *apic, vector, true);
+    vlapic_requests::request(apic, vector, true);
 }
 
 fn request_ended(apic: &mut [u64; 48], vector: Vector, eoi: Eoi)
@@ -59,11 +59,8 @@ fn request_ended(apic: &mut [u64; 48], vector: Vector, eoi: Eoi)
 {
     match eoi {
         Eoi::NotEnded => {}
-        Eoi::Ended(ended) => {
-            let pending = ended.pending;
-            request_routed(&mut *apic, pending);
-        }
-        Eoi::EndedAll(ended) => request_resent(&mut *apic, vector, ended.sent),
+        Eoi::Ended(ended) => request_routed(apic, ended.pending),
+        Eoi::EndedAll(ended) => request_resent(apic, vector, ended.sent),
     }
 }
 
@@ -72,17 +69,14 @@ fn request_written(apic: &mut [u64; 48], value: u64, written: Written)
 {
     match written {
         Written::Done => {}
-        Written::Sent(i) => vlapic_requests::request(&mut *apic, i.vector, i.level_triggered),
-        Written::EndedAll(ended) => request_resent(
-            &mut *apic,
-            Vector((value % 0x100) as u8),
-            ended.sent,
-        ),
+        Written::Sent(i) => vlapic_requests::request(apic, i.vector, i.level_triggered),
+        Written::EndedAll(ended) => request_resent(apic, Vector((value % 0x100) as u8), ended.sent),
         Written::NotWritten(_) => {}
     }
 }
 
-// ---- The calls
+// ---- The calls, over the words of both chips as C lends them, two arrays side by side.
+// Stays: the C interface (`ioapic` and `apic` are two parameters of each call: board_c hands on what C lends).
 
 // Updates one input line of the I/O APIC.
 pub fn set_gsi_level(
@@ -93,8 +87,8 @@ pub fn set_gsi_level(
 ) -> Routed
     ensures { Gives Routed routed_reply ioapic.old ioapic.new apic.old apic.new result (set_gsi_level (board_in ioapic.old apic.old) gsi asserted) }
 {
-    let routed = vioapic::set_gsi_level(&mut *ioapic, gsi, asserted);
-    request_routed(&mut *apic, routed);
+    let routed = vioapic::set_gsi_level(ioapic, gsi, asserted);
+    request_routed(apic, routed);
     routed
 }
 
@@ -102,15 +96,15 @@ pub fn set_gsi_level(
 pub fn accept_interrupt(apic: &mut [u64; 48]) -> Acceptance
     ensures { (io : List ℕ) → Gives Acceptance acceptance_reply io io apic.old apic.new result (accept_interrupt (board_in io apic.old)) }
 {
-    vlapic_requests::accept(&mut *apic)
+    vlapic_requests::accept(apic)
 }
 
 // The EOI message goes to the I/O APIC.
 fn broadcast(ioapic: &mut [u64; 32], apic: &mut [u64; 48], vector: Vector) -> Eoi
     ensures { Gives Eoi eoi_reply ioapic.old ioapic.new apic.old apic.new result (ended_to (apic-words.view apic.old) vector (end_of (io-words.view ioapic.old) vector)) }
 {
-    let eoi = vioapic::end_of_interrupt(&mut *ioapic, vector);
-    request_ended(&mut *apic, vector, eoi);
+    let eoi = vioapic::end_of_interrupt(ioapic, vector);
+    request_ended(apic, vector, eoi);
     eoi
 }
 
@@ -118,8 +112,8 @@ fn broadcast(ioapic: &mut [u64; 32], apic: &mut [u64; 48], vector: Vector) -> Eo
 pub fn handle_eoi(ioapic: &mut [u64; 32], apic: &mut [u64; 48]) -> Eoi
     ensures { Gives Eoi eoi_reply ioapic.old ioapic.new apic.old apic.new result (handle_eoi (board_in ioapic.old apic.old)) }
 {
-    match vlapic_requests::end_highest(&mut *apic) {
-        EoiAnswer::Broadcast(vector) => broadcast(&mut *ioapic, &mut *apic, vector),
+    match vlapic_requests::end_highest(apic) {
+        EoiAnswer::Broadcast(vector) => broadcast(ioapic, apic, vector),
         EoiAnswer::Nothing => Eoi::NotEnded,
     }
 }
@@ -128,7 +122,7 @@ pub fn handle_eoi(ioapic: &mut [u64; 32], apic: &mut [u64; 48]) -> Eoi
 pub fn write_tpr(apic: &mut [u64; 48], value: u32)
     ensures { (io : List ℕ) → Becomes io io apic.old apic.new (write_tpr (board_in io apic.old) value) }
 {
-    vlapic_requests::write_tpr(&mut *apic, value);
+    vlapic_requests::write_tpr(apic, value);
 }
 
 // Handles an I/O APIC MMIO write.
@@ -141,8 +135,8 @@ pub fn handle_write(
 ) -> Written
     ensures { Gives Written written_reply ioapic.old ioapic.new apic.old apic.new result (handle_write (board_in ioapic.old apic.old) addr width value) }
 {
-    let written = vioapic::handle_write(&mut *ioapic, addr, width, value);
-    request_written(&mut *apic, value, written);
+    let written = vioapic::handle_write(ioapic, addr, width, value);
+    request_written(apic, value, written);
     written
 }
 
@@ -150,40 +144,15 @@ pub fn handle_write(
 pub fn receive(apic: &mut [u64; 48], vector: Vector, level: bool)
     ensures { (io : List ℕ) → Becomes io io apic.old apic.new (receive (board_in io apic.old) vector level) }
 {
-    vlapic_requests::receive(&mut *apic, vector, level);
+    vlapic_requests::receive(apic, vector, level);
 }
 
-// ---- The same by value
+// ---- The same by value: the board after a call, and the call's answer
 
-#[derive(Clone, Copy)]
+#[derive(Clone, Copy, Debug, PartialEq, Eq, Hash)]
 pub struct VirtualBoard {
     pub ioapic: [u64; 32],
     pub apic: [u64; 48],
-}
-
-// A board after a call, and the call's answer.
-#[derive(Clone, Copy)]
-pub struct BoardRouting {
-    pub board: VirtualBoard,
-    pub answer: Routed,
-}
-
-#[derive(Clone, Copy)]
-pub struct BoardAcceptance {
-    pub board: VirtualBoard,
-    pub answer: Acceptance,
-}
-
-#[derive(Clone, Copy)]
-pub struct BoardEnding {
-    pub board: VirtualBoard,
-    pub answer: Eoi,
-}
-
-#[derive(Clone, Copy)]
-pub struct BoardWriting {
-    pub board: VirtualBoard,
-    pub answer: Written,
 }
 
 impl VirtualBoard {
@@ -198,40 +167,27 @@ impl VirtualBoard {
     }
 
     // Updates one input line of the I/O APIC.
-    pub fn set_gsi_level(self, gsi: Gsi, asserted: bool) -> BoardRouting
-        ensures { Gives Routed routed_reply self.ioapic result.board.ioapic self.apic result.board.apic result.answer (set_gsi_level (board_in self.ioapic self.apic) gsi asserted) }
+    pub fn set_gsi_level(mut self, gsi: Gsi, asserted: bool) -> (VirtualBoard, Routed)
+        ensures { Gives Routed routed_reply self.ioapic result.0.ioapic self.apic result.0.apic result.1 (set_gsi_level (board_in self.ioapic self.apic) gsi asserted) }
     {
-        let mut ioapic = self.ioapic;
-        let mut apic = self.apic;
-        let answer = set_gsi_level(&mut ioapic, &mut apic, gsi, asserted);
-        BoardRouting {
-            board: VirtualBoard { ioapic, apic },
-            answer,
-        }
+        let answer = set_gsi_level(&mut self.ioapic, &mut self.apic, gsi, asserted);
+        (self, answer)
     }
 
     // The guest accepts an interrupt.
-    pub fn accept_interrupt(mut self) -> BoardAcceptance
-        ensures { Gives Acceptance acceptance_reply self.ioapic result.board.ioapic self.apic result.board.apic result.answer (accept_interrupt (board_in self.ioapic self.apic)) }
+    pub fn accept_interrupt(mut self) -> (VirtualBoard, Acceptance)
+        ensures { Gives Acceptance acceptance_reply self.ioapic result.0.ioapic self.apic result.0.apic result.1 (accept_interrupt (board_in self.ioapic self.apic)) }
     {
         let answer = accept_interrupt(&mut self.apic);
-        BoardAcceptance {
-            board: self,
-            answer,
-        }
+        (self, answer)
     }
 
     // The guest's EOI.
-    pub fn handle_eoi(self) -> BoardEnding
-        ensures { Gives Eoi eoi_reply self.ioapic result.board.ioapic self.apic result.board.apic result.answer (handle_eoi (board_in self.ioapic self.apic)) }
+    pub fn handle_eoi(mut self) -> (VirtualBoard, Eoi)
+        ensures { Gives Eoi eoi_reply self.ioapic result.0.ioapic self.apic result.0.apic result.1 (handle_eoi (board_in self.ioapic self.apic)) }
     {
-        let mut ioapic = self.ioapic;
-        let mut apic = self.apic;
-        let answer = handle_eoi(&mut ioapic, &mut apic);
-        BoardEnding {
-            board: VirtualBoard { ioapic, apic },
-            answer,
-        }
+        let answer = handle_eoi(&mut self.ioapic, &mut self.apic);
+        (self, answer)
     }
 
     // The guest writes TPR.
@@ -243,16 +199,11 @@ impl VirtualBoard {
     }
 
     // Handles an I/O APIC MMIO write.
-    pub fn handle_write(self, addr: u64, width: u64, value: u64) -> BoardWriting
-        ensures { Gives Written written_reply self.ioapic result.board.ioapic self.apic result.board.apic result.answer (handle_write (board_in self.ioapic self.apic) addr width value) }
+    pub fn handle_write(mut self, addr: u64, width: u64, value: u64) -> (VirtualBoard, Written)
+        ensures { Gives Written written_reply self.ioapic result.0.ioapic self.apic result.0.apic result.1 (handle_write (board_in self.ioapic self.apic) addr width value) }
     {
-        let mut ioapic = self.ioapic;
-        let mut apic = self.apic;
-        let answer = handle_write(&mut ioapic, &mut apic, addr, width, value);
-        BoardWriting {
-            board: VirtualBoard { ioapic, apic },
-            answer,
-        }
+        let answer = handle_write(&mut self.ioapic, &mut self.apic, addr, width, value);
+        (self, answer)
     }
 
     // A message: a vector below 16 is dropped.
