@@ -6,31 +6,34 @@ use native.Mathlib.Omega.{arith}
 use mathlib.Core.List.{List, [], ◌∷◌}
 use lib.Dec.{eqb, ltb, leb}
 use lib.ListN.{length, get_or}
+use Rattle.std.specs.Prelude.{Some, None}
 use lib.Pow.{pow_mono}
 use native.Mathlib.Nat.{lt_of_lt_of_le}
 use borrow.Author.Tests.{ltb-true, ltb-false, leb-false, lt-ltb, le-ltb}
 use Rattle.utils.specs.Set.{bit, set_of}
 use Rattle.utils.proofs.Bools.{never}
 use Rattle.utils.proofs.Laws.{bit_above, bit_set_of, set_of_lt, same_bits}
+use Rattle.types.specs.declared.VcpuId.{VcpuId}
 use Rattle.types.specs.declared.Refusal.{Refusal}
 use Rattle.types.specs.declared.Refusal.TheVariants.{InvalidRegister, OutOfRange}
 use Rattle.types.specs.declared.Reply.TheVariants as reply
-use Rattle.vlapic_icr.specs.declared.IcrAnswer.TheVariants.{Refused}
+use Rattle.vlapic_icr.specs.declared.IcrAnswer.{IcrAnswer}
 use Rattle.vcpus_ipi.specs.declared.Vcpu.{Vcpu}
 use Rattle.vcpus_ipi.specs.declared.Ask.{Ask}
+use Rattle.vcpus_ipi.specs.declared.Command.{Command}
 use Rattle.vcpus_ipi.specs.declared.Plan.{Plan}
 use Rattle.vcpus_ipi.specs.declared.Effect.{Effect}
 use Rattle.vcpus_ipi.specs.declared.Sent.{Sent}
 use Rattle.vcpus_ipi.specs.Vcpu.{new_vcpu}
-use Rattle.vcpus_ipi.specs.Ipi.{icr_of, is_icr, is_sending, is_hit, is_reached, targets, is_unmatchable, any_unmatchable, answer_to, becomes, each_from, is_outside, sender, command, answer, carried_out, ask_of, send_ipi}
-use Rattle.vcpus_ipi.specs.Steps.{begun, seen_all, asked, decided, refusing, changed_by, changed_all, sent_reply, answered, left, leaves}
+use Rattle.vcpus_ipi.specs.Ipi.{icr_of, is_icr, is_sending, is_hit, is_reached, targets, is_unmatchable, any_unmatchable, answer_to, stored, becomes, each_from, is_outside, sender, command, answer, carried_out, ask_of, send_ipi}
+use Rattle.vcpus_ipi.specs.Steps.{begun, seen_all, asked, decided, refusing, taking, changed_by, changed_all, sent_reply, answered, left, leaves}
 use Rattle.vcpus_ipi.proofs.Looking.{seen_count, seen_ask, seen_command, seen_from, seen_mask, seen_reserved}
 
 -- ---- delivering
 
 -- what is refused changes no record
 refused_keeps : (p : Plan) (why : Refusal) (i : ℕ) (xs : List Vcpu) → changed_all (refusing p why) i xs ≡ xs
-unfolding changed_by becomes
+unfolding changed_by
 refused_keeps p why i [] = refl
 refused_keeps p why i (r ∷ rs) = go (eqb i p.ask.sender.0) (refused_keeps p why (suc i) rs)
   where
@@ -38,10 +41,16 @@ refused_keeps p why i (r ∷ rs) = go (eqb i p.ask.sender.0) (refused_keeps p wh
     go true e = rw e
     go false e = rw e
 
-changed_each : (e : Effect) (i : ℕ) (xs : List Vcpu) → changed_all e i xs ≡ each_from (becomes e.sender.0 e.stores e.command e.answer) i xs
-unfolding changed_by
-changed_each e i [] = refl
-changed_each e i (r ∷ rs) = ap (λ (l : List Vcpu). becomes e.sender.0 e.stores e.command e.answer i r ∷ l) (changed_each e (suc i) rs)
+-- where a command was written to the ICR, and where it wasn't
+taken : (icr : Bool) (c : Command) (r : Vcpu) → taking (cond icr (Some c) None) r ≡ stored icr c r
+taken true c r = refl
+taken false c r = refl
+
+changed_each : (s : VcpuId) (icr : Bool) (c : Command) (answer : IcrAnswer) (i : ℕ) (xs : List Vcpu)
+    → changed_all (record { sender = s; stores = cond icr (Some c) None; answer = answer }) i xs ≡ each_from (becomes s.0 icr c answer) i xs
+unfolding changed_by becomes
+changed_each s icr c answer i [] = refl
+changed_each s icr c answer i (r ∷ rs) = rw (taken icr c r, changed_each s icr c answer (suc i) rs)
 
 -- ---- a set of places below 64
 
@@ -82,7 +91,7 @@ asked_reserved p = refl
 
 -- what is done with a write that sends
 abbrev carrying : List Vcpu → Ask → Effect
-carrying xs a = record { sender = a.sender; stores = is_icr a; command = command xs a; answer = answer xs a }
+carrying xs a = record { sender = a.sender; stores = cond (is_icr a) (Some (command xs a)) None; answer = answer xs a }
 
 module _ (xs : List Vcpu) (a : Ask) (fits : length xs ≤ 64) (inside : a.sender.0 < length xs) where
   found_from : (found xs a).from ≡ icr_of (sender xs a)
@@ -142,7 +151,7 @@ refused_left p why xs = rw (refused_keeps p why 0 xs)
 
 carried_left : (xs : List Vcpu) (a : Ask) → left (changed_all (carrying xs a) 0 xs) (answered (carrying xs a)) ≡ leaves (carried_out xs a)
 unfolding answered
-carried_left xs a = rw (changed_each (carrying xs a) 0 xs)
+carried_left xs a = rw (changed_each a.sender (is_icr a) (command xs a) (answer xs a) 0 xs)
 
 pub both_false : (x y : Bool) → (x || y) ≡ false → (x ≡ false) × (y ≡ false)
 both_false true y e = never refl e

@@ -1,6 +1,6 @@
 -- What the steps of a call do: two passes over the records look, a third one delivers. The first pass finds the sender's mode and ICR, from which the command follows; the
 -- second finds whom that reaches.
-use Rattle.std.specs.Prelude.{ℕ, suc, Bool, true, false, not, cond, ◌&&◌, ◌||◌, List, [], ◌∷◌, eqb, ltb}
+use Rattle.std.specs.Prelude.{ℕ, suc, Bool, true, false, not, cond, ◌&&◌, ◌||◌, List, [], ◌∷◌, eqb, ltb, Option, Some, None}
 use Rattle.utils.specs.Set.{with}
 use Rattle.types.specs.declared.Refusal.{Refusal}
 use Rattle.types.specs.declared.Refusal.TheVariants.{InvalidRegister, InvalidDelivery, OutOfRange}
@@ -21,7 +21,7 @@ use Rattle.vcpus_ipi.specs.declared.Command.{Command}
 use Rattle.vcpus_ipi.specs.declared.Plan.{Plan}
 use Rattle.vcpus_ipi.specs.declared.Effect.{Effect}
 use Rattle.vcpus_ipi.specs.declared.Sent.{Sent}
-use Rattle.vcpus_ipi.specs.Ipi.{ask_of, icr_of, is_icr, is_sending, command_for, destination, is_hit, is_unmatchable, is_logical_dest, becomes, is_outside, ipi_reply}
+use Rattle.vcpus_ipi.specs.Ipi.{ask_of, icr_of, is_icr, is_sending, command_for, destination, is_hit, is_unmatchable, is_logical_dest, stored, answering, is_outside, ipi_reply}
 
 -- ---- looking
 
@@ -83,18 +83,23 @@ decided_answer p =
     (send p.command.icr_lo p.mask)))))
 
 abbrev pub refusing : Plan → Refusal → Effect
-refusing p why = record { sender = p.ask.sender; stores = false; command = p.command; answer = Refused why }
+refusing p why = record { sender = p.ask.sender; stores = None; answer = Refused why }
 
 unfoldable pub decided : Plan → Effect
 decided p =
     cond (is_outside p.count p.ask) (refusing p OutOfRange)
-    (cond (is_sending p.ask p.from.x2apic) (record { sender = p.ask.sender; stores = is_icr p.ask; command = p.command; answer = decided_answer p })
+    (cond (is_sending p.ask p.from.x2apic) (record { sender = p.ask.sender; stores = cond (is_icr p.ask) (Some p.command) None; answer = decided_answer p })
     (refusing p InvalidRegister))
 
 -- ---- delivering
 
+-- the words of a command go to the ICR, where there is one
+abbrev pub taking : Option Command → Vcpu → Vcpu
+taking (Some c) r = stored true c r
+taking None r = r
+
 unfoldable pub changed_by : Effect → Vcpu → ℕ → Vcpu
-changed_by e r i = becomes e.sender.0 e.stores e.command e.answer i r
+changed_by e r i = answering e.answer (eqb i e.sender.0) i (cond (eqb i e.sender.0) (taking e.stores r) r)
 
 abbrev pub changed_all : Effect → ℕ → List Vcpu → List Vcpu
 changed_all e i [] = []

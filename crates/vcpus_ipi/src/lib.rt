@@ -10,8 +10,8 @@ ghost use Rattle.vlapic_icr.specs.Fields.{icr_width};
 ghost use Rattle.vlapic_theorems.specs.Targets.{field, is_target, is_logical_target, asks_active, cluster16};
 ghost use Rattle.vlapic_theorems.specs.Numbers.{is_above63};
 ghost use Rattle.vcpus_ipi.specs.Vcpu.{with_regs, with_startup};
-ghost use Rattle.vcpus_ipi.specs.Ipi.{icr_of, is_icr, is_sending, command_for, destination, receiver, is_hit, is_unmatchable, is_logical_dest, received, stored, noted, answering, is_outside};
-ghost use Rattle.vcpus_ipi.specs.Steps.{begun, joined, seen_by, asked, is_named, is_matched, decided_answer, refusing, decided, changed_by, answered};
+ghost use Rattle.vcpus_ipi.specs.Ipi.{icr_of, is_icr, is_sending, command_for, destination, receiver, is_hit, is_unmatchable, is_logical_dest, received, noted, answering, is_outside};
+ghost use Rattle.vcpus_ipi.specs.Steps.{begun, joined, seen_by, asked, is_named, is_matched, decided_answer, refusing, decided, taking, changed_by, answered};
 
 use reply_code::code;
 use types::{Refusal, Reply, VcpuId, Vector};
@@ -63,12 +63,12 @@ pub struct Plan {
     pub reserved: bool,
 }
 
-// What is done to the records: the sender's ICR takes the command's words where `stores` says so, and the answer is carried out.
+// What is done to the records: the sender's ICR takes the words of the command that `stores` has, if any, and the answer
+// is carried out.
 #[derive(Clone, Copy)]
 pub struct Effect {
     pub sender: VcpuId,
-    pub stores: bool,
-    pub command: Command,
+    pub stores: Option<Command>,
     pub answer: IcrAnswer,
 }
 
@@ -83,15 +83,19 @@ pub struct Sent {
 // A command of SELF IPI: fixed, shorthand self.
 const TO_SELF: u32 = 0x40000;
 
+// A vCPU at its place among the records, which is its id.
+#[derive(Clone, Copy)]
+struct Placed {
+    vcpu: Vcpu,
+    place: usize,
+}
+
 // ---- Sets of places
 
 fn has(set: u64, place: usize) -> bool
     ensures { result ≡ bit set place }
 {
-    if place < 64 {
-        return utils::set64::has(set, place as u64);
-    }
-    false
+    place < 64 && utils::set64::has(set, place as u64)
 }
 
 fn joined(set: u64, place: usize) -> u64
@@ -109,11 +113,10 @@ impl Vcpu {
     fn icr(self) -> Command
         ensures { result ≡ icr_of self }
     {
-        let regs = self.regs;
         Command {
-            x2apic: regs.x2apic,
-            icr_lo: regs.icr_lo,
-            icr_hi: regs.icr_hi,
+            x2apic: self.regs.x2apic,
+            icr_lo: self.regs.icr_lo,
+            icr_hi: self.regs.icr_hi,
         }
     }
 }
@@ -121,10 +124,7 @@ impl Vcpu {
 fn is_width(x2apic: bool, width: u64) -> bool
     ensures { result ≡ icr_width x2apic width }
 {
-    if x2apic {
-        return width == 8;
-    }
-    width != 8
+    x2apic == (width == 8)
 }
 
 impl Ask {
@@ -140,19 +140,13 @@ impl Ask {
         if self.is_icr() {
             return is_width(x2apic, self.width);
         }
-        if self.offset == consts::SELF_IPI {
-            return x2apic;
-        }
-        false
+        self.offset == consts::SELF_IPI && x2apic
     }
 
     fn is_outside(self, count: usize) -> bool
         ensures { result ≡ is_outside count self }
     {
-        if count > 64 {
-            return true;
-        }
-        self.sender.0 >= count
+        count > 64 || self.sender.0 >= count
     }
 
     // The command that is asked for, by the sender's mode and ICR.
@@ -161,15 +155,14 @@ impl Ask {
     {
         if self.is_icr() {
             return Command {
-                x2apic: from.x2apic,
                 icr_lo: fields::idle((self.value % 0x100000000) as u32),
                 icr_hi: fields::icr_high(from.x2apic, self.value, from.icr_hi),
+                ..from
             };
         }
         Command {
-            x2apic: from.x2apic,
             icr_lo: TO_SELF + (self.value % 256) as u32,
-            icr_hi: from.icr_hi,
+            ..from
         }
     }
 }
@@ -188,98 +181,58 @@ impl Command {
     fn is_broadcast(self) -> bool
         ensures { result ≡ eqb (field self.x2apic self.icr_hi) (cond self.x2apic 0xffffffff 0xff) }
     {
-        let dest = self.dest();
-        if self.x2apic {
-            return dest == 0xffffffff;
-        }
-        dest == 0xff
+        let everybody = if self.x2apic { 0xffffffff } else { 0xff };
+        self.dest() == everybody
     }
 
-    fn is_target(self, sender: VcpuId, vcpu: Vcpu, place: usize) -> bool
-        ensures { result ≡ is_target sender.0 (destination self) (receiver place vcpu) }
+    fn is_target(self, sender: VcpuId, to: Placed) -> bool
+        ensures { result ≡ is_target sender.0 (destination self) (receiver to.place to.vcpu) }
     {
-        let which = fields::shorthand(self.icr_lo);
-        if which == 1 {
-            return place == sender.0;
+        match fields::shorthand(self.icr_lo) {
+            1 => to.place == sender.0,
+            2 => true,
+            3 => to.place != sender.0,
+            _ if self.is_broadcast() => true,
+            _ if fields::is_logical(self.icr_lo) => to.is_logical_target(self.dest()),
+            _ => to.place == self.dest() as usize,
         }
-        if which == 2 {
-            return true;
-        }
-        if which == 3 {
-            return place != sender.0;
-        }
-        if self.is_broadcast() {
-            return true;
-        }
-        if fields::is_logical(self.icr_lo) {
-            return vcpu.is_logical_target(place, self.dest());
-        }
-        place == self.dest() as usize
     }
 
     // Active vCPUs alone are reached: by every destination but self and a physical one.
     fn asks_active(self) -> bool
         ensures { result ≡ asks_active (destination self) }
     {
-        let which = fields::shorthand(self.icr_lo);
-        if which == 1 {
-            return false;
+        match fields::shorthand(self.icr_lo) {
+            1 => false,
+            2 | 3 => true,
+            _ => self.is_broadcast() || fields::is_logical(self.icr_lo),
         }
-        if which == 2 {
-            return true;
-        }
-        if which == 3 {
-            return true;
-        }
-        if self.is_broadcast() {
-            return true;
-        }
-        fields::is_logical(self.icr_lo)
     }
 
     fn is_above_63(self) -> bool
         ensures { result ≡ is_above63 (destination self) }
     {
-        if self.is_named() {
-            return false;
-        }
-        if fields::is_logical(self.icr_lo) {
-            return false;
-        }
-        self.dest() > 63
+        !self.is_named() && !fields::is_logical(self.icr_lo) && self.dest() > 63
     }
 
     fn is_logical_dest(self) -> bool
         ensures { result ≡ is_logical_dest (destination self) }
     {
-        if self.is_named() {
-            return false;
-        }
-        fields::is_logical(self.icr_lo)
+        !self.is_named() && fields::is_logical(self.icr_lo)
     }
 
     // A shorthand or broadcast.
     fn is_named(self) -> bool
         ensures { result ≡ is_named self }
     {
-        let which = fields::shorthand(self.icr_lo);
-        if which != 0 {
-            return true;
-        }
-        self.is_broadcast()
+        fields::shorthand(self.icr_lo) != 0 || self.is_broadcast()
     }
 
-    fn is_hit(self, ask: Ask, vcpu: Vcpu, place: usize) -> bool
-        ensures { result ≡ is_hit ask.sender.0 ask.active self place vcpu }
+    #[tactic(auto, unfolding(crate::specs::Ipi::is_hit))]
+    fn is_hit(self, ask: Ask, to: Placed) -> bool
+        ensures { result ≡ is_hit ask.sender.0 ask.active self to.place to.vcpu }
     {
-        let sender = ask.sender;
-        if self.is_target(sender, vcpu, place) {
-            if self.asks_active() {
-                return has(ask.active, place);
-            }
-            return true;
-        }
-        false
+        self.is_target(ask.sender, to) && (has(ask.active, to.place) || !self.asks_active())
     }
 }
 
@@ -289,30 +242,24 @@ impl Command {
 fn is_in_cluster16(id: usize, dest: u32) -> bool
     ensures { result ≡ cluster16 id dest }
 {
-    if id / 16 % 0x10000 == (dest / 0x10000) as usize {
-        return utils::set32::has(dest, (id % 16) as u32);
-    }
-    false
+    id / 16 % 0x10000 == (dest / 0x10000) as usize && utils::set32::has(dest, (id % 16) as u32)
 }
 
 fn is_matched(matched: DestMatch) -> bool
     ensures { result ≡ is_matched matched }
 {
-    match matched {
-        DestMatch::Matched => true,
-        DestMatch::Unmatched => false,
-        DestMatch::ReservedModel => false,
-    }
+    matches!(matched, DestMatch::Matched)
 }
 
-impl Vcpu {
+impl Placed {
     // The logical destination against this vCPU's own LDR and DFR, in its own mode.
-    fn is_logical_target(self, place: usize, dest: u32) -> bool
-        ensures { result ≡ is_logical_target (receiver place self) dest }
+    #[tactic(auto, using(crate::proofs::Destinations::own_matched))]
+    fn is_logical_target(self, dest: u32) -> bool
+        ensures { result ≡ is_logical_target (receiver self.place self.vcpu) dest }
     {
-        let regs = self.regs;
+        let regs = self.vcpu.regs;
         if regs.x2apic {
-            return is_in_cluster16(place, dest);
+            return is_in_cluster16(self.place, dest);
         }
         let own = InterruptCommand {
             x2apic: false,
@@ -325,47 +272,40 @@ impl Vcpu {
         is_matched(own.is_dest_field_matched(dest))
     }
 
-    fn is_unmatchable(self, active: u64, place: usize) -> bool
-        ensures { result ≡ is_unmatchable active place self }
+    // It is active, in xAPIC mode, and its DFR has a reserved model.
+    #[tactic(auto, unfolding(crate::specs::Ipi::is_unmatchable))]
+    fn is_unmatchable(self, active: u64) -> bool
+        ensures { result ≡ is_unmatchable active self.place self.vcpu }
     {
-        if has(active, place) {
-            let regs = self.regs;
-            if regs.x2apic {
-                return false;
-            }
-            let model = regs.dfr / 0x10000000;
-            if model == 15 {
-                return false;
-            }
-            return model != 0;
-        }
-        false
+        let regs = self.vcpu.regs;
+        has(active, self.place) && !regs.x2apic && !matches!(regs.dfr / 0x10000000, 0 | 15)
     }
 
-    fn with_regs(self, regs: VirtualApicRegs) -> Vcpu
-        ensures { result ≡ with_regs self regs }
+    // What the answer leaves of it: the sender notes an illegal vector, and those in the mask receive what is sent.
+    fn answering(self, answer: IcrAnswer, sender: VcpuId) -> Vcpu
+        ensures { result ≡ answering answer (eqb self.place sender.0) self.place self.vcpu }
     {
-        Vcpu {
-            regs,
-            nmi: self.nmi,
-            init: self.init,
-            startup: self.startup,
-            startup_vector: self.startup_vector,
+        match answer {
+            IcrAnswer::SendIllegalVector if self.place == sender.0 => self.vcpu.noted(),
+            IcrAnswer::Ipi { kind, vector, mask } if has(mask, self.place) => {
+                self.vcpu.received(kind, vector)
+            }
+            _ => self.vcpu,
         }
     }
+}
 
+// ---- What is left in a record
+
+impl Vcpu {
     // An edge-triggered request.
-    fn requested(self, vector: Vector) -> Vcpu
+    #[tactic(auto, unfolding(vlapic_requests::specs::Requests::request))]
+    fn requested(mut self, vector: Vector) -> Vcpu
         ensures { result ≡ with_regs self (request self.regs vector false) }
     {
-        let mut regs = self.regs;
-        let irr = regs.irr;
-        let tmr = regs.tmr;
-        let requests = vectors::with(irr, vector);
-        let levels = vectors::without(tmr, vector);
-        regs.irr = requests;
-        regs.tmr = levels;
-        self.with_regs(regs)
+        self.regs.irr = vectors::with(self.regs.irr, vector);
+        self.regs.tmr = vectors::without(self.regs.tmr, vector);
+        self
     }
 
     fn with_startup(mut self, vector: Vector) -> Vcpu
@@ -376,68 +316,46 @@ impl Vcpu {
         self
     }
 
+    #[tactic(auto, unfolding(crate::specs::Ipi::received))]
     fn received(mut self, kind: u8, vector: Vector) -> Vcpu
         ensures { result ≡ received kind vector self }
     {
-        if kind == 0 {
-            return self.requested(vector);
+        match kind {
+            0 => self.requested(vector),
+            4 => {
+                self.nmi = true;
+                self
+            }
+            5 => {
+                self.init = true;
+                self
+            }
+            _ => self.with_startup(vector),
         }
-        if kind == 4 {
-            self.nmi = true;
-            return self;
-        }
-        if kind == 5 {
-            self.init = true;
-            return self;
-        }
-        self.with_startup(vector)
     }
 
-    // The command's words go to the ICR.
-    fn stored(self, stores: bool, command: Command) -> Vcpu
-        ensures { result ≡ stored stores command self }
+    // The words of a command go to the ICR, where there is one.
+    fn stored(mut self, stores: Option<Command>) -> Vcpu
+        ensures { result ≡ taking stores self }
     {
-        if stores {
-            let mut regs = self.regs;
-            regs.icr_lo = command.icr_lo;
-            regs.icr_hi = command.icr_hi;
-            return self.with_regs(regs);
+        if let Some(command) = stores {
+            self.regs.icr_lo = command.icr_lo;
+            self.regs.icr_hi = command.icr_hi;
         }
         self
     }
 
-    fn noted(self) -> Vcpu
+    fn noted(mut self) -> Vcpu
         ensures { result ≡ noted self }
     {
-        let mut regs = self.regs;
-        regs.esr_pending = register::illegal_noted(regs.esr_pending);
-        self.with_regs(regs)
-    }
-
-    fn answering(self, answer: IcrAnswer, own: bool, place: usize) -> Vcpu
-        ensures { result ≡ answering answer own place self }
-    {
-        match answer {
-            IcrAnswer::Nothing => self,
-            IcrAnswer::SendIllegalVector => {
-                if own {
-                    return self.noted();
-                }
-                self
-            }
-            IcrAnswer::Ipi { kind, vector, mask } => {
-                if has(mask, place) {
-                    return self.received(kind, vector);
-                }
-                self
-            }
-            IcrAnswer::Refused(_) => self,
-        }
+        self.regs.esr_pending = register::illegal_noted(self.regs.esr_pending);
+        self
     }
 }
 
 // ---- The steps of a call
 
+#[tactic(auto, unfolding(crate::specs::Steps::begun))]
 pub fn begin(count: usize, sender: usize, offset: u64, value: u64, width: u64, active: u64) -> Plan
     ensures { result ≡ begun count sender offset value width active }
 {
@@ -463,69 +381,58 @@ pub fn begin(count: usize, sender: usize, offset: u64, value: u64, width: u64, a
 }
 
 // A record is looked at.
+#[tactic(auto, unfolding(crate::specs::Steps::seen_by))]
 pub fn seen(plan: Plan, vcpu: Vcpu, place: usize) -> Plan
     ensures { result ≡ seen_by plan vcpu place }
 {
-    let ask = plan.ask;
-    let command = plan.command;
+    let placed = Placed { vcpu, place };
     Plan {
-        count: plan.count,
-        ask,
-        from: plan.sender_in(vcpu, place),
-        command,
-        mask: plan.mask_with(vcpu, place),
-        reserved: plan.reserved_with(vcpu, place),
+        from: plan.sender_in(placed),
+        mask: plan.mask_with(placed),
+        reserved: plan.reserved_with(placed),
+        ..plan
     }
 }
 
 impl Plan {
-    fn sender_in(self, vcpu: Vcpu, place: usize) -> Command
-        ensures { result ≡ (seen_by self vcpu place).from }
+    #[tactic(auto, unfolding(crate::specs::Steps::seen_by))]
+    fn sender_in(self, placed: Placed) -> Command
+        ensures { result ≡ (seen_by self placed.vcpu placed.place).from }
     {
-        let ask = self.ask;
-        if place == ask.sender.0 {
-            return vcpu.icr();
+        if placed.place == self.ask.sender.0 {
+            return placed.vcpu.icr();
         }
         self.from
     }
 
-    fn mask_with(self, vcpu: Vcpu, place: usize) -> u64
-        ensures { result ≡ (seen_by self vcpu place).mask }
+    #[tactic(auto, unfolding(crate::specs::Steps::seen_by))]
+    fn mask_with(self, placed: Placed) -> u64
+        ensures { result ≡ (seen_by self placed.vcpu placed.place).mask }
     {
-        let ask = self.ask;
-        let command = self.command;
-        if command.is_hit(ask, vcpu, place) {
-            return joined(self.mask, place);
+        if self.command.is_hit(self.ask, placed) {
+            return joined(self.mask, placed.place);
         }
         self.mask
     }
 
-    fn reserved_with(self, vcpu: Vcpu, place: usize) -> bool
-        ensures { result ≡ (seen_by self vcpu place).reserved }
+    #[tactic(auto, unfolding(crate::specs::Steps::seen_by))]
+    fn reserved_with(self, placed: Placed) -> bool
+        ensures { result ≡ (seen_by self placed.vcpu placed.place).reserved }
     {
-        let ask = self.ask;
-        if vcpu.is_unmatchable(ask.active, place) {
-            return true;
-        }
-        self.reserved
+        placed.is_unmatchable(self.ask.active) || self.reserved
     }
 
     // A logical destination, where somebody can't be held against it.
     fn is_barred(self) -> bool
         ensures { result ≡ is_logical_dest (destination self.command) && self.reserved }
     {
-        let command = self.command;
-        if command.is_logical_dest() {
-            return self.reserved;
-        }
-        false
+        self.command.is_logical_dest() && self.reserved
     }
 
     fn answer(self) -> IcrAnswer
         ensures { result ≡ decided_answer self }
     {
-        let command = self.command;
-        let lo = command.icr_lo;
+        let lo = self.command.icr_lo;
         if fields::is_reserved_mode(lo) {
             return IcrAnswer::Refused(Refusal::InvalidDelivery);
         }
@@ -535,7 +442,7 @@ impl Plan {
         if fields::is_invalid_shorthand(lo) {
             return IcrAnswer::Nothing;
         }
-        if command.is_above_63() {
+        if self.command.is_above_63() {
             return IcrAnswer::Refused(Refusal::OutOfRange);
         }
         if self.is_barred() {
@@ -547,50 +454,39 @@ impl Plan {
     fn refuse(self, why: Refusal) -> Effect
         ensures { result ≡ refusing self why }
     {
-        let ask = self.ask;
-        let sender = ask.sender;
-        let command = self.command;
         Effect {
-            sender,
-            stores: false,
-            command,
+            sender: self.ask.sender,
+            stores: None,
             answer: IcrAnswer::Refused(why),
         }
     }
 }
 
 // The first pass found the sender: the command that is asked of it, before anybody is found whom it reaches.
+#[tactic(auto, unfolding(crate::specs::Steps::asked))]
 pub fn asked(plan: Plan) -> Plan
     ensures { result ≡ asked plan }
 {
-    let ask = plan.ask;
-    let from = plan.from;
     Plan {
-        count: plan.count,
-        ask,
-        from,
-        command: ask.command(from),
+        command: plan.ask.command(plan.from),
         mask: 0,
         reserved: false,
+        ..plan
     }
 }
 
 // The second pass found whom it reaches: what is done.
+#[tactic(auto, unfolding(crate::specs::Steps::decided))]
 pub fn decide(plan: Plan) -> Effect
     ensures { result ≡ decided plan }
 {
-    let ask = plan.ask;
-    let from = plan.from;
-    if ask.is_outside(plan.count) {
+    if plan.ask.is_outside(plan.count) {
         return plan.refuse(Refusal::OutOfRange);
     }
-    if ask.is_sending(from.x2apic) {
-        let sender = ask.sender;
-        let command = plan.command;
+    if plan.ask.is_sending(plan.from.x2apic) {
         return Effect {
-            sender,
-            stores: ask.is_icr(),
-            command,
+            sender: plan.ask.sender,
+            stores: plan.ask.is_icr().then_some(plan.command),
             answer: plan.answer(),
         };
     }
@@ -598,33 +494,31 @@ pub fn decide(plan: Plan) -> Effect
 }
 
 // What is left of a record.
+#[tactic(auto, unfolding(crate::specs::Steps::changed_by))]
 pub fn changed(vcpu: Vcpu, effect: Effect, place: usize) -> Vcpu
     ensures { result ≡ changed_by effect vcpu place }
 {
-    let answer = effect.answer;
-    let command = effect.command;
-    if place == effect.sender.0 {
-        return vcpu
-            .stored(effect.stores, command)
-            .answering(answer, true, place);
-    }
-    vcpu.answering(answer, false, place)
+    let vcpu = if place == effect.sender.0 {
+        vcpu.stored(effect.stores)
+    } else {
+        vcpu
+    };
+    Placed { vcpu, place }.answering(effect.answer, effect.sender)
 }
 
+#[tactic(auto, unfolding(crate::specs::Steps::answered))]
 pub fn answer(effect: Effect) -> Sent
     ensures { result ≡ answered effect }
 {
-    let answer = effect.answer;
-    match answer {
-        IcrAnswer::Nothing => Sent { code: 0, mask: 0 },
-        IcrAnswer::SendIllegalVector => Sent { code: 0, mask: 0 },
-        IcrAnswer::Ipi { kind, vector, mask } => Sent {
-            code: code(Reply::Two(kind as u64, vector.0 as u64)),
-            mask,
-        },
-        IcrAnswer::Refused(why) => Sent {
-            code: code(Reply::Refused(why)),
-            mask: 0,
-        },
+    let (reply, mask) = match effect.answer {
+        IcrAnswer::Nothing | IcrAnswer::SendIllegalVector => (Reply::Nothing, 0),
+        IcrAnswer::Ipi { kind, vector, mask } => {
+            (Reply::Two(u64::from(kind), u64::from(vector.0)), mask)
+        }
+        IcrAnswer::Refused(why) => (Reply::Refused(why), 0),
+    };
+    Sent {
+        code: code(reply),
+        mask,
     }
 }
