@@ -79,6 +79,7 @@ fn request_written(apic: &mut [u64; 48], value: u64, written: Written)
 // Stays: the C interface (`ioapic` and `apic` are two parameters of each call: board_c hands on what C lends).
 
 // Updates one input line of the I/O APIC.
+#[tactic(auto, using(crate::proofs::Ways::line_way))]
 pub fn set_gsi_level(
     ioapic: &mut [u64; 32],
     apic: &mut [u64; 48],
@@ -100,6 +101,7 @@ pub fn accept_interrupt(apic: &mut [u64; 48]) -> Acceptance
 }
 
 // The EOI message goes to the I/O APIC.
+#[tactic(auto, using(crate::proofs::Ways::broadcast_way))]
 fn broadcast(ioapic: &mut [u64; 32], apic: &mut [u64; 48], vector: Vector) -> Eoi
     ensures { Gives Eoi eoi_reply ioapic.old ioapic.new apic.old apic.new result (ended_to (apic-words.view apic.old) vector (end_of (io-words.view ioapic.old) vector)) }
 {
@@ -109,6 +111,7 @@ fn broadcast(ioapic: &mut [u64; 32], apic: &mut [u64; 48], vector: Vector) -> Eo
 }
 
 // The guest's EOI.
+#[tactic(auto, using(crate::proofs::Ways::eoi_told, crate::proofs::Ways::eoi_silent))]
 pub fn handle_eoi(ioapic: &mut [u64; 32], apic: &mut [u64; 48]) -> Eoi
     ensures { Gives Eoi eoi_reply ioapic.old ioapic.new apic.old apic.new result (handle_eoi (board_in ioapic.old apic.old)) }
 {
@@ -119,6 +122,7 @@ pub fn handle_eoi(ioapic: &mut [u64; 32], apic: &mut [u64; 48]) -> Eoi
 }
 
 // The guest writes TPR, whatever the I/O APIC holds.
+#[tactic(auto, using(crate::proofs::Ways::tpr_way))]
 pub fn write_tpr(apic: &mut [u64; 48], value: u32)
     ensures { (io : List ℕ) → Becomes io io apic.old apic.new (write_tpr (board_in io apic.old) value) }
 {
@@ -126,6 +130,7 @@ pub fn write_tpr(apic: &mut [u64; 48], value: u32)
 }
 
 // Handles an I/O APIC MMIO write.
+#[tactic(auto, using(crate::proofs::Ways::write_way))]
 pub fn handle_write(
     ioapic: &mut [u64; 32],
     apic: &mut [u64; 48],
@@ -141,6 +146,7 @@ pub fn handle_write(
 }
 
 // A message, whatever the I/O APIC holds: a vector below 16 is dropped.
+#[tactic(auto, using(crate::proofs::Ways::receive_way))]
 pub fn receive(apic: &mut [u64; 48], vector: Vector, level: bool)
     ensures { (io : List ℕ) → Becomes io io apic.old apic.new (receive (board_in io apic.old) vector level) }
 {
