@@ -1,13 +1,17 @@
 -- Bytes of a number, and a number of bytes; runs of stores. Assumes nothing.
-use mathlib.Core.Path.{◌≡◌, refl, sym, ◌∙◌, ap, subst}
+use mathlib.Core.Path.{◌≡◌, refl, sym, ◌∙◌, ap}
 use mathlib.Core.Bool.{Bool, true, false, cond}
-use mathlib.Core.List.{List, [], ◌∷◌, ◌++◌}
-use Prim.Native.Nat.{ℕ, zero, suc, ◌+◌, ◌-◌, ◌*◌, ◌/◌, ◌%◌, ◌^◌, ◌<◌, ◌≤◌}
+use mathlib.Core.List.{List, [], ◌∷◌, ◌++◌, append_assoc}
+use Prim.Native.Nat.{ℕ, zero, suc, ◌+◌, ◌-◌, ◌*◌, ◌/◌, ◌%◌, ◌^◌, ◌≤◌}
 use native.Mathlib.Omega.{arith}
-use native.Mathlib.Nat.{pow-succ', pow-le-pow_right}
-use lib.ListN.{get_or, set, length, length-append}
-use lib.Seq.{sets}
-use Rattle.image_format.specs.Format.{Row, is_number, step_of, bytes}
+use native.Mathlib.Nat.{pow-succ', div-div-eq-div-mul}
+use lib.ListN.{get_or, set, length, length-append, length-drop, take, drop, replicate}
+use lib.Seq.{sets, sets-eq, drop-drop, get_or-drop}
+use Rattle.std.proofs.lemmas.List.{get_or-take, get_or_past, length-take-le}
+use borrow.Rule.Slice.PartMut.{put_mid}
+use Rattle.std.specs.Int.{byte_at, bytes_low_first, from_le_bytes, w64}
+use Rattle.image_format.specs.declared.Row.{Row}
+use Rattle.image_format.specs.Format.{is_number, step_of, bytes}
 use Rattle.image_format.specs.Image.{bytes_of, number_at, header_of, field_with, field_of, written}
 
 pub sets_append : (l : List ℕ) (i : ℕ) (xs ys : List ℕ) → sets l i (xs ++ ys) ≡ sets (sets l i xs) (i + length xs) ys
@@ -33,53 +37,72 @@ unfolding written
 length_written [] words = refl
 length_written (r ∷ rows) words = length-append (field_of words r) (written rows words) ∙ ap (λ (k : ℕ). length (field_of words r) + k) (length_written rows words) ∙ ap (λ (k : ℕ). k + bytes rows) (length_field (get_or words r.slot 0) r)
 
--- ---- a number is stored, byte by byte
+-- ---- a part of a buffer is stored
 
-pub put_start : (l : List ℕ) (at size n : ℕ) → sets l (at + 0) (bytes_of (size - 0) n) ≡ sets l at (bytes_of size n)
-put_start l at size n = ap (λ (k : ℕ). sets l k (bytes_of (size - 0) n)) (omega arith) ∙ ap (λ (k : ℕ). sets l at (bytes_of k n)) (omega arith)
+pub stored : (l ys zs : List ℕ) (at k : ℕ) → ys ≡ zs → k ≡ length zs → at + length zs ≤ length l → put_mid at k l ys ≡ sets l at zs
+stored l ys zs at k e ek f = rw (e, ek, sym (append_assoc (take at l) zs (drop (length zs) (drop at l)))) (ap (λ (t : List ℕ). take at l ++ zs ++ t) (drop-drop (length zs) at l) ∙ sym (sets-eq zs l at f))
 
-pub put_more : (l : List ℕ) (at size i rest : ℕ) → i < size
-    → sets (set l (at + i) (rest % 256)) (at + (i + 1)) (bytes_of (size - (i + 1)) (rest / 256)) ≡ sets l (at + i) (bytes_of (size - i) rest)
+-- the lowest bytes of eight
+pub low_bytes : (k w i n : ℕ) → w ≤ k → take w (bytes_low_first i k n) ≡ bytes_of w (n / 256 ^ i)
 unfolding bytes_of
-put_more l at size i rest h =
-    let e : suc (size - (i + 1)) ≡ size - i = omega arith in
-    ap (λ (k : ℕ). sets (set l (at + i) (rest % 256)) k (bytes_of (size - (i + 1)) (rest / 256))) (omega arith) ∙ ap (λ (k : ℕ). sets l (at + i) (bytes_of k rest)) e
+low_bytes k zero i n h = refl
+low_bytes zero (suc w) i n h = absurd (omega arith)
+low_bytes (suc k) (suc w) i n h =
+    let e : n / 256 ^ i / 256 ≡ n / 256 ^ suc i = div-div-eq-div-mul n (256 ^ i) 256 ∙ ap (λ (m : ℕ). n / m) (omega (arith, pow-succ' 256 i)) in
+    rw (first i, e) (ap (λ (t : List ℕ). n / 256 ^ i % 256 ∷ t) (low_bytes k w (suc i) n (omega arith)))
+  where
+    first : (i : ℕ) → byte_at i n ≡ n / 256 ^ i % 256
+    first zero = omega arith
+    first (suc i) = refl
 
-pub put_end : (l : List ℕ) (at size i rest : ℕ) → size ≤ i → sets l (at + i) (bytes_of (size - i) rest) ≡ l
-unfolding bytes_of
-put_end l at size i rest h = let e : size - i ≡ 0 = omega arith in ap (λ (k : ℕ). sets l (at + i) (bytes_of k rest)) e
+pub bytes_put : (w n : ℕ) → w ≤ 8 → take w (bytes_low_first 0 8 n) ≡ bytes_of w n
+bytes_put w n h = low_bytes 8 w 0 n h ∙ ap (λ (m : ℕ). bytes_of w m) (omega arith)
 
--- ---- a number is read, from its highest byte down
+-- ---- a number is read
 
-pub number_start : (s : List ℕ) (at size : ℕ) → (size ≤ size) × (0 ≡ number_at s (at + size) (size - size))
+-- past the bytes' end there is nothing
+number_past : (s : List ℕ) (at w : ℕ) → length s ≤ at → number_at s at w ≡ 0
 unfolding number_at
-number_start s at size = (omega arith, let e : 0 ≡ size - size = omega arith in ap (λ (k : ℕ). number_at s (at + size) k) e)
+number_past s at zero h = refl
+number_past s at (suc w) h = rw (get_or_past s at 0 h, number_past s (suc at) w (omega arith))
 
-pub number_more : (s : List ℕ) (at size i n b : ℕ) → 0 < i → i ≤ size → n ≡ number_at s (at + i) (size - i) → b ≡ get_or s (at + (i - 1)) 0 → n * 256 + b ≡ number_at s (at + (i - 1)) (size - (i - 1))
+number_short : (s : List ℕ) (at w x : ℕ) → length s ≤ at + w → number_at s at (w + x) ≡ number_at s at w
 unfolding number_at
-number_more s at size i n b h l en eb =
-    let e : suc (size - i) ≡ size - (i - 1) = omega arith in
-    let f : at + i ≡ suc (at + (i - 1)) = omega arith in
-    let g : n ≡ number_at s (suc (at + (i - 1))) (size - i) = en ∙ ap (λ (k : ℕ). number_at s k (size - i)) f in
-    let q : n * 256 + b ≡ get_or s (at + (i - 1)) 0 + 256 * number_at s (suc (at + (i - 1))) (size - i) = omega (arith, g, eb) in
-    q ∙ ap (λ (k : ℕ). number_at s (at + (i - 1)) k) e
+number_short s at zero x h = let z : 0 + x ≡ x = omega arith in rw z (number_past s at x (omega arith))
+number_short s at (suc w) x h = let z : suc w + x ≡ suc (w + x) = omega arith in rw z (ap (λ (n : ℕ). get_or s at 0 + 256 * n) (number_short s (suc at) w x (omega arith)))
 
-pub number_end : (s : List ℕ) (at size i n : ℕ) → i ≤ 0 → n ≡ number_at s (at + i) (size - i) → n ≡ number_at s at size
-number_end s at size i n h e = e ∙ ap (λ (k : ℕ). number_at s k (size - i)) (omega arith) ∙ ap (λ (k : ℕ). number_at s at k) (omega arith)
+-- eight bytes, which are s and zeros
+pub number_is : (s t : List ℕ) → length s ≤ 8 → ((i : ℕ) → get_or t i 0 ≡ get_or s i 0) → from_le_bytes w64 t ≡ number_at s 0 (length s)
+unfolding number_at
+number_is s t h e =
+    let a : from_le_bytes w64 t ≡ number_at s 0 8 = rw (e 0, e 1, e 2, e 3, e 4, e 5, e 6, e 7) (omega arith) in
+    let b : 8 ≡ length s + (8 - length s) = omega arith in
+    a ∙ ap (λ (n : ℕ). number_at s 0 n) b ∙ number_short s 0 (length s) (8 - length s) (omega arith)
 
-module _ (s : List ℕ) (small : (i : ℕ) → get_or s i 0 < 256) where
-  pub number_below : (at w : ℕ) → number_at s at w < 256 ^ w
-  unfolding number_at
-  number_below at zero = omega arith
-  number_below at (suc w) = omega (arith, small at, number_below (suc at) w, pow-succ' 256 w)
+-- after s the rest of eight zeros stays
+pub number_of_part : (s : List ℕ) (k : ℕ) → k ≡ length s → length s ≤ 8 → from_le_bytes w64 (put_mid 0 k (replicate 8 0) s) ≡ number_at s 0 (length s)
+number_of_part s k e h = rw e (number_is s (s ++ drop (length s) (replicate 8 0)) h (λ i. beside s (drop (length s) (replicate 8 0)) (λ j. get_or-drop (length s) (replicate 8 0) j 0 ∙ zeros 8 (length s + j)) i))
+  where
+    zeros : (n i : ℕ) → get_or {A = ℕ} (replicate n 0) i 0 ≡ 0
+    zeros zero i = refl
+    zeros (suc n) zero = refl
+    zeros (suc n) (suc i) = zeros n i
 
-  pub number_fits : (at w n : ℕ) → w ≤ 7 → n ≡ number_at s at w → n < 256 ^ 7
-  number_fits at w n h e = let p : 256 ^ w ≤ 256 ^ 7 = pow-le-pow_right (omega arith) h in omega (arith, p, number_below at w, e)
+    beside : (s z : List ℕ) → ((j : ℕ) → get_or z j 0 ≡ 0) → (i : ℕ) → get_or (s ++ z) i 0 ≡ get_or s i 0
+    beside [] z h i = h i
+    beside (x ∷ s) z h zero = refl
+    beside (x ∷ s) z h (suc i) = beside s z h i
 
--- ---- a header is stored
-
-pub header_stored : (l : List ℕ) (at t n : ℕ) (r : Row) → t ≡ r.tag → n ≡ r.size → set (set (set l at t) (at + 1) (n % 256)) (at + 2) (n / 256) ≡ sets l at (header_of r)
-header_stored l at t n r et en =
-    let e : at + 1 ≡ suc at = omega arith in
-    let f : at + 2 ≡ suc (suc at) = omega arith in
-    rw (et, en, e, f)
+-- a number of a part of the bytes
+pub number_part : (s : List ℕ) (at n w : ℕ) → n ≡ w → at + w ≤ length s → number_at (take n (drop at s)) 0 (length (take n (drop at s))) ≡ number_at s at w
+unfolding number_at
+number_part s at n w e h =
+    let l : length (take w (drop at s)) ≡ w = length-take-le w (drop at s) (rw length-drop (omega arith)) in
+    let z : at + 0 ≡ at = omega arith in
+    rw (e, l) (part 0 w (omega arith) ∙ ap (λ (k : ℕ). number_at s k w) z)
+  where
+    part : (i v : ℕ) → i + v ≤ w → number_at (take w (drop at s)) i v ≡ number_at s (at + i) v
+    part i zero h = refl
+    part i (suc v) h =
+        let e : at + suc i ≡ suc (at + i) = omega arith in
+        rw (get_or-take w (drop at s) i 0 (omega arith), get_or-drop at s i 0, part (suc i) v (omega arith), e)

@@ -1,26 +1,21 @@
 -- One row's turn, where an image is written and where it is read; and what is left to do after it. Assumes nothing.
 use mathlib.Core.Path.{◌≡◌, refl, sym, ◌∙◌, ap}
-use mathlib.Core.Bool.{Bool, true, false, cond}
+use mathlib.Core.Bool.{true}
 use mathlib.Core.List.{List, [], ◌∷◌, ◌++◌}
-use Prim.Native.Nat.{ℕ, zero, suc, ◌+◌, ◌-◌, ◌<◌, ◌≤◌}
+use Prim.Native.Nat.{ℕ, ◌+◌, ◌<◌, ◌≤◌}
 use native.Mathlib.Omega.{arith}
 use native.Mathlib.Numerals.{add-one}
 use lib.ListN.{get_or, set, length, take, drop}
-use lib.Seq.{sets, sets-eq, length-sets, drop-cons}
-use Rattle.image_format.specs.Format.{Row, row, is_number, step_of, bytes, format, row_at}
+use lib.Seq.{sets, sets-eq, drop-cons}
+use Rattle.image_format.specs.declared.Row.{Row}
+use Rattle.image_format.specs.Format.{row, is_number, step_of, bytes, format, row_at}
 use Rattle.image_format.specs.Image.{bytes_of, number_at, header_of, field_with, field_of, written, image_of, taken, loaded, words_in}
 use Rattle.image_format.proofs.Rows.{rows_are}
 use Rattle.image_format.proofs.Bytes.{sets_append, length_field, length_written}
 
--- what a row takes of the bytes
-pub take_fits : (at n len : ℕ) (r : Row) → is_number r ≡ true → n ≡ r.size → r.size ≤ 8 → at + step_of r ≤ len → (n ≤ 8) × (at + 3 + n ≤ len)
-take_fits at n len r h e l f = let g : at + (3 + r.size) ≤ len = rw h at f in (omega (arith, e), omega (arith, e, g))
-
-pub take_number_lem : (s : List ℕ) (at : ℕ) (r : Row) (words : List ℕ) (k n x : ℕ) → is_number r ≡ true → k ≡ r.slot → n ≡ r.size → x ≡ number_at s (at + 3) n → set words k x ≡ taken s at r words
-take_number_lem s at r words k n x h ek en ex = rw (h, ek, ex, en)
-
-pub take_none : (s : List ℕ) (at : ℕ) (r : Row) (words : List ℕ) → is_number r ≡ false → words ≡ taken s at r words
-take_none s at r words h = rw h
+-- what a number takes of the bytes
+pub take_number : (s : List ℕ) (at : ℕ) (r : Row) (words : List ℕ) (x : ℕ) → is_number r ≡ true → x ≡ number_at s (at + 3) r.size → set words r.slot x ≡ taken s at r words
+take_number s at r words x h ex = rw (h, ex)
 
 -- the rows from k on
 pub rows_from : (k : ℕ) → k < 80 → drop k format ≡ row_at k ∷ drop (k + 1) format
@@ -63,11 +58,8 @@ pub image_length : (words : List ℕ) → length (image_of words) ≡ 628
 unfolding image_of format
 image_length words = length_written format words ∙ all_bytes
 
-pub field_number : (l : List ℕ) (at n w : ℕ) (r : Row) (b : List ℕ) → is_number r ≡ true → w ≡ r.size → b ≡ sets l at (header_of r) → sets b (at + 3) (bytes_of w n) ≡ sets l at (field_with n r)
-field_number l at n w r b h ew eb = rw (h, ew, eb) (sym (sets_append l at (header_of r) (bytes_of r.size n)))
-
-pub field_group : (l : List ℕ) (at n : ℕ) (r : Row) → is_number r ≡ false → sets l at (header_of r) ≡ sets l at (field_with n r)
-field_group l at n r h = rw h
+pub field_number : (l : List ℕ) (at n : ℕ) (r : Row) (b : List ℕ) → is_number r ≡ true → b ≡ sets l at (header_of r) → sets b (at + 3) (bytes_of r.size n) ≡ sets l at (field_with n r)
+field_number l at n r b h eb = rw (h, eb) (sym (sets_append l at (header_of r) (bytes_of r.size n)))
 
 pub write_start : (l words : List ℕ) → sets l 0 (written (drop 0 format) words) ≡ sets l 0 (image_of words)
 unfolding image_of
@@ -89,9 +81,3 @@ write_end words k at l l₀ e h q =
     let f : 0 + length (image_of words) ≤ length l₀ = omega (arith, n) in
     let g : 0 + length (image_of words) ≡ 628 = omega (arith, n) in
     sym (ap (λ (rows : List Row). sets l at (written rows words)) (rows_end k e)) ∙ q ∙ sets-eq (image_of words) l₀ 0 f ∙ ap (λ (m : ℕ). take 0 l₀ ++ image_of words ++ drop m l₀) g
-
-pub put_fits : (at n : ℕ) (r : Row) (l b : List ℕ) → is_number r ≡ true → n ≡ r.size → b ≡ sets l at (header_of r) → at + step_of r ≤ length l → at + 3 + n ≤ length b
-put_fits at n r l b h en eb f = let g : at + (3 + r.size) ≤ length l = rw h at f in let e : length b ≡ length l = ap length eb ∙ length-sets l at (header_of r) in omega (arith, g, e, en)
-
-pub same_length : (l b xs : List ℕ) (at m : ℕ) → b ≡ sets l at xs → length l ≡ m → length b ≡ m
-same_length l b xs at m e h = ap length e ∙ length-sets l at xs ∙ h

@@ -1,23 +1,14 @@
--- The rows as the code has them, a list for each column; and what is true of each of them. Assumes nothing.
+-- What is true of each row. Assumes nothing.
 use mathlib.Core.Path.{◌≡◌, refl}
 use mathlib.Core.Bool.{Bool, true, cond, ◌&&◌}
-use mathlib.Core.List.{List, [], ◌∷◌, map}
+use mathlib.Core.List.{List, [], ◌∷◌}
 use Prim.Native.Nat.{ℕ, zero, suc, ◌<◌, ◌≤◌}
-use native.Mathlib.Omega.{arith}
 use lib.Dec.{leb, ltb}
-use lib.ListN.{get_or, length, get_or-map}
+use lib.ListN.{get_or, length}
 use borrow.Author.Tests.{ltb-true, leb-true}
 use Rattle.utils.proofs.Bools.{and_true}
-use Rattle.image_format.specs.Format.{Row, row, is_number, format, row_at, rise, TagsRise}
-
-pub tag_at : (k : ℕ) → get_or (map (λ (r : Row). r.tag) format) k 0 ≡ (row_at k).tag
-tag_at k = get_or-map (λ (r : Row). r.tag) format k (row 0 0 0)
-
-pub size_at : (k : ℕ) → get_or (map (λ (r : Row). r.size) format) k 0 ≡ (row_at k).size
-size_at k = get_or-map (λ (r : Row). r.size) format k (row 0 0 0)
-
-pub slot_at : (k : ℕ) → get_or (map (λ (r : Row). r.slot) format) k 0 ≡ (row_at k).slot
-slot_at k = get_or-map (λ (r : Row). r.slot) format k (row 0 0 0)
+use Rattle.image_format.specs.declared.Row.{Row}
+use Rattle.image_format.specs.Format.{row, IsRow, is_number, format, row_at, rise, TagsRise}
 
 -- a test that holds of each row holds of row k, and of what stands past the last
 each : (Row → Bool) → List Row → Bool
@@ -30,10 +21,6 @@ each_at p [] k h = h
 each_at p (r ∷ rows) zero h = (and_true (p r) (each p rows) h).0
 each_at p (r ∷ rows) (suc k) h = each_at p rows k (and_true (p r) (each p rows) h).1
 
-pub size_small : (k : ℕ) → (row_at k).size < 626
-unfolding format each
-size_small k = ltb-true _ _ (each_at (λ (r : Row). ltb r.size 626) format k refl)
-
 pub slot_small : (k : ℕ) → (row_at k).slot < 84
 unfolding format each
 slot_small k = ltb-true _ _ (each_at (λ (r : Row). ltb r.slot 84) format k refl)
@@ -44,6 +31,9 @@ number_small k h = leb-true _ _ (go (is_number (row_at k)) h (each_at (λ (r : R
   where
     go : (b : Bool) → b ≡ true → cond b (leb (row_at k).size 8) true ≡ true → leb (row_at k).size 8 ≡ true
     go b e t = rw e at t
+
+pub is_row : (k : ℕ) → IsRow (row_at k)
+is_row k = (slot_small k, number_small k)
 
 pub rows_are : length format ≡ 80
 unfolding format

@@ -2,19 +2,19 @@
 -- is a number of as many bytes, the low one first; any other is a group of fields. The board is a group of chips, and a chip a group of words; of the pair each chip is a group of its own.
 -- The words are those that hold the chips (include/sillwander.h), in one row: the I/O APIC's 32, the local APIC's 48 and the pair's 4. A word's tag is its number there.
 -- Every field has a fixed length, so that every image has the same length, and every number its place.
-use Rattle.std.specs.Prelude.{ℕ, zero, suc, ◌+◌, Bool, true, cond, ◌&&◌, List, [], ◌∷◌, ◌++◌, map, ◌≡◌, ltb, get_or, take, drop}
+use Rattle.std.specs.Prelude.{ℕ, zero, suc, ◌+◌, Bool, true, cond, ◌&&◌, List, [], ◌∷◌, ◌++◌, map, ◌≡◌, ltb, get_or, take, drop, ◌<◌, ◌≤◌}
+use Rattle.image_format.specs.declared.Row.{Row}
 
--- a field's header, and which word it holds
-pub record Row : Type 0 where
-  pub tag : ℕ
-  pub size : ℕ
-  pub slot : ℕ  -- of a number: the word's place among the 84
-
+-- a field's header, and of a number which of the 84 words it holds
 abbrev pub row : ℕ → ℕ → ℕ → Row
 row tag size slot = record { tag = tag; size = size; slot = slot }
 
 abbrev pub is_number : Row → Bool
 is_number r = ltb r.tag 0x80
+
+-- what is true of each: it has a word, and a number goes into it
+abbrev pub IsRow : Row → Type 0
+IsRow r = (r.slot < 84) × (is_number r ≡ true → r.size ≤ 8)
 
 -- how many bytes come before the next row: the header, and a number's body
 abbrev pub step_of : Row → ℕ

@@ -1,6 +1,7 @@
 -- The image of 84 words, and the words in an image.
 use Rattle.std.specs.Prelude.{ℕ, zero, suc, ◌+◌, ◌*◌, ◌/◌, ◌%◌, cond, List, [], ◌∷◌, ◌++◌, ltb, get_or, set, length, drop}
-use Rattle.image_format.specs.Format.{Row, is_number, step_of, format}
+use Rattle.image_format.specs.declared.Row.{Row}
+use Rattle.image_format.specs.Format.{is_number, step_of, format}
 
 -- a number's lowest bytes, the low one first
 unfoldable pub bytes_of : ℕ → ℕ → List ℕ

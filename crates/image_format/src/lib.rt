@@ -1,20 +1,26 @@
-// The image of a board with the pair (document 02, T-11): its format, its writer and its reader. 84 words go in and come out; which state they are, and which
-// rules it must keep, says the crate `image`.
+// The image of a board with the pair (document 02, T-11): its format, its writer and its reader. 84 words go in and
+// come out; which state they are, and which rules it must keep, says the crate `image`.
 
 #![tactic(auto)]
 
-ghost use Rattle.std.specs.Prelude.{◌≡◌, true, ℕ, ◌+◌, ◌-◌, ◌<◌, ◌≤◌, length, get_or};
-ghost use Rattle.image_format.specs.Format.{is_number, step_of, row_at};
-ghost use Rattle.image_format.specs.Image.{bytes_of, number_at, header_of, field_with, taken, written_to, loaded_from};
+ghost use Rattle.std.specs.Prelude.{◌≡◌, ℕ, ◌+◌, ◌-◌, ◌<◌, ◌≤◌, length, IfSome};
+ghost use Rattle.image_format.specs.Format.{format, is_number, step_of, IsRow};
+ghost use Rattle.image_format.specs.Image.{
+  bytes_of,
+  number_at,
+  header_of,
+  field_with,
+  taken,
+  written_to,
+  loaded_from,
+};
 ghost use Rattle.std.proofs.lemmas.List.Edits.{sets};
-ghost use Rattle.image_format.specs.Reading.{refused, stands, field_by, group_by, field_from, is_whole, is_read};
+ghost use Rattle.image_format.specs.Reading.{has_field, field_by, group_by, field_from, is_read};
 
 mod table;
 
-// The length of every image.
+/// The length of every image, in bytes.
 pub const IMAGE_SIZE: usize = 628;
-
-const ROWS: usize = 80;
 
 // Tags from here on are groups'.
 const GROUPS: u8 = 0x80;
@@ -24,146 +30,144 @@ const GROUPS_DEEP: u8 = 3;
 
 // ---- The table
 
-fn tag(row: usize) -> u8
-    requires { row < 80 }
-    ensures { result ≡ (row_at row).tag }
-{
-    table::TAGS[row]
+/// A field of the format: its tag, its body's length in bytes, and of a number its place among the 84 words.
+#[derive(Clone, Copy, Debug, PartialEq, Eq, Hash)]
+pub struct Row {
+    pub tag: u8,
+    pub size: u16,
+    pub slot: usize,
 }
 
-fn size(row: usize) -> usize
-    requires { row < 80 }
-    ensures { result ≡ (row_at row).size }
-{
-    table::SIZES[row]
+impl Row {
+    // Any other row is a group.
+    fn is_number(self) -> bool
+        ensures { result ≡ is_number self }
+    {
+        self.tag < GROUPS
+    }
+
+    // How many bytes the body has.
+    fn size(self) -> usize
+        ensures { result ≡ self.size }
+    {
+        usize::from(self.size)
+    }
+
+    // The tag, and the body's length, the low byte first.
+    fn header(self) -> [u8; 3]
+        ensures { result ≡ header_of self }
+    {
+        let [low, high] = self.size.to_le_bytes();
+        [self.tag, low, high]
+    }
+
+    // How many bytes come before the next row's.
+    fn step(self) -> usize
+        ensures { result ≡ step_of self }
+    {
+        if self.is_number() {
+            return 3 + self.size();
+        }
+        3
+    }
 }
 
-fn slot(row: usize) -> usize
-    requires { row < 80 }
-    ensures { result ≡ (row_at row).slot }
+// The rows in the order of an image's fields.
+fn format_rows() -> &'static [Row; 80]
+    ensures { result.now ≡ format }
 {
-    table::SLOTS[row]
-}
-
-// Whether the row is a number; any other is a group.
-fn is_number(row: usize) -> bool
-    requires { row < 80 }
-    ensures { result ≡ is_number (row_at row) }
-{
-    tag(row) < GROUPS
-}
-
-fn wide(x: u8) -> usize
-    ensures { (result ≡ x) × (result < 256) }
-{
-    x as usize
+    &table::ROWS
 }
 
 // ---- Reading
 
-// Where the next field starts, and which row it is; or that the image is refused.
-#[derive(Clone, Copy)]
+/// Where the next field starts, in bytes from the image's start, and which row of the format it is.
+#[derive(Clone, Copy, Debug, PartialEq, Eq, Hash)]
 pub struct Place {
-    pub ok: bool,
     pub at: usize,
     pub row: usize,
 }
 
-fn refuse() -> Place
-    ensures { result ≡ refused }
-{
-    Place {
-        ok: false,
-        at: 0,
-        row: 0,
-    }
+// The bytes of an image from `at` up to `end`.
+#[derive(Clone, Copy, Debug)]
+struct Part<'a> {
+    image: &'a [u8],
+    at: usize,
+    end: usize,
+    ghost ordered: { at ≤ end },
+    ghost within: { end ≤ length image.now },
 }
 
-// The row's header stands at `at`, and its body ends by `end`.
-fn stands(s: &[u8], at: usize, end: usize, row: usize) -> bool
-    requires { (at ≤ end) × (end ≤ length s.now) }
-    ensures { result ≡ stands s.now at end row }
+// The row's header stands at the part's start, and its body ends within the part.
+fn has_field(part: Part<'_>, row: Row) -> bool
+    ensures { result ≡ has_field part.entry.image.now part.entry.at part.entry.end row }
 {
-    if row >= ROWS {
-        return false;
-    }
-    if end - at < 3 {
-        return false;
-    }
-    let n = size(row);
-    if end - at - 3 < n {
-        return false;
-    }
-    if s[at] != tag(row) {
-        return false;
-    }
-    if wide(s[at + 1]) != n % 256 {
-        return false;
-    }
-    wide(s[at + 2]) == n / 256
+    part.end - part.at >= 3 + row.size() && part.image[part.at..].starts_with(&row.header())
 }
 
-// One field of the bytes from `at` up to `end`.
+// One field of the part's bytes, which should be this row.
 #[cycle(read_field_read_group)]
-fn read_field(s: &[u8], at: usize, end: usize, depth: u8, row: usize) -> Place
-    requires { (at ≤ end) × (end ≤ length s.now) }
-    ensures is { (n : ℕ) → (end - at) + (end - at) < n → result ≡ field_by n s.now at end depth row }
-    ensures moves { result.ok ≡ true → (at < result.at) × (result.at ≤ end) }
+fn read_field(part: Part<'_>, depth: u8, row: usize) -> Option<Place>
+    ensures is { (n : ℕ) → (part.entry.end - part.entry.at) + (part.entry.end - part.entry.at) < n →
+        result ≡ field_by n part.entry.image.now part.entry.at part.entry.end depth row }
+    ensures moves { IfSome result (λ next. (part.entry.at < next.at) × (next.at ≤ part.entry.end)) }
 {
-    if !stands(s, at, end, row) {
-        return refuse();
+    let field = *format_rows().get(row)?;
+    if !has_field(part, field) {
+        return None;
     }
-    let body = at + 3;
-    let stop = body + size(row);
-    if is_number(row) {
-        return Place {
-            ok: true,
+    let body = part.at + 3;
+    let stop = body + field.size();
+    if field.is_number() {
+        return Some(Place {
             at: stop,
             row: row + 1,
-        };
+        });
     }
     if depth == 0 {
-        return refuse();
+        return None;
     }
-    read_group(s, body, stop, depth - 1, row + 1)
+    let group = Part {
+        image: part.image,
+        at: body,
+        end: stop,
+    };
+    read_group(group, depth - 1, row + 1)
 }
 
-// All the fields of the bytes from `at` up to `end`.
+// All the fields of the part's bytes, from this row on.
 #[cycle(read_field_read_group)]
-fn read_group(s: &[u8], at: usize, end: usize, depth: u8, row: usize) -> Place
-    requires { (at ≤ end) × (end ≤ length s.now) }
-    ensures is { (n : ℕ) → (end - at) + (end - at) + 1 < n → result ≡ group_by n s.now at end depth row }
-    ensures moves { result.ok ≡ true → (at ≤ result.at) × (result.at ≤ end) }
+fn read_group(part: Part<'_>, depth: u8, row: usize) -> Option<Place>
+    ensures is { (n : ℕ) → (part.entry.end - part.entry.at) + (part.entry.end - part.entry.at) + 1 < n →
+        result ≡ group_by n part.entry.image.now part.entry.at part.entry.end depth row }
+    ensures moves { IfSome result (λ next. (part.entry.at ≤ next.at) × (next.at ≤ part.entry.end)) }
 {
-    if at == end {
-        return Place {
-            ok: true,
-            at: at,
-            row: row,
-        };
+    if part.at == part.end {
+        return Some(Place { at: part.at, row });
     }
-    let f = read_field(s, at, end, depth, row);
-    if !f.ok {
-        return refuse();
-    }
-    let next = f.at;
-    let after = f.row;
-    read_group(s, next, end, depth, after)
+    let next = read_field(part, depth, row)?;
+    let rest = Part {
+        image: part.image,
+        at: next.at,
+        end: part.end,
+    };
+    read_group(rest, depth, next.row)
 }
 
 // The field at a place, to the end of the slice.
-fn field_from(s: &[u8], at: usize, row: usize) -> Place
-    ensures { result ≡ field_from s.now at row }
+fn field_from(image: &[u8], at: usize, row: usize) -> Option<Place>
+    ensures { result ≡ field_from image.now at row }
 {
-    if at > s.len() {
-        return refuse();
+    let end = image.len();
+    if at > end {
+        return None;
     }
-    read_field(s, at, s.len(), GROUPS_DEEP, row)
+    read_field(Part { image, at, end }, GROUPS_DEEP, row)
 }
 
 // ---- The reader keeps the lent image and its place
 
-#[derive(Drop)]
+#[derive(Debug, Drop)]
 pub struct Reader<'a> {
     pub image: &'a [u8],
     pub at: usize,
@@ -175,79 +179,57 @@ pub fn new<'a>(image: &'a [u8]) -> Reader<'a>
     Reader { image, at: 0 }
 }
 
-// The field at the reader's place, which should be this row.
-pub fn next<'a>(r: Reader<'a>, row: usize) -> Place
+/// The field at the reader's place, which should be this row: where it ends and which row is next, or `None` where the
+/// bytes aren't such a field.
+pub fn next<'a>(r: Reader<'a>, row: usize) -> Option<Place>
     ensures { result ≡ field_from r.entry.image.now r.entry.at row }
 {
     field_from(r.image, r.at, row)
 }
 
-// The image's first field, of a plain slice and a number.
-pub fn first(image: &[u8], row: usize) -> Place
+/// The image's first field, of a plain slice and a number: as `next` answers.
+pub fn first(image: &[u8], row: usize) -> Option<Place>
     ensures { result ≡ field_from image.now 0 row }
 {
     next(new(image), row)
 }
 
-// Whether these bytes have the format: one field, up to their end, of all rows.
+/// Whether these bytes have the format: one field, up to their end, of all rows.
 pub fn is_read(image: &[u8]) -> bool
     ensures { result ≡ is_read image.now }
 {
-    let p = first(image, 0);
-    if !p.ok {
-        return false;
-    }
-    if p.at != image.len() {
-        return false;
-    }
-    p.row == ROWS
+    first(image, 0)
+        == Some(Place {
+            at: image.len(),
+            row: format_rows().len(),
+        })
 }
 
 // ---- The words of an image
 
-fn byte(x: u8) -> u64
-    ensures { (result ≡ x) × (result < 256) }
+// The number that these bytes make, the low one first.
+fn number(bytes: &[u8]) -> u64
+    requires { length bytes.now ≤ 8 }
+    ensures { result ≡ number_at bytes.now 0 (length bytes.now) }
 {
-    x as u64
-}
-
-// The number that so many bytes make, the low one first.
-fn number_at(s: &[u8], at: usize, size: usize) -> u64
-    requires { (size ≤ 8) × (at + size ≤ length s.now) }
-    ensures { result ≡ number_at s.now at size }
-{
-    let mut i = size;
-    let mut n = 0;
-    while i > 0 {
-        i -= 1;
-        n = n * 256 + byte(s[at + i]);
-    }
-    n
-}
-
-// How many bytes come before the next row's.
-fn step(row: usize) -> usize
-    requires { row < 80 }
-    ensures { result ≡ step_of (row_at row) }
-{
-    if is_number(row) {
-        return 3 + size(row);
-    }
-    3
+    let mut all = [0; 8];
+    all[..bytes.len()].copy_from_slice(bytes);
+    u64::from_le_bytes(all)
 }
 
 // The row's number, if it is one, goes to its word.
-fn take_field(s: &[u8], at: usize, row: usize, words: &mut [u64; 84])
-    requires { (row < 80) × (at + step_of (row_at row) ≤ length s.now) }
-    ensures { words.new ≡ taken s.now at (row_at row) words.old }
+fn take_field(image: &[u8], at: usize, row: Row, words: &mut [u64; 84])
+    requires fits { at + step_of row ≤ length image.now }
+    requires row { IsRow row }
+    ensures { words.new ≡ taken image.now at row words.old }
 {
-    if is_number(row) {
-        let k = slot(row);
-        words[k] = number_at(s, at + 3, size(row));
+    if row.is_number() {
+        let body = at + 3;
+        words[row.slot] = number(&image[body..body + row.size()]);
     }
 }
 
-// The image's numbers go to their words; the other words stay, and all do where it is too short.
+/// The image's numbers go to their words; the other words stay, and all do where it is shorter than an image.
 pub fn load(image: &[u8], words: &mut [u64; 84])
     ensures { words.new ≡ loaded_from image.now words.old }
 {
@@ -255,11 +237,9 @@ pub fn load(image: &[u8], words: &mut [u64; 84])
         return;
     }
     let mut at = 0;
-    let mut row = 0;
-    while row < ROWS {
-        take_field(image, at, row, &mut *words);
-        at += step(row);
-        row += 1;
+    for row in format_rows() {
+        take_field(image, at, *row, words);
+        at += row.step();
     }
 }
 
@@ -267,47 +247,32 @@ pub fn load(image: &[u8], words: &mut [u64; 84])
 
 // A number's lowest bytes, the low one first.
 fn put_number(buf: &mut [u8], at: usize, n: u64, size: usize)
-    requires { at + size ≤ length buf.old }
+    requires { (size ≤ 8) × (at + size ≤ length buf.old) }
     ensures { buf.new ≡ sets buf.old at (bytes_of size n) }
 {
-    let mut rest = n;
-    let mut i = 0;
-    while i < size {
-        buf[at + i] = (rest % 256) as u8;
-        rest = rest / 256;
-        i += 1;
+    buf[at..at + size].copy_from_slice(&n.to_le_bytes()[..size]);
+}
+
+fn put_header(buf: &mut [u8], at: usize, row: Row)
+    requires { at + 3 ≤ length buf.old }
+    ensures { buf.new ≡ sets buf.old at (header_of row) }
+{
+    buf[at..at + 3].copy_from_slice(&row.header());
+}
+
+fn put_field(buf: &mut [u8], at: usize, row: Row, n: u64)
+    requires fits { at + step_of row ≤ length buf.old }
+    requires row { IsRow row }
+    ensures { buf.new ≡ sets buf.old at (field_with n row) }
+{
+    put_header(buf, at, row);
+    if row.is_number() {
+        put_number(buf, at + 3, n, row.size());
     }
 }
 
-fn put_header(buf: &mut [u8], at: usize, row: usize)
-    requires { (row < 80) × (at + 3 ≤ length buf.old) }
-    ensures { buf.new ≡ sets buf.old at (header_of (row_at row)) }
-{
-    let n = size(row);
-    buf[at] = tag(row);
-    buf[at + 1] = (n % 256) as u8;
-    buf[at + 2] = (n / 256) as u8;
-}
-
-fn put_field(buf: &mut [u8], at: usize, row: usize, n: u64)
-    requires { (row < 80) × (at + step_of (row_at row) ≤ length buf.old) }
-    ensures { buf.new ≡ sets buf.old at (field_with n (row_at row)) }
-{
-    put_header(&mut *buf, at, row);
-    if is_number(row) {
-        put_number(&mut *buf, at + 3, n, size(row));
-    }
-}
-
-fn word_of(words: &[u64; 84], row: usize) -> u64
-    requires { row < 80 }
-    ensures { result ≡ get_or words.now (row_at row).slot 0 }
-{
-    let k = slot(row);
-    words[k]
-}
-
-// The image of the words, at the buffer's start; the rest of a longer buffer stays, and all of one that is too short.
+/// The image of the words, at the buffer's start; the rest of a longer buffer stays, and all of one that is shorter than
+/// an image.
 pub fn write(words: &[u64; 84], buf: &mut [u8])
     ensures { buf.new ≡ written_to words.now buf.old }
 {
@@ -315,10 +280,8 @@ pub fn write(words: &[u64; 84], buf: &mut [u8])
         return;
     }
     let mut at = 0;
-    let mut row = 0;
-    while row < ROWS {
-        put_field(&mut *buf, at, row, word_of(words, row));
-        at += step(row);
-        row += 1;
+    for row in format_rows() {
+        put_field(buf, at, *row, words[row.slot]);
+        at += row.step();
     }
 }

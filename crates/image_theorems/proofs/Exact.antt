@@ -2,22 +2,23 @@
 use mathlib.Core.Path.{◌≡◌, refl, sym, ◌∙◌, ap}
 use mathlib.Core.Bool.{Bool, true, false, not, cond, ◌&&◌}
 use mathlib.Core.List.{List, [], ◌∷◌, ◌++◌, append_assoc, append-nil}
-use Prim.Native.Nat.{ℕ, zero, suc, ◌+◌, ◌-◌, ◌*◌, ◌/◌, ◌%◌, ◌^◌, ◌<◌, ◌≤◌}
+use Prim.Native.Nat.{ℕ, zero, suc, ◌+◌, ◌*◌, ◌/◌, ◌%◌, ◌^◌, ◌<◌, ◌≤◌}
 use native.Mathlib.Omega.{arith}
 use native.Mathlib.Nat.{pow-succ'}
 use lib.Arith.{mod-mul}
 use native.Mathlib.Numerals.{add-one}
 use borrow.Author.Tests.{ltb-true, eqb-true, eqb-false, not-true}
 use lib.Dec.{ltb, eqb}
-use lib.Seq.{drop-cons, drop-append-add, get_or-drop, drop-drop, drop-length, drop_at, get_or-set_same, get_or-set_other}
+use lib.Seq.{drop-cons, get_or-drop, drop-drop, drop-length, drop_at, get_or-set_same, get_or-set_other}
 use Rattle.utils.proofs.Bools.{either, both, and_true}
 use Rattle.image_format.proofs.Rounds.{rows_from, rows_end}
-use Rattle.image_format.proofs.Rows.{rows_are, slot_small}
+use Rattle.image_format.proofs.Rows.{slot_small}
 use Rattle.image_format.proofs.Bytes.{length_field}
 use Rattle.image_theorems.proofs.Sound.{start_of, Heads, all_heads}
 use lib.ListN.{get_or, set, length, drop, length-set}
-use Rattle.image_format.specs.Format.{Row, row, is_number, step_of, bytes, format, row_at}
-use Rattle.image_format.specs.Image.{bytes_of, number_at, header_of, field_with, field_of, written, image_of, taken, loaded, words_in}
+use Rattle.image_format.specs.declared.Row.{Row}
+use Rattle.image_format.specs.Format.{row, is_number, step_of, bytes, format}
+use Rattle.image_format.specs.Image.{bytes_of, number_at, header_of, field_of, written, image_of, taken, loaded, words_in}
 use Rattle.image_format.specs.Reading.{is_head, stands, field_by', group_by', field_by, group_by, field_from, is_read}
 use Rattle.image_theorems.specs.Exact.{carried, WrittenIsRead, ReadBack, SameImage, ImageBytes, CarriedImage, ReadLength, ReadIsImage}
 

@@ -1,6 +1,7 @@
 -- An image and its words (document 02, T-11): what was written is read back, and what is read is the image of its words.
 use Rattle.std.specs.Prelude.{ℕ, ◌%◌, ◌^◌, ◌<◌, true, cond, List, [], ◌∷◌, ◌≡◌, get_or, set, length}
-use Rattle.image_format.specs.Format.{Row, is_number, format}
+use Rattle.image_format.specs.declared.Row.{Row}
+use Rattle.image_format.specs.Format.{is_number, format}
 use Rattle.image_format.specs.Image.{image_of, image_size, words_in}
 use Rattle.image_format.specs.Reading.{is_read}
 

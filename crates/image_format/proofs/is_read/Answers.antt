@@ -1,19 +1,14 @@
-use mathlib.Core.Path.{refl}
-use borrow.Author.Tests.{not-true, not-false}
-use Rattle.image_format.proofs.Laws.{unread, read_short, read_whole}
-use Rattle.image_format.proofs.is_read.Reads as reads
-use Rattle.image_format.proofs.is_read.Lts as lts
-use Rattle.image_format.proofs.first.Reads as first_reads
+use Rattle.std.proofs.Common.{◌≡◌, ℕ, Option, Some, None, refl, ◌∙◌, length}
+use Rattle.std.specs.Option.{option_eq}
+use Rattle.image_format.specs.Reading.{place, is_whole, field_from, is_read}
+use Rattle.image_format.specs.declared.Place.{Place}
+use Rattle.image_format.specs.contracts.PlacePartialEq.TheImpl.{eq-value}
 use Rattle.image_format.proofs.is_read.Goals as goal
 
--- src/lib.rt:194:9
-pub returns-then-not-p : goal.returns-then-not-p
-returns-then-not-p c = unread _ _ _ c.first-p.ensures (not-true _ c.if-not-p.true) refl
+whole : (o : Option Place) (n : ℕ) → option_eq eq-value.it o (place n 80) ≡ is_whole o n
+whole None n = refl
+whole (Some p) n = refl
 
--- src/lib.rt:197:9
-pub returns-then-p-image : goal.returns-then-p-image
-returns-then-p-image c = read_short _ _ _ c.first-p.ensures c.if-p-image.true refl
-
--- src/lib.rt:189:1
 pub returns : goal.returns
-returns c = read_whole _ _ _ c.first-p.ensures (not-false _ c.if-not-p.false) c.if-p-image.false refl
+unfolding is_read
+returns c = c.eq.ensures ∙ rw c.first.ensures (whole (field_from c.args.image.now 0 0) (length c.args.image.now))

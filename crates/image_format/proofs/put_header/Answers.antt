@@ -1,11 +1,7 @@
-use native.Mathlib.Omega.{arith}
-use Rattle.image_format.proofs.Rows.{size_small}
-use Rattle.image_format.proofs.put_header.Reads as reads
-use Rattle.image_format.proofs.put_header.Lts as lts
-use Rattle.image_format.proofs.size.Reads as size-reads
-use Rattle.image_format.proofs.tag.Reads as tag-reads
+use Rattle.std.proofs.Common.{arith, ◌∙◌}
+use Rattle.image_format.specs.Image.{header_of}
+use Rattle.image_format.proofs.Bytes.{stored}
 use Rattle.image_format.proofs.put_header.Goals as goal
 
--- src/lib.rt:283:19
-pub overflow_cast-buf-2 : goal.overflow_cast-buf-2
-overflow_cast-buf-2 c = omega (arith, size_small c.args.row, c.size-n.ensures)
+pub returns : goal.returns
+returns c = stored c.args.buf.now _ (header_of c.args.row) c.args.at _ (c.copy_from_slice.ensures.after ∙ c.header.ensures) (omega arith) c.requires
