@@ -1,62 +1,28 @@
 -- How each test ends. Assumes nothing.
 use mathlib.Core.Path.{◌≡◌, refl, sym, ◌∙◌, ap}
-use mathlib.Core.Bool.{Bool, true, false, not, cond, ◌&&◌, ◌||◌}
+use mathlib.Core.Bool.{Bool, beq, true, false, cond, ◌&&◌}
 use mathlib.Core.List.{List}
-use Prim.Native.Nat.{ℕ, zero, suc, ◌+◌, ◌<◌, ◌≤◌}
+use Prim.Native.Nat.{ℕ, zero, suc, ◌+◌, ◌<◌}
 use native.Mathlib.Omega.{arith}
 use native.Mathlib.Numerals.{add-one}
 use lib.Dec.{eqb}
-use lib.ListN.{get_or}
-use borrow.Author.Tests.{eqb-true, eqb-false, eq-eqb}
-use Rattle.utils.specs.Cases.{cases, and_left_no, and_right_no}
-use Rattle.utils.specs.Set.{bit}
+use borrow.Author.Tests.{eqb-true, eqb-false}
+use Rattle.utils.specs.Cases.{and_left_no, and_right_no}
 use Rattle.utils.proofs.Bools.{either}
-use Rattle.vioapic_entry.specs.Redirection.{remote_irr, is_level, is_fit}
-use Rattle.vioapic_entry.specs.declared.Entry.{Entry}
 use Rattle.vioapic.specs.State.{IoApicState}
-use Rattle.vioapic.specs.Table.{is_version20}
 use Rattle.vioapic.specs.IoApic.{is_version, version_of}
 use Rattle.vioapic.specs.declared.IoApicVersion.TheVariants.{V11, V20}
-use Rattle.vioapic_theorems.specs.Rules.{implies}
 use Rattle.vlapic.specs.declared.VirtualApicRegs.{VirtualApicRegs}
 use Rattle.vlapic_words.specs.Words.{word}
 use Rattle.vlapic_words.specs.Words as apic_view
 use Rattle.vlapic_requests.specs.Requests.{write_tpr}
-use Rattle.image_rules.specs.Rules.{all, same, may_fly, is_v20, entry_keeps, entry_keeps_at, ioapic_keeps, word_keeps, ppr_keeps, apic_keeps}
+use Rattle.image_rules.specs.Rules.{all, same, is_v20, entry_keeps_at, ioapic_keeps, word_keeps, ppr_keeps, apic_keeps}
 
--- ---- an entry
-
-second_no : (a b c d : Bool) → b ≡ false → (a && ((b && c) && d)) ≡ false
-second_no true b c d h = rw h
-second_no false b c d h = refl
-
-third_no : (a b c d : Bool) → c ≡ false → (a && ((b && c) && d)) ≡ false
-third_no true true c d h = rw h
-third_no true false c d h = refl
-third_no false b c d h = refl
-
-four : (a b c d : Bool) → a ≡ true → b ≡ true → c ≡ true → (a && ((b && c) && d)) ≡ d
-four a b c d p q r = rw (p, q, r)
-
-module _ (e : Entry) (flies version20 : Bool) (f : Bool) (ef : f ≡ remote_irr e.word) where
-  pub not_same : (r : Bool) → r ≡ same f flies → r ≡ false → false ≡ entry_keeps version20 flies e
-  not_same r er h = let x : same (remote_irr e.word) flies ≡ false = ap (λ (b : Bool). same b flies) (sym ef) ∙ sym er ∙ h in sym (and_left_no _ _ x)
-
-  pub not_deferred : (r : Bool) → r ≡ implies e.pending_level f → r ≡ false → false ≡ entry_keeps version20 flies e
-  not_deferred r er h = let x : implies e.pending_level (remote_irr e.word) ≡ false = ap (λ (b : Bool). implies e.pending_level b) (sym ef) ∙ sym er ∙ h in
-      sym (second_no (same (remote_irr e.word) flies) (implies e.pending_level (remote_irr e.word)) (implies (remote_irr e.word) (may_fly version20 e.word)) (implies version20 (not (bit e.word 12))) x)
-
-  module _ (m : Bool) (em : m ≡ may_fly version20 e.word) where
-    pub not_fit : (r : Bool) → r ≡ implies f m → r ≡ false → false ≡ entry_keeps version20 flies e
-    not_fit r er h = let x : implies (remote_irr e.word) (may_fly version20 e.word) ≡ false = ap (λ (b : Bool). implies b (may_fly version20 e.word)) (sym ef) ∙ ap (λ (b : Bool). implies f b) (sym em) ∙ sym er ∙ h in
-        sym (third_no (same (remote_irr e.word) flies) (implies e.pending_level (remote_irr e.word)) (implies (remote_irr e.word) (may_fly version20 e.word)) (implies version20 (not (bit e.word 12))) x)
-
-    pub all_kept : (r1 r2 r3 r4 b : Bool) → r1 ≡ same f flies → r1 ≡ true → r2 ≡ implies e.pending_level f → r2 ≡ true → r3 ≡ implies f m → r3 ≡ true → b ≡ bit e.word 12 → r4 ≡ implies version20 (not b) → r4 ≡ entry_keeps version20 flies e
-    all_kept r1 r2 r3 r4 b e1 h1 e2 h2 e3 h3 eb e4 =
-        let x1 : same (remote_irr e.word) flies ≡ true = ap (λ (b : Bool). same b flies) (sym ef) ∙ sym e1 ∙ h1 in
-        let x2 : implies e.pending_level (remote_irr e.word) ≡ true = ap (λ (b : Bool). implies e.pending_level b) (sym ef) ∙ sym e2 ∙ h2 in
-        let x3 : implies (remote_irr e.word) (may_fly version20 e.word) ≡ true = ap (λ (b : Bool). implies b (may_fly version20 e.word)) (sym ef) ∙ ap (λ (b : Bool). implies f b) (sym em) ∙ sym e3 ∙ h3 in
-        e4 ∙ ap (λ (b : Bool). implies version20 (not b)) eb ∙ sym (four _ _ _ (implies version20 (not (bit e.word 12))) x1 x2 x3)
+pub same_is : (a b : Bool) → beq a b ≡ same a b
+same_is true true = refl
+same_is true false = refl
+same_is false true = refl
+same_is false false = refl
 
 pub v20_is : (n : ℕ) → is_v20 (version_of n) ≡ eqb n 0x20
 v20_is n = go (eqb n 0x20)
@@ -77,10 +43,6 @@ all_less p zero k l h = absurd (omega arith)
 all_less p (suc n) k l h = either (λ (_ : ℕ). (all n p && p n) ≡ false) (eqb k n) 0 0
     (λ q. and_right_no (all n p) (p n) (ap p (sym (eqb-true k n q)) ∙ h))
     (λ q. let d : (k ≡ n) → ⊥ = eqb-false k n q in and_left_no (all n p) (p n) (all_less p n k (omega arith) h))
-
-pub ioapic_version : (s : IoApicState) (r : Bool) → r ≡ is_version s.version → r ≡ false → false ≡ ioapic_keeps s
-unfolding ioapic_keeps
-ioapic_version s r er h = sym (and_left_no _ _ (sym er ∙ h))
 
 pub ioapic_entry : (s : IoApicState) (g : ℕ) (r : Bool) → g < 24 → r ≡ entry_keeps_at s g → r ≡ false → false ≡ ioapic_keeps s
 unfolding ioapic_keeps

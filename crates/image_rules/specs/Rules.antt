@@ -1,7 +1,7 @@
 -- The rules that an image's chips must keep (document 02, T-11): what every call keeps, as a test. The definitions are the chips' own.
 -- 82093AA: IOREDTBL (Delivery Status, Remote IRR). Intel SDM volume 3, the APIC chapter: local APIC ID, TPR, PPR, LDR, DFR, ESR, LVT, ICR; valid
 -- interrupt vectors (16 to 255). 8259A: ICW2 (bits 3 to 7 of the vector), the initialization sequence, cascade mode.
-use Rattle.std.specs.Prelude.{ℕ, zero, suc, ◌*◌, ◌/◌, ◌%◌, ◌^◌, Bool, true, false, not, cond, ◌&&◌, ◌||◌, List, ltb, eqb}
+use Rattle.std.specs.Prelude.{ℕ, zero, suc, ◌*◌, ◌/◌, ◌%◌, Bool, true, false, not, cond, ◌&&◌, ◌||◌, List, ltb, eqb}
 use Rattle.utils.specs.Set.{bit}
 use Rattle.vioapic_entry.specs.Redirection.{remote_irr, is_level, is_fit}
 use Rattle.vioapic_entry.specs.declared.Entry.{Entry}

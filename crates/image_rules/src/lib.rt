@@ -20,22 +20,10 @@ use vpic::PicRule;
 
 // ---- Tests
 
-fn same(a: bool, b: bool) -> bool
-    ensures { result ≡ same a b }
-{
-    if a {
-        return b;
-    }
-    !b
-}
-
 fn implies(a: bool, b: bool) -> bool
     ensures { result ≡ implies a b }
 {
-    if a {
-        return b;
-    }
-    true
+    !a || b
 }
 
 // ---- The I/O APIC
@@ -50,38 +38,23 @@ fn is_busy(word: u64) -> bool
 fn may_fly(word: u64, version20: bool) -> bool
     ensures { result ≡ may_fly version20 word }
 {
-    if !vioapic_entry::is_level(word) {
-        return false;
-    }
-    if version20 {
-        return true;
-    }
-    vioapic_entry::is_fit(word)
+    vioapic_entry::is_level(word) && (version20 || vioapic_entry::is_fit(word))
 }
 
 fn entry_keeps(e: Entry, flies: bool, version20: bool) -> bool
     ensures { result ≡ entry_keeps version20 flies e }
 {
     let flying = vioapic_entry::remote_irr(e.word);
-    if !same(flying, flies) {
-        return false;
-    }
-    if !implies(e.pending_level, flying) {
-        return false;
-    }
-    if !implies(flying, may_fly(e.word, version20)) {
-        return false;
-    }
-    implies(version20, !is_busy(e.word))
+    flying == flies
+        && implies(e.pending_level, flying)
+        && implies(flying, may_fly(e.word, version20))
+        && implies(version20, !is_busy(e.word))
 }
 
 fn is_20(version: IoApicVersion) -> bool
     ensures { result ≡ is_v20 version }
 {
-    match version {
-        IoApicVersion::V11 => false,
-        IoApicVersion::V20 => true,
-    }
+    matches!(version, IoApicVersion::V20)
 }
 
 fn entry_at_keeps(words: &[u64; 32], g: usize) -> bool
@@ -93,18 +66,17 @@ fn entry_at_keeps(words: &[u64; 32], g: usize) -> bool
     entry_keeps(e, flies, is_20(vioapic::version(words)))
 }
 
+#[tactic(auto, unfolding(crate::specs::Rules::all, crate::specs::Rules::ioapic_keeps, vioapic::specs::State::view))]
 pub fn ioapic_keeps(words: &[u64; 32]) -> bool
     ensures { result ≡ ioapic_keeps (view words.now) }
 {
     if !vioapic::is_version(words[29]) {
         return false;
     }
-    let mut g = 0;
-    while g < 24 {
+    for g in 0..24 {
         if !entry_at_keeps(words, g) {
             return false;
         }
-        g += 1;
     }
     true
 }
@@ -118,6 +90,7 @@ fn word(words: &[u64; 48], k: usize) -> u32
     (words[k] % 0x1_0000_0000) as u32
 }
 
+#[tactic(auto, unfolding(vlapic_words::specs::Words::view))]
 fn is_x2apic(words: &[u64; 48]) -> bool
     ensures { result ≡ (apicView words.now).x2apic }
 {
@@ -158,61 +131,25 @@ fn legal(x: u32) -> u32
 }
 
 // What the register of word k keeps of a value.
+#[tactic(auto, unfolding(crate::specs::Rules::kept_of))]
 fn kept(x2apic: bool, k: usize, x: u32) -> u32
     ensures { result ≡ kept_of x2apic k x }
 {
-    if k == 1 {
-        return id(x2apic, x);
+    match k {
+        1 => id(x2apic, x),
+        2 => register::tpr(x),
+        4 => register::ldr(x),
+        5 => register::dfr(x),
+        7 | 8 => errors(x),
+        9 => vlapic_icr::fields::idle(x),
+        10 => destination(x2apic, x),
+        11 | 13 | 14 => lvt::monitor(x),
+        12 => lvt::timer(x),
+        15 | 16 => lvt::pin(x),
+        17 => lvt::error(x),
+        18 | 34 => legal(x),
+        _ => x,
     }
-    if k == 2 {
-        return register::tpr(x);
-    }
-    if k == 4 {
-        return register::ldr(x);
-    }
-    if k == 5 {
-        return register::dfr(x);
-    }
-    if k == 7 {
-        return errors(x);
-    }
-    if k == 8 {
-        return errors(x);
-    }
-    if k == 9 {
-        return vlapic_icr::fields::idle(x);
-    }
-    if k == 10 {
-        return destination(x2apic, x);
-    }
-    if k == 11 {
-        return lvt::monitor(x);
-    }
-    if k == 12 {
-        return lvt::timer(x);
-    }
-    if k == 13 {
-        return lvt::monitor(x);
-    }
-    if k == 14 {
-        return lvt::monitor(x);
-    }
-    if k == 15 {
-        return lvt::pin(x);
-    }
-    if k == 16 {
-        return lvt::pin(x);
-    }
-    if k == 17 {
-        return lvt::error(x);
-    }
-    if k == 18 {
-        return legal(x);
-    }
-    if k == 34 {
-        return legal(x);
-    }
-    x
 }
 
 fn word_keeps(words: &[u64; 48], k: usize) -> bool
@@ -231,35 +168,29 @@ fn ppr_keeps(words: &[u64; 48]) -> bool
     word(&copy, 3) == word(words, 3)
 }
 
+#[tactic(auto, unfolding(crate::specs::Rules::all))]
 pub fn apic_keeps(words: &[u64; 48]) -> bool
     ensures { result ≡ apic_keeps words.now }
 {
-    let mut k = 0;
-    while k < 42 {
+    for k in 0..42 {
         if !word_keeps(words, k) {
             return false;
         }
-        k += 1;
     }
     ppr_keeps(words)
 }
 
 // ---- The pair
 
+#[tactic(auto, unfolding(vpic_chip::specs::Registers::chip_in))]
 fn chip_keeps(word: u64, full: bool) -> bool
     ensures { result ≡ chip_keeps (cond full (full_in word) (chip_in word)) }
 {
-    if word % 0x100 % 8 != 0 {
-        return false;
-    }
-    if word / 0x1_0000_0000 % 0x100 >= 4 {
-        return false;
-    }
+    let base = word % 0x100;
+    let step = word / 0x1_0000_0000 % 0x100;
     let rest = word / 0x1000_0000_0000;
-    if full {
-        return rest / 0x80 == 0;
-    }
-    rest == 0
+    let spare = if full { rest / 0x80 } else { rest };
+    base % 8 == 0 && step < 4 && spare == 0
 }
 
 fn cascade_keeps(words: &[u64; 4]) -> bool
@@ -268,26 +199,19 @@ fn cascade_keeps(words: &[u64; 4]) -> bool
     let requested = vpic::master(words).request() / 4 % 2 == 1;
     match vpic::rule(words) {
         PicRule::Latch => true,
-        PicRule::Cascade => same(requested, vpic::slave(words).asks()),
-        PicRule::Full => same(requested, vpic::slave(words).full_asks(false)),
+        PicRule::Cascade => requested == vpic::slave(words).asks(),
+        PicRule::Full => requested == vpic::slave(words).full_asks(false),
     }
 }
 
+#[tactic(auto, using(crate::proofs::Pair::chip_placed), unfolding(crate::specs::Rules::keeps_pair, vpic::specs::Words::view))]
 pub fn pair_keeps(words: &[u64; 4]) -> bool
     ensures { result ≡ keeps_pair (pairView words.now) }
 {
-    if !PicRule::is_number(words[2]) {
-        return false;
-    }
-    if words[3] != 0 {
-        return false;
-    }
     let full = words[2] == 2;
-    if !chip_keeps(words[0], full) {
-        return false;
-    }
-    if !chip_keeps(words[1], full) {
-        return false;
-    }
-    cascade_keeps(words)
+    PicRule::is_number(words[2])
+        && words[3] == 0
+        && chip_keeps(words[0], full)
+        && chip_keeps(words[1], full)
+        && cascade_keeps(words)
 }

@@ -1,8 +1,4 @@
 use Rattle.image_rules.proofs.Tests.{ppr_kept}
-use Rattle.image_rules.proofs.ppr_keeps.Reads as reads
-use Rattle.image_rules.proofs.ppr_keeps.Lts as lts
-use Rattle.image_rules.proofs.word.Reads as word-reads
-use Rattle.vlapic_requests.proofs.write_tpr.Reads as write-tpr-reads
 use Rattle.image_rules.proofs.ppr_keeps.Goals as goal
 
 -- src/lib.rt:201:1
