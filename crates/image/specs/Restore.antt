@@ -1,20 +1,18 @@
 -- What restoring leaves in the chips' words, and answers: the state that the image holds; or 10, and every word as it was, for an image that no state writes that keeps its chips' rules.
-use Rattle.std.specs.Prelude.{ℕ, Bool, cond, ◌&&◌, List, [], ◌∷◌, ◌++◌, ltb, get_or, take, drop, replicate}
+use Rattle.std.specs.Prelude.{ℕ, Bool, cond, ◌&&◌, List, [], ◌∷◌, ◌++◌, ltb, get_or, take, drop, replicate, Result}
 use Rattle.types.specs.declared.Reply.{Reply}
 use Rattle.types.specs.declared.Reply.TheVariants.{Refused, Nothing}
+use Rattle.types.specs.declared.Refusal.{Refusal}
 use Rattle.types.specs.declared.Refusal.TheVariants.{BadImage}
-use Rattle.types.specs.Reply.{Outcome, outcome_of}
+use Rattle.types.specs.Reply.{Outcome, outcome_of, done_reply, result_reply}
 use Rattle.vioapic.specs.State.{view}
 use Rattle.vpic.specs.Words.{view as pairView}
 use Rattle.image_format.specs.Image.{words_in}
 use Rattle.image_format.specs.Reading.{is_read}
 use Rattle.image_rules.specs.Rules.{ioapic_keeps, apic_keeps, keeps_pair}
-use Rattle.image.specs.declared.RestoreAnswer.{RestoreAnswer}
-use Rattle.image.specs.declared.RestoreAnswer.TheVariants.{Restored, NotRestored}
 
-abbrev pub restore_reply : RestoreAnswer → Reply
-restore_reply Restored = Nothing
-restore_reply (NotRestored why) = Refused why
+abbrev pub restore_reply : Result (Unit {0}) Refusal → Reply
+restore_reply = result_reply done_reply
 
 -- the words that hold the chips
 pub record Chips : Type 0 where

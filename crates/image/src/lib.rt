@@ -8,7 +8,7 @@ ghost use Rattle.image.specs.Words.{chip_word, word_at, gathered};
 ghost use Rattle.image.specs.Save.{save_reply, saved};
 ghost use Rattle.image.specs.Restore.{restore_reply, chips, put_back, restored};
 
-use types::{Refusal, Reply};
+use types::Refusal;
 use vioapic::IoApicVersion;
 use vpic::PicRule;
 
@@ -30,40 +30,6 @@ const VERSION: usize = 29;
 const MODE: usize = 32;
 
 const RULE: usize = 82;
-
-#[derive(Clone, Copy)]
-pub enum SaveAnswer {
-    Saved(u64),
-    NotSaved(Refusal),
-}
-
-impl SaveAnswer {
-    pub fn reply(self) -> Reply
-        ensures { result ≡ save_reply self }
-    {
-        match self {
-            SaveAnswer::Saved(n) => Reply::One(n),
-            SaveAnswer::NotSaved(why) => Reply::Refused(why),
-        }
-    }
-}
-
-#[derive(Clone, Copy)]
-pub enum RestoreAnswer {
-    Restored,
-    NotRestored(Refusal),
-}
-
-impl RestoreAnswer {
-    pub fn reply(self) -> Reply
-        ensures { result ≡ restore_reply self }
-    {
-        match self {
-            RestoreAnswer::Restored => Reply::Nothing,
-            RestoreAnswer::NotRestored(why) => Reply::Refused(why),
-        }
-    }
-}
 
 // ---- Saving
 
@@ -121,16 +87,21 @@ fn gather(io: &[u64; 32], apic: &[u64; 48], pair: &[u64; 4], words: &mut [u64; 8
 }
 
 // The image of the chips' state goes to the lent buffer's start.
-pub fn save(io: &[u64; 32], apic: &[u64; 48], pair: &[u64; 4], buf: &mut [u8]) -> SaveAnswer
+pub fn save(
+    io: &[u64; 32],
+    apic: &[u64; 48],
+    pair: &[u64; 4],
+    buf: &mut [u8],
+) -> Result<u64, Refusal>
     ensures { outcome_of buf.new (save_reply result) ≡ saved io.now apic.now pair.now buf.old }
 {
     if buf.len() < image_format::IMAGE_SIZE {
-        return SaveAnswer::NotSaved(Refusal::TooShort);
+        return Err(Refusal::TooShort);
     }
     let mut words = [0u64; 84];
     gather(io, apic, pair, &mut words);
     image_format::write(&words, &mut *buf);
-    SaveAnswer::Saved(image_format::IMAGE_SIZE as u64)
+    Ok(image_format::IMAGE_SIZE as u64)
 }
 
 // ---- Restoring
@@ -154,31 +125,31 @@ fn put_back(
     io: &mut [u64; 32],
     apic: &mut [u64; 48],
     pair: &mut [u64; 4],
-) -> RestoreAnswer
+) -> Result<(), Refusal>
     ensures { outcome_of (chips io.new apic.new pair.new) (restore_reply result) ≡ put_back words.now (chips io.old apic.old pair.old) }
 {
     if words[MODE] > 1 {
-        return RestoreAnswer::NotRestored(Refusal::BadImage);
+        return Err(Refusal::BadImage);
     }
     let mut ioapic = [0u64; 32];
     copy_from(words, 0, &mut ioapic);
     if !image_rules::ioapic_keeps(&ioapic) {
-        return RestoreAnswer::NotRestored(Refusal::BadImage);
+        return Err(Refusal::BadImage);
     }
     let mut local = [0u64; 48];
     copy_from(words, APIC, &mut local);
     if !image_rules::apic_keeps(&local) {
-        return RestoreAnswer::NotRestored(Refusal::BadImage);
+        return Err(Refusal::BadImage);
     }
     let mut pics = [0u64; 4];
     copy_from(words, PAIR, &mut pics);
     if !image_rules::pair_keeps(&pics) {
-        return RestoreAnswer::NotRestored(Refusal::BadImage);
+        return Err(Refusal::BadImage);
     }
     *io = ioapic;
     *apic = local;
     *pair = pics;
-    RestoreAnswer::Restored
+    Ok(())
 }
 
 // The chips' state is the image's, if a state writes it that keeps the chips' rules; else every word stays.
@@ -187,11 +158,11 @@ pub fn restore(
     io: &mut [u64; 32],
     apic: &mut [u64; 48],
     pair: &mut [u64; 4],
-) -> RestoreAnswer
+) -> Result<(), Refusal>
     ensures { outcome_of (chips io.new apic.new pair.new) (restore_reply result) ≡ restored image.now (chips io.old apic.old pair.old) }
 {
     if !image_format::is_read(image) {
-        return RestoreAnswer::NotRestored(Refusal::BadImage);
+        return Err(Refusal::BadImage);
     }
     let mut words = [0u64; 84];
     words[BASE] = 0xfec0_0000;

@@ -8,6 +8,7 @@ ghost use Rattle.image.specs.Restore.{chips, restored};
 ghost use Rattle.image_c.specs.Calls.{shown, coded};
 
 use reply_code::code;
+use types::ToReply;
 
 #[unsafe(no_mangle)]
 pub extern "C" fn sillwander_image_save(
@@ -18,7 +19,7 @@ pub extern "C" fn sillwander_image_save(
 ) -> u64
     ensures { shown bytes.new result ≡ coded (saved ioapic.now apic.now pic.now bytes.old) }
 {
-    code(image::save(ioapic, apic, pic, &mut *bytes).reply())
+    code(image::save(ioapic, apic, pic, bytes).reply())
 }
 
 #[unsafe(no_mangle)]
@@ -30,5 +31,5 @@ pub extern "C" fn sillwander_image_restore(
 ) -> u64
     ensures { shown (chips ioapic.new apic.new pic.new) result ≡ coded (restored bytes.now (chips ioapic.old apic.old pic.old)) }
 {
-    code(image::restore(bytes, &mut *ioapic, &mut *apic, &mut *pic).reply())
+    code(image::restore(bytes, ioapic, apic, pic).reply())
 }
