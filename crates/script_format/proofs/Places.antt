@@ -5,11 +5,12 @@ use Prim.Native.Nat.{ℕ, ◌+◌, ◌-◌, ◌≤◌, ◌<◌}
 use native.Mathlib.Omega.{arith}
 use lib.ListN.{length, get_or, take, drop}
 use borrow.Author.Tests.{le-leb, lt-leb, lt-ltb, le-ltb}
-use Rattle.script_format.specs.declared.Body.{Body}
+use Rattle.std.specs.Prelude.{Option, Result}
+use Rattle.script_format.specs.declared.BadField.{BadField}
+use Rattle.script_format.specs.declared.Call.{Call}
 use Rattle.script_format.specs.declared.Field.{Field}
-use Rattle.script_format.specs.declared.Field.TheVariants.{Bad, End}
 use Rattle.script_format.specs.Format.{decoded}
-use Rattle.script_format.specs.Fields.{length_at, end_at, field_of, field_at}
+use Rattle.script_format.specs.Fields.{length_at, end_at, Bad, End, field_of, field_at}
 
 module _ (s : List ℕ) (at : ℕ) where
   pub ended : length s ≤ at → End ≡ field_at s at
@@ -26,7 +27,7 @@ module _ (s : List ℕ) (at : ℕ) where
     cut_off c =
         rw (lt-leb (length s) at h, le-ltb (length s) (at + 3) (omega arith), lt-ltb (length s) (end_at s at) (omega arith))
 
-    pub whole : (b : Body) (f : Field) → n ≤ length s - (at + 3)
+    pub whole : (b : Option Call) (f : Result (Option (Field Call)) BadField) → n ≤ length s - (at + 3)
         → b ≡ decoded (get_or s at 0) (take (at + 3 + n - (at + 3)) (drop (at + 3) s))
         → f ≡ field_of (get_or s at 0) b (at + 3 + n)
         → f ≡ field_at s at

@@ -1,14 +1,14 @@
 -- A tag that is none of the table's: what the last arm of a `match` knows, as the table says it. Assumes nothing.
 use mathlib.Core.Path.{◌≡◌, refl, ◌∙◌, sym, ap}
-use mathlib.Core.Bool.{Bool, true, false, cond, ◌&&◌}
+use mathlib.Core.Bool.{Bool, true, cond, ◌&&◌}
 use mathlib.Core.List.{List, [], ◌∷◌, ◌++◌}
 use Prim.Native.Nat.{ℕ, ◌≤◌, ◌<◌}
 use native.Mathlib.Omega.{arith}
 use lib.Dec.{eqb, leb, ltb}
 use borrow.Author.Tests.{ne_eqb, leb-true, ltb-true}
 use Rattle.utils.proofs.Bools.{and_true}
-use Rattle.script_format.specs.declared.Body.{Body}
-use Rattle.script_format.specs.declared.Body.TheVariants.{Malformed}
+use Rattle.std.specs.Prelude.{Option, None}
+use Rattle.script_format.specs.declared.Call.{Call}
 use Rattle.script_format.specs.Format.{Format, decoded_by, decoded_in, decoded, io_formats, pic_formats, apic_formats, board_formats}
 
 -- the rows in the order of the source, the last one first
@@ -45,7 +45,7 @@ passed k tag body (f ∷ fs) gs h l =
     let q : f.tag < k = ltb-true f.tag k p.0 in
     unlike tag f (fs ++ gs) body (λ e. omega arith) ∙ passed k tag body fs gs p.1 l
 
-none : (k tag : ℕ) (body : List ℕ) (gs : List Format) → from k gs ≡ true → tag < k → decoded_in gs tag body ≡ Malformed
+none : (k tag : ℕ) (body : List ℕ) (gs : List Format) → from k gs ≡ true → tag < k → decoded_in gs tag body ≡ None
 none k tag body [] h l = refl
 none k tag body (g ∷ gs) h l =
     let p : (leb k g.tag ≡ true) × (from k gs ≡ true) = and_true (leb k g.tag) (from k gs) h in
@@ -54,10 +54,10 @@ none k tag body (g ∷ gs) h l =
 
 pub kept : (k tag : ℕ) (body : List ℕ) (fs gs : List Format) → from k gs ≡ true → tag < k → decoded_in (fs ++ gs) tag body ≡ decoded_in fs tag body
 kept k tag body [] gs h l = none k tag body gs h l
-kept k tag body (f ∷ fs) gs h l = ap (λ (x : Body). cond (eqb tag f.tag) (decoded_by f body) x) (kept k tag body fs gs h l)
+kept k tag body (f ∷ fs) gs h l = ap (λ (x : Option Call). cond (eqb tag f.tag) (decoded_by f body) x) (kept k tag body fs gs h l)
 
 -- a tag is looked for in its chip's part of the table
-module _ (tag : ℕ) (body : List ℕ) (r : Body) where
+module _ (tag : ℕ) (body : List ℕ) (r : Option Call) where
   pub decoded_io : tag < 0x10 → r ≡ decoded_in io_formats tag body → r ≡ decoded tag body
   unfolding decoded
   decoded_io h e = e ∙ sym (kept 0x10 tag body io_formats (pic_formats ++ (apic_formats ++ board_formats)) refl h)

@@ -1,5 +1,5 @@
 -- The format of a script's fields (document 01, "Scripts"; 06, 16 and 30 to 35, document 02), as one table: for each tag the sizes of the numbers in its body, and the call that they make.
-use Rattle.std.specs.Prelude.{ℕ, zero, suc, ◌+◌, ◌*◌, ◌/◌, ◌%◌, Bool, true, not, cond, ◌&&◌, ◌||◌, List, [], ◌∷◌, ◌++◌, eqb, length, get_or}
+use Rattle.std.specs.Prelude.{ℕ, zero, suc, ◌+◌, ◌*◌, ◌/◌, ◌%◌, Bool, true, not, cond, ◌&&◌, ◌||◌, List, [], ◌∷◌, ◌++◌, eqb, length, get_or, Option, Some, None}
 use Rattle.vioapic.specs.IoApic.{is_version, version_of}
 use Rattle.vpic.specs.Pair.{is_rule, rule_in}
 use Rattle.script_format.specs.declared.IoCall.TheVariants as io
@@ -8,8 +8,6 @@ use Rattle.script_format.specs.declared.ApicCall.TheVariants as apic
 use Rattle.script_format.specs.declared.BoardCall.TheVariants as board
 use Rattle.script_format.specs.declared.Call.{Call}
 use Rattle.script_format.specs.declared.Call.TheVariants.{Io, IoVersion, Pic, PicRule, Apic, Board}
-use Rattle.script_format.specs.declared.Body.{Body}
-use Rattle.script_format.specs.declared.Body.TheVariants.{Says, Malformed}
 
 -- ---- numbers
 
@@ -112,17 +110,17 @@ formats = io_formats ++ (pic_formats ++ (apic_formats ++ board_formats))
 -- ---- a body
 
 -- the call, if the body has its size and its first number may stand there
-abbrev pub checked : List ℕ → ℕ → Bool → Call → Body
-checked body size mayStart call = cond (eqb (length body) size && mayStart) (Says call) Malformed
+abbrev pub checked : List ℕ → ℕ → Bool → Call → Option Call
+checked body size mayStart call = cond (eqb (length body) size && mayStart) (Some call) None
 
-abbrev pub decoded_by : Format → List ℕ → Body
+abbrev pub decoded_by : Format → List ℕ → Option Call
 decoded_by f body =
     checked body (total f.sizes) (f.start (number_at body 0 1)) (f.call (λ i. get_or (numbers_at f.sizes body 0) i 0))
 
 -- the first row with the tag decides; a tag that no row has is unknown
-abbrev pub decoded_in : List Format → ℕ → List ℕ → Body
-decoded_in [] tag body = Malformed
+abbrev pub decoded_in : List Format → ℕ → List ℕ → Option Call
+decoded_in [] tag body = None
 decoded_in (f ∷ fs) tag body = cond (eqb tag f.tag) (decoded_by f body) (decoded_in fs tag body)
 
-unfoldable pub decoded : ℕ → List ℕ → Body
+unfoldable pub decoded : ℕ → List ℕ → Option Call
 decoded tag body = decoded_in formats tag body

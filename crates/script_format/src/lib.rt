@@ -73,7 +73,7 @@ pub enum Call {
 }
 
 // The three chips, and the board, which has chips of its own.
-#[derive(Clone, Copy)]
+#[derive(Clone, Copy, Debug, PartialEq, Eq, Hash)]
 pub enum Chip {
     IoApic,
     Pic,
@@ -87,10 +87,8 @@ impl Call {
         ensures { result ≡ chip_of self }
     {
         match self {
-            Call::Io(_) => Chip::IoApic,
-            Call::IoVersion(_) => Chip::IoApic,
-            Call::Pic(_) => Chip::Pic,
-            Call::PicRule(_) => Chip::Pic,
+            Call::Io(_) | Call::IoVersion(_) => Chip::IoApic,
+            Call::Pic(_) | Call::PicRule(_) => Chip::Pic,
             Call::Apic(_) => Chip::LocalApic,
             Call::Board(_) => Chip::Board,
         }
@@ -100,68 +98,64 @@ impl Call {
     pub fn is_choice(self) -> bool
         ensures { result ≡ is_choice self }
     {
-        match self {
-            Call::Io(_) => false,
-            Call::IoVersion(_) => true,
-            Call::Pic(_) => false,
-            Call::PicRule(_) => true,
-            Call::Apic(_) => false,
-            Call::Board(_) => false,
-        }
+        matches!(self, Call::IoVersion(_) | Call::PicRule(_))
     }
 }
 
-// What a body says.
-#[derive(Clone, Copy)]
-pub enum Body {
-    Says(Call),
-    Malformed,
-}
-
 // A place in a script.
-#[derive(Clone, Copy)]
+#[derive(Clone, Copy, Debug, PartialEq, Eq, PartialOrd, Ord, Hash)]
 pub struct Cursor {
     pub at: usize,
 }
 
-// What stands at a place of a script.
-#[derive(Clone, Copy)]
-pub enum Field {
-    Good { tag: u8, call: Call, next: Cursor },
-    Bad,
-    End,
+// A field that stands in a script, whose body says a call, and where the next one starts.
+#[derive(Clone, Copy, Debug, PartialEq, Eq, Hash)]
+pub struct Field<C> {
+    pub tag: u8,
+    pub call: C,
+    pub next: Cursor,
 }
+
+// What stands at a place is no field: it is cut off, or its tag or its body is unknown.
+#[derive(Clone, Copy, Debug, PartialEq, Eq, Hash)]
+pub struct BadField;
 
 // ---- numbers in a body, the low byte first; past its end there are only zeros
 
-fn byte(body: &[u8], k: usize) -> u8
+// A byte of a body.
+#[tactic(auto, unfolding(crate::specs::Format::number_at))]
+pub fn byte(body: &[u8], k: usize) -> u8
     ensures { result ≡ number_at body.now k 1 }
 {
-    if k < body.len() {
-        return body[k];
+    match body.get(k) {
+        Some(byte) => *byte,
+        None => 0,
     }
-    0
 }
 
+#[tactic(auto, unfolding(crate::specs::Format::number_at))]
 fn two_bytes(body: &[u8], k: usize) -> u16
     requires { k + 1 < 2 ^ 64 }
     ensures { result ≡ number_at body.now k 2 }
 {
-    (byte(body, k) as u16) + 256 * (byte(body, k + 1) as u16)
+    u16::from_le_bytes([byte(body, k), byte(body, k + 1)])
 }
 
-fn four_bytes(body: &[u8], k: usize) -> u32
-    requires { k + 3 < 2 ^ 64 }
-    ensures { result ≡ number_at body.now k 4 }
-{
-    (two_bytes(body, k) as u32) + 0x1_0000 * (two_bytes(body, k + 2) as u32)
-}
-
+#[tactic(auto, unfolding(crate::specs::Format::number_at))]
 fn eight_bytes(body: &[u8], k: usize) -> u64
     requires { k + 7 < 2 ^ 64 }
     ensures { result ≡ number_at body.now k 8 }
 {
-    (four_bytes(body, k) as u64) + 0x1_0000_0000 * (four_bytes(body, k + 4) as u64)
+    u64::from_le_bytes([
+        byte(body, k),
+        byte(body, k + 1),
+        byte(body, k + 2),
+        byte(body, k + 3),
+        byte(body, k + 4),
+        byte(body, k + 5),
+        byte(body, k + 6),
+        byte(body, k + 7),
+    ])
 }
 
 // ---- a body by its tag
@@ -169,33 +163,22 @@ fn eight_bytes(body: &[u8], k: usize) -> u64
 fn is_width(code: u8) -> bool
     ensures { result ≡ is_width code }
 {
-    if code == 1 {
-        return true;
-    }
-    if code == 2 {
-        return true;
-    }
-    if code == 4 {
-        return true;
-    }
-    code == 8
+    matches!(code, 1 | 2 | 4 | 8)
 }
 
 // The call, if the body has its size and its first number is one that may stand there.
-fn checked(body: &[u8], size: usize, may_start: bool, call: Call) -> Body
+fn checked(body: &[u8], size: usize, may_start: bool, call: Call) -> Option<Call>
     ensures { result ≡ checked body.now size may_start call }
 {
-    if body.len() != size {
-        return Body::Malformed;
+    if body.len() == size && may_start {
+        Some(call)
+    } else {
+        None
     }
-    if may_start {
-        return Body::Says(call);
-    }
-    Body::Malformed
 }
 
 // A body of the I/O APIC's fields by its tag: its size, whether its first number may stand there, and its call.
-fn decode_io(tag: u8, body: &[u8]) -> Body
+fn decode_io(tag: u8, body: &[u8]) -> Option<Call>
     ensures { result ≡ decoded_in io_formats tag body.now }
 {
     match tag {
@@ -217,11 +200,11 @@ fn decode_io(tag: u8, body: &[u8]) -> Body
             checked(body, 17, is_width(width), Call::Io(call))
         }
         0x03 => {
-            let call = IoCall::SetGsiLevel(Gsi(byte(body, 0) as usize), byte(body, 1) != 0);
+            let call = IoCall::SetGsiLevel(Gsi(usize::from(byte(body, 0))), byte(body, 1) != 0);
             checked(body, 2, true, Call::Io(call))
         }
         0x04 => {
-            let call = IoCall::AssertGsi(Gsi(byte(body, 0) as usize));
+            let call = IoCall::AssertGsi(Gsi(usize::from(byte(body, 0))));
             checked(body, 1, true, Call::Io(call))
         }
         0x05 => {
@@ -229,16 +212,16 @@ fn decode_io(tag: u8, body: &[u8]) -> Body
             checked(body, 1, true, Call::Io(call))
         }
         0x06 => {
-            let number = byte(body, 0) as u64;
+            let number = u64::from(byte(body, 0));
             let call = Call::IoVersion(IoApicVersion::of(number));
             checked(body, 1, is_version(number), call)
         }
-        _ => Body::Malformed,
+        _ => None,
     }
 }
 
 // Of the pair's.
-fn decode_pic(tag: u8, body: &[u8]) -> Body
+fn decode_pic(tag: u8, body: &[u8]) -> Option<Call>
     ensures { result ≡ decoded_in pic_formats tag body.now }
 {
     match tag {
@@ -278,16 +261,16 @@ fn decode_pic(tag: u8, body: &[u8]) -> Body
             checked(body, 3, true, Call::Pic(call))
         }
         0x16 => {
-            let number = byte(body, 0) as u64;
+            let number = u64::from(byte(body, 0));
             let call = Call::PicRule(PicRule::from_number(number));
             checked(body, 1, PicRule::is_number(number), call)
         }
-        _ => Body::Malformed,
+        _ => None,
     }
 }
 
 // Of the local APIC's.
-fn decode_apic(tag: u8, body: &[u8]) -> Body
+fn decode_apic(tag: u8, body: &[u8]) -> Option<Call>
     ensures { result ≡ decoded_in apic_formats tag body.now }
 {
     match tag {
@@ -298,7 +281,7 @@ fn decode_apic(tag: u8, body: &[u8]) -> Body
         0x21 => {
             let width = byte(body, 0);
             let call = ApicCall::HandleWrite {
-                offset: two_bytes(body, 1) as u64,
+                offset: u64::from(two_bytes(body, 1)),
                 width,
                 value: eight_bytes(body, 3),
             };
@@ -309,29 +292,29 @@ fn decode_apic(tag: u8, body: &[u8]) -> Body
             checked(body, 0, true, Call::Apic(call))
         }
         0x23 => {
-            let call = ApicCall::HandleRead(two_bytes(body, 0) as u64);
+            let call = ApicCall::HandleRead(u64::from(two_bytes(body, 0)));
             checked(body, 2, true, Call::Apic(call))
         }
         0x24 => {
             let call = ApicCall::Setup {
                 x2apic: byte(body, 0) != 0,
-                vcpu_id: VcpuId(byte(body, 1) as usize),
-                vcpu_num: byte(body, 2) as usize,
+                vcpu_id: VcpuId(usize::from(byte(body, 1))),
+                vcpu_num: usize::from(byte(body, 2)),
                 active_vcpus: eight_bytes(body, 3),
             };
             checked(body, 11, true, Call::Apic(call))
         }
-        _ => Body::Malformed,
+        _ => None,
     }
 }
 
 // Of the board's.
-fn decode_board(tag: u8, body: &[u8]) -> Body
+fn decode_board(tag: u8, body: &[u8]) -> Option<Call>
     ensures { result ≡ decoded_in board_formats tag body.now }
 {
     match tag {
         0x30 => {
-            let call = BoardCall::SetGsiLevel(Gsi(byte(body, 0) as usize), byte(body, 1) != 0);
+            let call = BoardCall::SetGsiLevel(Gsi(usize::from(byte(body, 0))), byte(body, 1) != 0);
             checked(body, 2, true, Call::Board(call))
         }
         0x31 => {
@@ -359,12 +342,12 @@ fn decode_board(tag: u8, body: &[u8]) -> Body
             let call = BoardCall::Receive(Vector(byte(body, 0)), byte(body, 1) != 0);
             checked(body, 2, true, Call::Board(call))
         }
-        _ => Body::Malformed,
+        _ => None,
     }
 }
 
 // A body by its tag.
-pub fn decode(tag: u8, body: &[u8]) -> Body
+pub fn decode(tag: u8, body: &[u8]) -> Option<Call>
     ensures { result ≡ decoded tag body.now }
 {
     if tag < 0x10 {
@@ -381,36 +364,36 @@ pub fn decode(tag: u8, body: &[u8]) -> Body
 
 // ---- a field
 
-fn field_of(tag: u8, body: Body, next: usize) -> Field
+// A field with this tag, if its body says a call; it ends where the next one starts.
+pub fn field_of<C: Copy>(
+    tag: u8,
+    body: Option<C>,
+    next: usize,
+) -> Result<Option<Field<C>>, BadField>
     ensures { result ≡ field_of tag body next }
 {
-    match body {
-        Body::Says(call) => Field::Good {
-            tag,
-            call,
-            next: Cursor { at: next },
-        },
-        Body::Malformed => Field::Bad,
-    }
+    let call = body.ok_or(BadField)?;
+    let next = Cursor { at: next };
+    Ok(Some(Field { tag, call, next }))
 }
 
 impl Cursor {
-    // What stands at this place of the script.
-    pub fn read(self, script: &[u8]) -> Field
+    // What stands at this place of the script: a field, or nothing at the script's end.
+    pub fn read(self, script: &[u8]) -> Result<Option<Field<Call>>, BadField>
         ensures { result ≡ field_at script.now self.at }
     {
         let at = self.at;
         if script.len() <= at {
-            return Field::End;
+            return Ok(None);
         }
         if script.len() - at < 3 {
-            return Field::Bad;
+            return Err(BadField);
         }
         let tag = script[at];
-        let size = two_bytes(script, at + 1) as usize;
+        let size = usize::from(two_bytes(script, at + 1));
         let start = at + 3;
         if script.len() - start < size {
-            return Field::Bad;
+            return Err(BadField);
         }
         let next = start + size;
         field_of(tag, decode(tag, &script[start..next]), next)
