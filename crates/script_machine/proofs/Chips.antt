@@ -30,7 +30,7 @@ use Rattle.script_format.specs.Chips.{chip_of}
 use Rattle.script_machine.specs.declared.Used.{Used}
 use Rattle.script_machine.specs.declared.Vm.{Vm}
 use Rattle.script_machine.specs.Late.{now_used, used_after}
-use Rattle.script_machine.specs.Machine.{Machine, Local, machine_in, local_in, io_call, board_call, chosen, pic_outcome, local_outcome, remembering, unused, new_machine, performed}
+use Rattle.script_machine.specs.Machine.{Local, machine_in, local_in, io_call, board_call, pic_outcome, local_outcome, remembering, unused, new_machine, performed}
 
 pub remembers_call : (vm : Vm) (call : Call) (chip : Chip) (u : Used) → chip ≡ chip_of call → u ≡ now_used vm.used chip
     → ◌≡◌ {A = Vm} (record { vcpu_num = vm.vcpu_num; active_vcpus = vm.active_vcpus; used = u }) (remembering vm call)

@@ -1,6 +1,5 @@
 pub mod Board
 pub mod Chips
-pub mod Late
 pub mod Local
 pub mod Outcomes
 pub mod Places

@@ -15,7 +15,7 @@ use Rattle.vlapic_words.specs.Calls.{Leaves}
 use Rattle.script_format.specs.declared.ApicCall.TheVariants.{Setup}
 use Rattle.script_machine.specs.declared.Used.{Used}
 use Rattle.script_machine.specs.declared.Vm.{Vm}
-use Rattle.script_machine.specs.Machine.{Local, local_in, in_vm, local_outcome}
+use Rattle.script_machine.specs.Machine.{local_in, in_vm, local_outcome}
 
 module _ (l kept m : List ℕ) (vm : Vm) (r q : Reply) (o : Outcome VirtualApicRegs) (e : r ≡ q) (h : Leaves l kept m q o) where
   -- a call that leaves the VM as it is

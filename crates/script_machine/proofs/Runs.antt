@@ -1,20 +1,21 @@
 -- Laws of a run: what one more field does. Assumes nothing.
 use mathlib.Core.Path.{◌≡◌, refl}
 use mathlib.Core.List.{List}
-use Prim.Native.Nat.{ℕ, zero, suc, ◌+◌}
+use Prim.Native.Nat.{ℕ, suc, ◌+◌}
 use native.Mathlib.Numerals.{add-one}
 use native.Mathlib.Omega.{arith}
 use Rattle.script_format.specs.declared.Call.{Call}
 use Rattle.script_format.specs.declared.Cursor.{Cursor}
+use Rattle.std.specs.Prelude.{Option, Some, None, Result, Ok, Err}
 use Rattle.script_format.specs.declared.Field.{Field}
-use Rattle.script_format.specs.declared.Field.TheVariants.{Good, Bad, End}
+use Rattle.script_format.specs.declared.BadField.{BadField}
+use Rattle.script_format.specs.Fields.{Good, Bad, End}
 use Rattle.script_machine.specs.declared.Stop.{Stop}
 use Rattle.script_machine.specs.declared.Stop.TheVariants as stop
 use Rattle.types.specs.declared.Reply.{Reply}
-use Rattle.script_machine.specs.declared.Said.TheVariants.{Did, Stopped}
 use Rattle.script_machine.specs.Late.{used_after, field_for}
 use Rattle.script_machine.specs.Machine.{Machine, performed}
-use Rattle.script_machine.specs.Run.{Step, step_by, step_of, Run, field_count, place_after, stop_after, calls_from, after_calls, run_of}
+use Rattle.script_machine.specs.Run.{Step, did, stopped, step_by, step_of, Run, field_count, place_after, stop_after, calls_from, after_calls, run_of}
 
 -- the machine remembers which chips were used
 pub remembers : (m : Machine) (c : Call) → (performed m c).state.used ≡ used_after m.used c
@@ -55,20 +56,20 @@ module _ (s : List ℕ) (m : Machine) (at k : ℕ) where
     run_end f = let z : k + 0 ≡ k = omega arith in rw (e, add-one l, f, z)
 
     -- the same by steps
-    pub run_did : (x : Step) (tag : ℕ) (r : Reply) → x ≡ step_of s m at → x.said ≡ Did tag r → further k (run_of s m at n) ≡ further (k + 1) (run_of s x.machine x.next.at l)
+    pub run_did : (x : Step) (tag : ℕ) (r : Reply) → x ≡ step_of s m at → x.said ≡ did tag r → further k (run_of s m at n) ≡ further (k + 1) (run_of s x.machine x.next.at l)
     unfolding step_of
     run_did x tag r g h = rw g (go (field_for s m.used at) refl (rw g at h))
       where
-        go : (f : Field) → field_for s m.used at ≡ f → (step_by m at f).said ≡ Did tag r → further k (run_of s m at n) ≡ further (k + 1) (run_of s (step_by m at f).machine (step_by m at f).next.at l)
-        go (Good t c next) f p = run_good t c next _ f refl
-        go Bad f p = let z : ◌≡◌ {A = ℕ} 0 1 = cc in absurd (omega arith)
-        go End f p = let z : ◌≡◌ {A = ℕ} 0 1 = cc in absurd (omega arith)
+        go : (f : Result (Option (Field Call)) BadField) → field_for s m.used at ≡ f → (step_by m at f).said ≡ did tag r → further k (run_of s m at n) ≡ further (k + 1) (run_of s (step_by m at f).machine (step_by m at f).next.at l)
+        go (Ok (Some x)) f p = run_good x.tag x.call x.next _ f refl
+        go (Err b) f p = let z : ◌≡◌ {A = ℕ} 0 1 = cc in absurd (omega arith)
+        go (Ok None) f p = let z : ◌≡◌ {A = ℕ} 0 1 = cc in absurd (omega arith)
 
-    pub run_stopped : (x : Step) (why : Stop) → x ≡ step_of s m at → x.said ≡ Stopped why → further k (run_of s m at n) ≡ idle x.machine k x.next.at why
+    pub run_stopped : (x : Step) (why : Stop) → x ≡ step_of s m at → x.said ≡ stopped why → further k (run_of s m at n) ≡ idle x.machine k x.next.at why
     unfolding step_of
     run_stopped x why g h = rw g (go (field_for s m.used at) refl (rw g at h))
       where
-        go : (f : Field) → field_for s m.used at ≡ f → (step_by m at f).said ≡ Stopped why → further k (run_of s m at n) ≡ idle (step_by m at f).machine k (step_by m at f).next.at why
-        go (Good t c next) f p = let z : ◌≡◌ {A = ℕ} 0 1 = cc in absurd (omega arith)
-        go Bad f p = let z : why ≡ stop.BadField = cc in rw z (run_bad f)
-        go End f p = let z : why ≡ stop.End = cc in rw z (run_end f)
+        go : (f : Result (Option (Field Call)) BadField) → field_for s m.used at ≡ f → (step_by m at f).said ≡ stopped why → further k (run_of s m at n) ≡ idle (step_by m at f).machine k (step_by m at f).next.at why
+        go (Ok (Some x)) f p = let z : ◌≡◌ {A = ℕ} 0 1 = cc in absurd (omega arith)
+        go (Err b) f p = let z : why ≡ stop.BadField = cc in rw z (run_bad f)
+        go (Ok None) f p = let z : why ≡ stop.End = cc in rw z (run_end f)

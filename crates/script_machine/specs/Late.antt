@@ -1,13 +1,13 @@
 -- A field that comes too late (document 02, T-01 and T-02): what a chip is, the I/O APIC's version or the pair's rule, is chosen before any other field of that chip is
 -- performed, refused or not. So whether a field is bad depends on those before it, by a flag for each of the two: was the chip used?
-use Rattle.std.specs.Prelude.{ℕ, Bool, true, false, cond, ◌&&◌, List}
+use Rattle.std.specs.Prelude.{ℕ, Bool, true, false, cond, ◌&&◌, List, Option, Some, None, Result, Ok, Err}
 use Rattle.script_format.specs.declared.Chip.{Chip}
 use Rattle.script_format.specs.declared.Chip.TheVariants.{IoApic, Pic, LocalApic, Board}
 use Rattle.script_format.specs.declared.Call.{Call}
 use Rattle.script_format.specs.declared.Field.{Field}
-use Rattle.script_format.specs.declared.Field.TheVariants.{Good, Bad, End}
+use Rattle.script_format.specs.declared.BadField.{BadField}
 use Rattle.script_format.specs.Chips.{chip_of, is_choice}
-use Rattle.script_format.specs.Fields.{field_at}
+use Rattle.script_format.specs.Fields.{Bad, End, field_at}
 use Rattle.script_machine.specs.declared.Used.{Used}
 
 -- of the local APIC and of the board nothing is chosen, and nothing remembered
@@ -31,11 +31,11 @@ abbrev pub is_late : Used → Call → Bool
 is_late used c = is_choice c && was_used used (chip_of c)
 
 -- a field that is late is bad
-abbrev pub taken : Used → Field → Field
-taken used (Good tag call next) = cond (is_late used call) Bad (Good tag call next)
-taken used Bad = Bad
-taken used End = End
+abbrev pub taken : Used → Result (Option (Field Call)) BadField → Result (Option (Field Call)) BadField
+taken used (Ok (Some f)) = cond (is_late used f.call) Bad (Ok (Some f))
+taken used (Ok None) = End
+taken used (Err b) = Bad
 
 -- what stands at a place
-unfoldable pub field_for : List ℕ → Used → ℕ → Field
+unfoldable pub field_for : List ℕ → Used → ℕ → Result (Option (Field Call)) BadField
 field_for s used at = taken used (field_at s at)

@@ -1,9 +1,7 @@
 -- The machine of the three controllers, with a board apart from them (document 02, T-07), and one call on it (document 01, "Scripts"): each call is one of a chip's public
 -- calls, and changes that chip alone.
-use Rattle.std.specs.Prelude.{ℕ, Bool, true, false, cond, ◌||◌, List, eqb}
+use Rattle.std.specs.Prelude.{ℕ, false, cond, List, eqb}
 use Rattle.types.specs.Reply.{Outcome, outcome_of, reply_number}
-use Rattle.types.specs.declared.VcpuId.{VcpuId}
-use Rattle.types.specs.declared.Reply.{Reply}
 use Rattle.types.specs.declared.Reply.TheVariants.{Nothing}
 use Rattle.vioapic.specs.State.{IoApicState}
 use Rattle.vioapic.specs.State as io-words

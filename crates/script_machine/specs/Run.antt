@@ -1,9 +1,9 @@
 -- A run of a script (document 01, "Scripts"): of the fields from a place on as many as are allowed, up to the first bad one or the end. Which fields that are, how
 -- many, where the next one starts and why the run ends is read off the bytes, and which chips were used before them; the machine is the one after their calls.
-use Rattle.std.specs.Prelude.{ℕ, zero, suc, ◌+◌, List, [], ◌∷◌}
+use Rattle.std.specs.Prelude.{ℕ, zero, suc, List, [], ◌∷◌, Option, Some, None, Result, Ok, Err}
 use Rattle.script_format.specs.declared.Call.{Call}
 use Rattle.script_format.specs.declared.Field.{Field}
-use Rattle.script_format.specs.declared.Field.TheVariants.{Good, Bad, End}
+use Rattle.script_format.specs.declared.BadField.{BadField}
 use Rattle.script_format.specs.declared.Cursor.{Cursor}
 use Rattle.types.specs.Reply.{Outcome, outcome_of}
 use Rattle.types.specs.declared.Refusal.TheVariants as refusal
@@ -12,15 +12,23 @@ use Rattle.types.specs.declared.Reply.TheVariants.{Refused, Nothing}
 use Rattle.script_machine.specs.declared.Used.{Used}
 use Rattle.script_machine.specs.declared.Stop.{Stop}
 use Rattle.script_machine.specs.declared.Stop.TheVariants as stop
-use Rattle.script_machine.specs.declared.Said.{Said}
-use Rattle.script_machine.specs.declared.Said.TheVariants.{Did, Stopped}
-use Rattle.script_machine.specs.declared.Stepped.{Stepped}
+use Rattle.script_machine.specs.declared.Did.{Did}
+use Rattle.script_machine.specs.declared.Machine as declared
 use Rattle.script_machine.specs.Late.{used_after, field_for}
 use Rattle.script_machine.specs.declared.Ended.{Ended}
-use Rattle.script_machine.specs.declared.MachineRun.{MachineRun}
-use Rattle.script_machine.specs.Machine.{Machine, machine_in, machine_of, performed}
+use Rattle.script_machine.specs.Machine.{Machine, machine_of, performed}
 
 -- ---- one field
+
+-- what a step says: a field was performed, with its tag and what its call said back, or none was, and why
+abbrev pub Said : Type 0
+Said = Result Did Stop
+
+abbrev pub did : ℕ → Reply → Said
+did tag reply = Ok (record { tag = tag; reply = reply })
+
+abbrev pub stopped : Stop → Said
+stopped why = Err why
 
 -- a step: the machine after it, where the next field starts, and what it says
 pub record Step : Type 0 where
@@ -29,25 +37,25 @@ pub record Step : Type 0 where
   pub said : Said
 
 -- a good field is performed; at a bad one and at the end nothing is, and the place stays
-abbrev pub step_by : Machine → ℕ → Field → Step
-step_by m at (Good tag call next) = record { machine = (performed m call).state; next = next; said = Did tag (performed m call).reply }
-step_by m at Bad = record { machine = m; next = record { at = at }; said = Stopped stop.BadField }
-step_by m at End = record { machine = m; next = record { at = at }; said = Stopped stop.End }
+abbrev pub step_by : Machine → ℕ → Result (Option (Field Call)) BadField → Step
+step_by m at (Ok (Some f)) = record { machine = (performed m f.call).state; next = f.next; said = did f.tag (performed m f.call).reply }
+step_by m at (Err b) = record { machine = m; next = record { at = at }; said = stopped stop.BadField }
+step_by m at (Ok None) = record { machine = m; next = record { at = at }; said = stopped stop.End }
 
 unfoldable pub step_of : List ℕ → Machine → ℕ → Step
 step_of s m at = step_by m at (field_for s m.used at)
 
--- the step that words after it and its end stand for
-abbrev pub step_in : List ℕ → List ℕ → List ℕ → List ℕ → List ℕ → Stepped → Step
-step_in io pair apic bio bl r = record { machine = machine_in io pair apic bio bl r.vm; next = r.next; said = r.said }
+-- the step that a machine after it and its answer stand for
+abbrev pub step_in : declared.Machine → Cursor × Said → Step
+step_in m r = record { machine = machine_of m; next = r.0; said = r.1 }
 
 -- ---- a run
 
 -- what a good field gives, by its call and the place after it; what a bad field gives; what the end gives
-abbrev pub by_field : {A : Type 0} → Field → (Call → ℕ → A) → A → A → A
-by_field (Good tag call next) good bad end = good call next.at
-by_field Bad good bad end = bad
-by_field End good bad end = end
+abbrev pub by_field : {A : Type 0} → Result (Option (Field Call)) BadField → (Call → ℕ → A) → A → A → A
+by_field (Ok (Some f)) good bad end = good f.call f.next.at
+by_field (Err b) good bad end = bad
+by_field (Ok None) good bad end = end
 
 -- how many fields a run performs from a place on if n are allowed: a field that is performed counts, be its call refused or not, and a bad one doesn't
 unfoldable pub field_count : List ℕ → Used → ℕ → ℕ → ℕ
@@ -106,9 +114,6 @@ ended r = outcome_of r (stop_reply r.stop)
 abbrev pub run_outcome : List ℕ → Machine → ℕ → ℕ → Outcome Run
 run_outcome s m at n = ended (run_of s m at n)
 
--- the run that words after it and its end stand for
-abbrev pub run_in : List ℕ → List ℕ → List ℕ → List ℕ → List ℕ → Ended → Run
-run_in io pair apic bio bl e = record { machine = machine_in io pair apic bio bl e.vm; done = e.done; next = e.next; stop = e.stop }
-
-abbrev pub machine_run : MachineRun → Run
-machine_run r = record { machine = machine_of r.machine; done = r.done; next = r.next; stop = r.stop }
+-- the run that a machine after it and its answer stand for
+abbrev pub run_in : declared.Machine → Ended → Run
+run_in m e = record { machine = machine_of m; done = e.done; next = e.next; stop = e.stop }
