@@ -13,10 +13,9 @@ use Rattle.io.proofs.Counting.{prefix_len_of_le}
 use Rattle.types.specs.declared.Reply.{Reply}
 use Rattle.reply_text.specs.Text.{Puts, in_room, line, too_long_line}
 use Rattle.reply_text.proofs.Puts.{then_put, put_as}
-use Rattle.script_machine.specs.declared.Said.TheVariants.{Did, Stopped}
 use Rattle.script_machine.specs.declared.Stop.{Stop}
 use Rattle.script_machine.specs.Machine.{Machine, new_machine}
-use Rattle.script_machine.specs.Run.{Step, step_of, Run, run_of}
+use Rattle.script_machine.specs.Run.{Step, did, stopped, step_of, Run, run_of}
 use Rattle.script_machine.proofs.Runs.{further, further_none, run_did, run_stopped}
 use Rattle.script_machine.proofs.Places.{did_lies}
 use Rattle.script_print.specs.Printed.{stop_text, lines_from, printed_from, printed, machine_after}
@@ -63,7 +62,7 @@ module _ (s before : List ℕ) (m₀ m : Machine) (at end : ℕ) (out : List ℕ
   room : end + 80 ≤ length out
   room = omega (arith, f.spared, f.within, f.size)
 
-  pub printing_did : (x : Step) (tag : ℕ) (r : Reply) (out' : List ℕ) (end' : ℕ) → x ≡ step_of s m at → x.said ≡ Did tag r
+  pub printing_did : (x : Step) (tag : ℕ) (r : Reply) (out' : List ℕ) (end' : ℕ) → x ≡ step_of s m at → x.said ≡ did tag r
       → Puts out end (in_room (length out) end (line tag r)) out' end' → end' ≤ end + 80 → Printing s before m₀ x.machine x.next.at end' out'
   printing_did x tag r out' end' g h p b =
       let l = did_lies s m at x tag r g h in
@@ -79,13 +78,13 @@ module _ (s before : List ℕ) (m₀ m : Machine) (at end : ℕ) (out : List ℕ
         within = l.1;
       }
 
-  pub printed_stopped : (x : Step) (why : Stop) (out' : List ℕ) (end' : ℕ) → x ≡ step_of s m at → x.said ≡ Stopped why
+  pub printed_stopped : (x : Step) (why : Stop) (out' : List ℕ) (end' : ℕ) → x ≡ step_of s m at → x.said ≡ stopped why
       → Puts out end (in_room (length out) end (stop_text why x.next.at)) out' end' → Puts before 0 (lines_from s m₀ 0) out' end'
   printed_stopped x why out' end' g h p =
       put_as (sym (f.whole ∙ rw (lines_stopped s m at x why g h)))
       (then_put f.put (put_all out end (stop_text why x.next.at) out' end' room p))
 
-  pub ran_stopped : (x : Step) (why : Stop) → x ≡ step_of s m at → x.said ≡ Stopped why → x.machine ≡ (run_of s m₀ 0 (suc (length s))).machine
+  pub ran_stopped : (x : Step) (why : Stop) → x ≡ step_of s m at → x.said ≡ stopped why → x.machine ≡ (run_of s m₀ 0 (suc (length s))).machine
   ran_stopped x why g h =
       ap (λ (r : Run). r.machine)
       (sym (f.ran ∙ run_stopped s m at f.done (suc (length s) - f.done) (suc (length s) - (f.done + 1)) (omega (arith, f.counted, f.within)) x why g h))

@@ -1,12 +1,10 @@
 -- What the program prints (document 01, "Scripts"): one definition, from a script's bytes to the output's. A script of more than 65,536 bytes isn't run ("Refusal numbers", 7).
-use Rattle.std.specs.Prelude.{ℕ, zero, suc, ◌-◌, cond, List, [], ◌++◌, ltb, length}
+use Rattle.std.specs.Prelude.{ℕ, zero, suc, ◌-◌, cond, List, [], ◌++◌, ltb, length, Ok, Err}
 use Rattle.reply_text.specs.Text.{line, bad_line, too_long_line}
-use Rattle.script_machine.specs.declared.Said.{Said}
-use Rattle.script_machine.specs.declared.Said.TheVariants.{Did, Stopped}
 use Rattle.script_machine.specs.declared.Stop.{Stop}
 use Rattle.script_machine.specs.declared.Stop.TheVariants as stop
 use Rattle.script_machine.specs.Machine.{Machine, new_machine}
-use Rattle.script_machine.specs.Run.{step_of, run_of}
+use Rattle.script_machine.specs.Run.{Said, step_of, run_of}
 
 abbrev pub limit : ℕ
 limit = 65536
@@ -19,8 +17,8 @@ stop_text stop.End place = []
 
 -- what a step at a place prints, and what is printed after it: a field that was performed has its line, and nothing comes after the end
 abbrev pub said_text : Said → ℕ → List ℕ → List ℕ
-said_text (Did tag reply) place rest = line tag reply ++ rest
-said_text (Stopped why) place rest = stop_text why place
+said_text (Ok did) place rest = line did.tag did.reply ++ rest
+said_text (Err why) place rest = stop_text why place
 
 -- what n steps print, from a place on
 unfoldable pub steps_text : List ℕ → Machine → ℕ → ℕ → List ℕ

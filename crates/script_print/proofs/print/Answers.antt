@@ -3,9 +3,8 @@ use Rattle.script_print.proofs.print.Goals as goal
 
 pub returns : goal.returns
 returns c =
-    let a = c.args in
-    let p = c.print_from-printed.ensures in
+    let p = c.print_from.ensures in
     record {
-      puts = printed_new a.script.now _ _ _ _ c.new-vm.ensures p.puts;
+      puts = printed_new c.args.script.now _ _ _ _ c.new.ensures p.puts;
       prefix_len = p.prefix_len;
     }
