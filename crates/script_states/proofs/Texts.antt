@@ -1,6 +1,6 @@
 -- Lines in a buffer that has room for all of them. Assumes nothing.
-use mathlib.Core.Path.{◌≡◌, refl, ap, ◌∙◌}
-use mathlib.Core.List.{List, ◌++◌}
+use mathlib.Core.Path.{◌≡◌, ap, ◌∙◌}
+use mathlib.Core.List.{List}
 use Prim.Native.Nat.{ℕ, ◌+◌, ◌*◌, ◌≤◌}
 use native.Mathlib.Omega.{arith}
 use lib.ListN.{length}
@@ -11,8 +11,7 @@ use Rattle.io.proofs.Counting.{prefix_len_of_le}
 use Rattle.types.specs.declared.Reply.{Reply}
 use Rattle.reply_text.specs.Text.{Puts, in_room, words_in_room, words_line, line, too_long_line}
 use Rattle.reply_text.proofs.Puts.{then_put}
-use Rattle.script_machine.specs.declared.Said.{Said}
-use Rattle.script_machine.specs.declared.Said.TheVariants.{Did, Stopped}
+use Rattle.script_machine.specs.Run.{Said, did, stopped}
 use Rattle.script_machine.specs.declared.Stop.{Stop}
 use Rattle.script_print.specs.Printed.{stop_text, said_text}
 use Rattle.script_print.proofs.Printing.{put_all}
@@ -48,11 +47,11 @@ module _ {l m₁ m₂ m₃ m₄ m₅ : List ℕ} {at e₁ e₂ e₃ e₄ e₅ : 
   chips_end = omega arith
 
 -- a step that performed a field, and one that didn't
-pub did_put : {l m k : List ℕ} {end last : ℕ} {said : Said} (place : ℕ) (rest : List ℕ) (tag : ℕ) (r : Reply) → 4096 ≤ length l → said ≡ Did tag r
+pub did_put : {l m k : List ℕ} {end last : ℕ} {said : Said} (place : ℕ) (rest : List ℕ) (tag : ℕ) (r : Reply) → 4096 ≤ length l → said ≡ did tag r
     → Puts l 0 (in_room (length l) 0 (line tag r)) m end → Puts m end rest k last → Puts l 0 (said_text said place rest) k last
 did_put {l} {m} {k} {end} place rest tag r room e p q = rw e (then_put (put_all l 0 (line tag r) m end (omega arith) p) q)
 
-pub stopped_put : {l m : List ℕ} {end : ℕ} {said : Said} (place : ℕ) (rest : List ℕ) (why : Stop) → 4096 ≤ length l → said ≡ Stopped why
+pub stopped_put : {l m : List ℕ} {end : ℕ} {said : Said} (place : ℕ) (rest : List ℕ) (why : Stop) → 4096 ≤ length l → said ≡ stopped why
     → Puts l 0 (in_room (length l) 0 (stop_text why place)) m end → Puts l 0 (said_text said place rest) m end
 stopped_put {l} {m} {end} place rest why room e p = rw e (put_all l 0 (stop_text why place) m end (omega arith) p)
 

@@ -2,7 +2,7 @@
 -- include/sillwander.h). At a bad field there is its line alone, and at the end nothing.
 use Rattle.std.specs.Prelude.{ℕ, List, ◌++◌}
 use Rattle.reply_text.specs.Text.{words_line}
-use Rattle.script_machine.specs.declared.Said.{Said}
+use Rattle.script_machine.specs.Run.{Said}
 use Rattle.script_print.specs.Printed.{said_text}
 
 -- the I/O APIC, the pair and the local APIC, then the board's I/O APIC and its local APIC

@@ -5,64 +5,35 @@
 ghost use Rattle.std.specs.Prelude.{◌+◌, ◌≤◌, ◌≡◌, length};
 ghost use Rattle.io.specs.Counts.{IsPrefixLen};
 ghost use Rattle.reply_text.specs.Text.{Puts, too_long_line};
-ghost use Rattle.script_machine.specs.Machine.{machine_in};
+ghost use Rattle.script_machine.specs.Machine.{machine_of};
 ghost use Rattle.script_machine.specs.Run.{step_in, step_of};
 ghost use Rattle.script_states.specs.States.{chips_text, state_text};
 
 use script_format::Cursor;
-use script_machine::{Said, Stepped, Vm};
+use script_machine::{Did, Machine, Stop};
 
 // A field's line, at most 80 bytes, and five lines of 164 words together, of at most 21 bytes each.
 pub const SPACE: usize = 4096;
 
-// A step, and how many bytes its text has.
-#[derive(Clone, Copy)]
-pub struct Shown {
-    pub stepped: Stepped,
-    pub end: usize,
-}
-
-// Performs the field at a place, and puts its line and the words of the chips after it at the buffer's start.
+// Performs the field at a place, and puts its line and the words of the chips after it at the buffer's start: where the next one starts, what is said, and how many bytes are put.
+// Stays: it can't fail, and `puts` names every byte of the lent buffer; `write!` and `format!` may fail.
 pub fn put_step(
-    ioapic: &mut [u64; 32],
-    pic: &mut [u64; 4],
-    apic: &mut [u64; 48],
-    board_ioapic: &mut [u64; 32],
-    board_apic: &mut [u64; 48],
-    vm: Vm,
+    machine: &mut Machine,
     script: &[u8],
     from: Cursor,
     out: &mut [u8; SPACE],
-) -> Shown
-    ensures stepped_after { step_in ioapic.new pic.new apic.new board_ioapic.new board_apic.new result.stepped ≡ step_of script.now (machine_in ioapic.old pic.old apic.old board_ioapic.old board_apic.old vm) from.at }
-    ensures puts { Puts out.old 0 (state_text result.stepped.said from.at ioapic.new pic.new apic.new board_ioapic.new board_apic.new) out.new result.end }
-    ensures prefix_len { IsPrefixLen result.end out.new }
+) -> (Cursor, Result<Did, Stop>, usize)
+    ensures stepped_after { step_in machine.new (result.0, result.1) ≡ step_of script.now (machine_of machine.old) from.at }
+    ensures puts { Puts out.old 0 (state_text result.1 from.at machine.new.ioapic machine.new.pic machine.new.apic machine.new.board_ioapic machine.new.board_apic) out.new result.2 }
+    ensures prefix_len { IsPrefixLen result.2 out.new }
 {
-    let stepped = script_machine::step(
-        &mut *ioapic,
-        &mut *pic,
-        &mut *apic,
-        &mut *board_ioapic,
-        &mut *board_apic,
-        vm,
-        script,
-        from,
-    );
-    let said = stepped.said;
-    let end = put_said(
-        &mut *out,
-        said,
-        from.at,
-        &*ioapic,
-        &*pic,
-        &*apic,
-        &*board_ioapic,
-        &*board_apic,
-    );
-    Shown { stepped, end }
+    let (next, said) = machine.step(script, from);
+    let end = put_said(out, said, from.at, machine);
+    (next, said, end)
 }
 
 // Puts the line of a script that is too long, and isn't run, at the buffer's start.
+// Stays: as `put_step`.
 pub fn put_refusal(out: &mut [u8; SPACE]) -> usize
     ensures puts { Puts out.old 0 too_long_line out.new result }
     ensures prefix_len { IsPrefixLen result out.new }
@@ -70,47 +41,32 @@ pub fn put_refusal(out: &mut [u8; SPACE]) -> usize
     reply_text::put_too_long(out, 0)
 }
 
-// The text of a step at a place, whose chips have these words after it.
-fn put_said(
-    out: &mut [u8],
-    said: Said,
-    place: usize,
-    ioapic: &[u64; 32],
-    pic: &[u64; 4],
-    apic: &[u64; 48],
-    board_ioapic: &[u64; 32],
-    board_apic: &[u64; 48],
-) -> usize
+// The text of a step at a place, which left this machine.
+// Stays: as `put_step`.
+fn put_said(out: &mut [u8], said: Result<Did, Stop>, place: usize, machine: &Machine) -> usize
     requires { 4096 ≤ length out.old }
-    ensures puts { Puts out.old 0 (state_text said place ioapic.now pic.now apic.now board_ioapic.now board_apic.now) out.new result }
+    ensures puts { Puts out.old 0 (state_text said place machine.now.ioapic machine.now.pic machine.now.apic machine.now.board_ioapic machine.now.board_apic) out.new result }
     ensures upper_bound { result ≤ 4096 }
 {
     match said {
-        Said::Did { tag, reply } => {
-            let end = reply_text::put_line(&mut *out, 0, tag, reply);
-            put_chips(&mut *out, end, ioapic, pic, apic, board_ioapic, board_apic)
+        Ok(did) => {
+            let end = reply_text::put_line(out, 0, did.tag, did.reply);
+            put_chips(out, end, machine)
         }
-        Said::Stopped(stop) => script_print::put_stop(&mut *out, 0, stop, place),
+        Err(stop) => script_print::put_stop(out, 0, stop, place),
     }
 }
 
 // The words of the chips, where there is room.
-fn put_chips(
-    out: &mut [u8],
-    at: usize,
-    ioapic: &[u64; 32],
-    pic: &[u64; 4],
-    apic: &[u64; 48],
-    board_ioapic: &[u64; 32],
-    board_apic: &[u64; 48],
-) -> usize
+// Stays: as `put_step`.
+fn put_chips(out: &mut [u8], at: usize, machine: &Machine) -> usize
     requires { at + 3449 ≤ length out.old }
-    ensures puts { Puts out.old at (chips_text ioapic.now pic.now apic.now board_ioapic.now board_apic.now) out.new result }
+    ensures puts { Puts out.old at (chips_text machine.now.ioapic machine.now.pic machine.now.apic machine.now.board_ioapic machine.now.board_apic) out.new result }
     ensures upper_bound { result ≤ at + 3449 }
 {
-    let mut end = reply_text::put_words(&mut *out, at, ioapic);
-    end = reply_text::put_words(&mut *out, end, pic);
-    end = reply_text::put_words(&mut *out, end, apic);
-    end = reply_text::put_words(&mut *out, end, board_ioapic);
-    reply_text::put_words(&mut *out, end, board_apic)
+    let mut end = reply_text::put_words(out, at, &machine.ioapic);
+    end = reply_text::put_words(out, end, &machine.pic);
+    end = reply_text::put_words(out, end, &machine.apic);
+    end = reply_text::put_words(out, end, &machine.board_ioapic);
+    reply_text::put_words(out, end, &machine.board_apic)
 }
