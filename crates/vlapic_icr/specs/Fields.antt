@@ -30,6 +30,13 @@ icr_width x2apic width = cond x2apic (eqb width 8) (not (eqb width 8))
 abbrev pub icr_high : Bool → ℕ → ℕ → ℕ
 icr_high x2apic val hi = cond x2apic (val / 0x100000000) hi
 
+-- the destination in the high word: its top byte in xAPIC mode, the whole word in x2APIC mode; all ones is everybody
+abbrev pub destination_field : Bool → ℕ → ℕ
+destination_field x2apic hi = cond x2apic hi (hi / 0x1000000)
+
+abbrev pub all_ones : Bool → ℕ → Bool
+all_ones x2apic hi = eqb (destination_field x2apic hi) (cond x2apic 0xffffffff 0xff)
+
 abbrev pub is_reserved_mode : ℕ → Bool
 is_reserved_mode lo = eqb (delivery_mode lo) 3 || eqb (delivery_mode lo) 7
 

@@ -1,8 +1,9 @@
 -- Where an interrupt command goes.
 -- Intel SDM volume 3, the APIC chapter: determining IPI destination (physical mode; logical mode with the flat and the cluster model; broadcast; shorthands); LDR and
 -- DFR; error handling (send illegal vector); ICR operation and SELF IPI register in x2APIC mode.
-use Rattle.std.specs.Prelude.{ℕ, ◌/◌, ◌%◌, ◌^◌, Bool, cond, ◌&&◌, eqb, ltb}
+use Rattle.std.specs.Prelude.{ℕ, ◌/◌, ◌%◌, ◌^◌, Bool, cond, ◌&&◌, eqb, ltb, Result, Ok, Err}
 use Rattle.utils.specs.Set.{bit, without, below, first}
+use Rattle.types.specs.declared.Refusal.{Refusal}
 use Rattle.types.specs.declared.Refusal.TheVariants.{InvalidDelivery, OutOfRange}
 use Rattle.types.specs.declared.VcpuId.{VcpuId}
 use Rattle.types.specs.declared.Vector.{Vector}
@@ -10,11 +11,11 @@ use Rattle.types.specs.Counters.{vcpu_mask, vcpu_of}
 use Rattle.vlapic_icr.specs.declared.InterruptCommand.{InterruptCommand}
 use Rattle.vlapic_icr.specs.declared.DestMatch.{DestMatch}
 use Rattle.vlapic_icr.specs.declared.DestMatch.TheVariants.{Matched, Unmatched, ReservedModel}
-use Rattle.vlapic_icr.specs.declared.Dest.{Dest}
-use Rattle.vlapic_icr.specs.declared.Dest.TheVariants.{Mask, NoMask}
 use Rattle.vlapic_icr.specs.declared.IcrAnswer.{IcrAnswer}
-use Rattle.vlapic_icr.specs.declared.IcrAnswer.TheVariants.{Nothing, SendIllegalVector, Ipi, Refused}
+use Rattle.vlapic_icr.specs.declared.IcrAnswer.TheVariants.{Nothing, SendIllegalVector, Ipi}
+use Rattle.vlapic_icr.specs.declared.fields.DeliveryMode.TheVariants.{Fixed}
 use Rattle.vlapic_icr.specs.Fields.{vector_field, delivery_mode, is_logical, shorthand, is_reserved_mode, is_illegal_vector, is_invalid_shorthand, is_unsent}
+use Rattle.vlapic_icr.specs.Kinds.{mode_of}
 
 -- ---- the destination
 
@@ -45,24 +46,24 @@ dest_field_matched s d =
     (cond (eqb (s.dfr / 0x10000000) 0) (matching (in_cluster s.ldr d)) ReservedModel))
 
 -- every active vCPU, or none. D-65: each APIC has to be matched by its own LDR and DFR. D-84: only active vCPUs are reached, here and by broadcast, all and others below
-abbrev pub logical_dest : DestMatch → ℕ → ℕ → Dest
-logical_dest Matched num active = Mask active
-logical_dest Unmatched num active = Mask 0
-logical_dest ReservedModel num active = cond (eqb (below active num) 0) (Mask 0) (NoMask InvalidDelivery)
+abbrev pub logical_dest : DestMatch → ℕ → ℕ → Result ℕ Refusal
+logical_dest Matched num active = Ok active
+logical_dest Unmatched num active = Ok 0
+logical_dest ReservedModel num active = cond (eqb (below active num) 0) (Ok 0) (Err InvalidDelivery)
 
-abbrev pub physical_dest : ℕ → Dest
-physical_dest d = cond (ltb d 64) (Mask (2 ^ d)) (NoMask OutOfRange)  -- D-78: not "sent to nobody"
+abbrev pub physical_dest : ℕ → Result ℕ Refusal
+physical_dest d = cond (ltb d 64) (Ok (2 ^ d)) (Err OutOfRange)  -- D-78: not "sent to nobody"
 
-unfoldable pub dest_no_shorthand : InterruptCommand → ℕ → ℕ → Dest
+unfoldable pub dest_no_shorthand : InterruptCommand → ℕ → ℕ → Result ℕ Refusal
 dest_no_shorthand s num active =
-    cond (is_broadcast s) (Mask active)
+    cond (is_broadcast s) (Ok active)
     (cond (is_logical s.icr_lo) (logical_dest (dest_field_matched s (dest_field s)) num active) (physical_dest (dest_field s)))
 
-unfoldable pub calculate_dest : InterruptCommand → ℕ → ℕ → Dest
+unfoldable pub calculate_dest : InterruptCommand → ℕ → ℕ → Result ℕ Refusal
 calculate_dest s num active =
-    cond (eqb (shorthand s.icr_lo) 1) (Mask (vcpu_mask (vcpu_of s.vapic_id)))
-    (cond (eqb (shorthand s.icr_lo) 2) (Mask active)
-    (cond (eqb (shorthand s.icr_lo) 3) (Mask (without active s.vapic_id))
+    cond (eqb (shorthand s.icr_lo) 1) (Ok (vcpu_mask (vcpu_of s.vapic_id)))
+    (cond (eqb (shorthand s.icr_lo) 2) (Ok active)
+    (cond (eqb (shorthand s.icr_lo) 3) (Ok (without active s.vapic_id))
     (dest_no_shorthand s num active)))
 
 -- ---- the command
@@ -72,21 +73,21 @@ abbrev pub send : ℕ → ℕ → IcrAnswer
 send lo mask =
     cond (eqb mask 0) Nothing
     (cond (is_unsent lo) Nothing  -- D-73: lowest priority and SMI are not sent
-    (Ipi (delivery_mode lo) (record { 0 = vector_field lo }) mask))  -- D-72: level and trigger mode are ignored
+    (Ipi (record { kind = mode_of (delivery_mode lo); vector = record { 0 = vector_field lo }; mask = mask })))  -- D-72: level and trigger mode are ignored
 
 -- the mask is cut to the vCPU count
-abbrev pub deliver : ℕ → ℕ → Dest → IcrAnswer
-deliver lo num (Mask mask) = send lo (below mask num)
-deliver lo num (NoMask why) = Refused why
+abbrev pub deliver : ℕ → ℕ → Result ℕ Refusal → Result IcrAnswer Refusal
+deliver lo num (Ok mask) = Ok (send lo (below mask num))
+deliver lo num (Err why) = Err why
 
 -- in this order: a reserved mode, an illegal vector, a shorthand that doesn't go with the mode, the destination
-unfoldable pub command : InterruptCommand → ℕ → ℕ → IcrAnswer
+unfoldable pub command : InterruptCommand → ℕ → ℕ → Result IcrAnswer Refusal
 command s num active =
-    cond (is_reserved_mode s.icr_lo) (Refused InvalidDelivery)
-    (cond (is_illegal_vector s.icr_lo) SendIllegalVector
-    (cond (is_invalid_shorthand s.icr_lo) Nothing
+    cond (is_reserved_mode s.icr_lo) (Err InvalidDelivery)
+    (cond (is_illegal_vector s.icr_lo) (Ok SendIllegalVector)
+    (cond (is_invalid_shorthand s.icr_lo) (Ok Nothing)
     (deliver s.icr_lo num (calculate_dest s num active))))
 
 -- the self-IPI register: a fixed interrupt to this vCPU alone
 unfoldable pub self_ipi : VcpuId → Vector → IcrAnswer
-self_ipi id vector = cond (ltb vector.0 16) SendIllegalVector (Ipi 0 vector (vcpu_mask id))  -- D-77: not also "receive illegal vector"
+self_ipi id vector = cond (ltb vector.0 16) SendIllegalVector (Ipi (record { kind = Fixed; vector = vector; mask = vcpu_mask id }))  -- D-77: not also "receive illegal vector"

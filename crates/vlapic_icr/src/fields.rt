@@ -6,21 +6,74 @@
 // declares for tock_registers, as functions of the word, the tests that `write_icr` makes of them, and by which width the words are written.
 
 ghost use Rattle.std.specs.Prelude.{◌≡◌};
-ghost use Rattle.vlapic_icr.specs.Fields.{vector_field, delivery_mode, is_logical, shorthand, idle, icr_width, icr_high, is_reserved_mode, is_illegal_vector, includes_self, is_invalid_shorthand, is_unsent};
+ghost use Rattle.vlapic_icr.specs.Fields.{vector_field, delivery_mode, is_logical, shorthand, idle, icr_width, icr_high, destination_field, all_ones, is_reserved_mode, is_illegal_vector, includes_self, is_invalid_shorthand, is_unsent};
+ghost use Rattle.vlapic_icr.specs.Kinds.{mode_number, shorthand_number};
 
 use types::Vector;
 
+const XAPIC_BROADCAST_DEST_ID: u32 = 0xff;
+
+const X2APIC_BROADCAST_DEST_ID: u32 = 0xffffffff;
+
+// What an interrupt command sends: bits 10 to 8 of its low word. Two of the eight are reserved.
+#[derive(Clone, Copy, Debug, PartialEq, Eq, Hash)]
+pub enum DeliveryMode {
+    Fixed,
+    LowestPriority,
+    Smi,
+    Reserved3,
+    Nmi,
+    Init,
+    StartUp,
+    Reserved7,
+}
+
+impl From<DeliveryMode> for u8 {
+    ghost from_gives = { λ mode n. n ≡ mode_number mode };
+
+    fn from(mode: DeliveryMode) -> u8 {
+        match mode {
+            DeliveryMode::Fixed => 0,
+            DeliveryMode::LowestPriority => 1,
+            DeliveryMode::Smi => 2,
+            DeliveryMode::Reserved3 => 3,
+            DeliveryMode::Nmi => 4,
+            DeliveryMode::Init => 5,
+            DeliveryMode::StartUp => 6,
+            DeliveryMode::Reserved7 => 7,
+        }
+    }
+}
+
+// A destination that an interrupt command names by its kind: bits 19 and 18 of its low word.
+#[derive(Clone, Copy, Debug, PartialEq, Eq, Hash)]
+pub enum DestinationShorthand {
+    NoShorthand,
+    OnlySelf,
+    AllIncludingSelf,
+    AllExcludingSelf,
+}
+
+// Stays: no `From` makes a counter (tests/mixups); the field is named.
 pub fn vector(lo: u32) -> Vector
     ensures { result.0 ≡ vector_field lo }
 {
     Vector((lo % 256) as u8)
 }
 
-// 0 fixed, 1 lowest priority, 2 SMI, 4 NMI, 5 INIT, 6 startup; 3 and 7 are reserved.
-pub fn delivery_mode(lo: u32) -> u8
-    ensures { result ≡ delivery_mode lo }
+pub fn delivery_mode(lo: u32) -> DeliveryMode
+    ensures { mode_number result ≡ delivery_mode lo }
 {
-    (lo / 256 % 8) as u8
+    match lo / 256 % 8 {
+        0 => DeliveryMode::Fixed,
+        1 => DeliveryMode::LowestPriority,
+        2 => DeliveryMode::Smi,
+        3 => DeliveryMode::Reserved3,
+        4 => DeliveryMode::Nmi,
+        5 => DeliveryMode::Init,
+        6 => DeliveryMode::StartUp,
+        _ => DeliveryMode::Reserved7,
+    }
 }
 
 pub fn is_logical(lo: u32) -> bool
@@ -29,11 +82,15 @@ pub fn is_logical(lo: u32) -> bool
     lo / 2048 % 2 == 1
 }
 
-// 0 none, 1 self, 2 all including self, 3 all excluding self.
-pub fn shorthand(lo: u32) -> u32
-    ensures { result ≡ shorthand lo }
+pub fn shorthand(lo: u32) -> DestinationShorthand
+    ensures { shorthand_number result ≡ shorthand lo }
 {
-    lo / 262144 % 4
+    match lo / 262144 % 4 {
+        0 => DestinationShorthand::NoShorthand,
+        1 => DestinationShorthand::OnlySelf,
+        2 => DestinationShorthand::AllIncludingSelf,
+        _ => DestinationShorthand::AllExcludingSelf,
+    }
 }
 
 // The delivery status, bit 12, cleared.
@@ -44,13 +101,10 @@ pub fn idle(lo: u32) -> u32
 }
 
 // The ICR is written whole, by 8 bytes, in x2APIC mode, and never by 8 bytes in xAPIC mode.
-pub fn is_icr_width(x2apic: bool, width: u8) -> bool
+pub fn is_icr_width(x2apic: bool, width: u64) -> bool
     ensures { result ≡ icr_width x2apic width }
 {
-    if x2apic {
-        return width == 8;
-    }
-    width != 8
+    x2apic == (width == 8)
 }
 
 // The ICR's high word after that: the value's in x2APIC mode, else the one that stands there.
@@ -58,61 +112,73 @@ pub fn icr_high(x2apic: bool, val: u64, icr_hi: u32) -> u32
     ensures { result ≡ icr_high x2apic val icr_hi }
 {
     if x2apic {
-        return (val / 0x100000000) as u32;
+        (val / 0x100000000) as u32
+    } else {
+        icr_hi
     }
-    icr_hi
+}
+
+// The destination that stands in the high word: the top byte in xAPIC mode, the whole word in x2APIC mode.
+pub fn destination(x2apic: bool, icr_hi: u32) -> u32
+    ensures { result ≡ destination_field x2apic icr_hi }
+{
+    if x2apic { icr_hi } else { icr_hi / 0x1000000 }
+}
+
+// Whether that is all ones: every vCPU, in either destination mode.
+pub fn is_broadcast(x2apic: bool, icr_hi: u32) -> bool
+    ensures { result ≡ all_ones x2apic icr_hi }
+{
+    let everybody = if x2apic {
+        X2APIC_BROADCAST_DEST_ID
+    } else {
+        XAPIC_BROADCAST_DEST_ID
+    };
+    destination(x2apic, icr_hi) == everybody
 }
 
 pub fn is_reserved_mode(lo: u32) -> bool
     ensures { result ≡ is_reserved_mode lo }
 {
-    let mode = delivery_mode(lo);
-    if mode == 3 {
-        return true;
-    }
-    mode == 7
+    matches!(
+        delivery_mode(lo),
+        DeliveryMode::Reserved3 | DeliveryMode::Reserved7
+    )
 }
 
 // A fixed interrupt with a vector below 16.
 pub fn is_illegal_vector(lo: u32) -> bool
     ensures { result ≡ is_illegal_vector lo }
 {
-    if delivery_mode(lo) == 0 {
-        return vector(lo).0 < 16;
-    }
-    false
+    delivery_mode(lo) == DeliveryMode::Fixed && vector(lo).0 < 16
 }
 
 // NMI, INIT or startup to self or to all including self.
 pub fn is_invalid_shorthand(lo: u32) -> bool
     ensures { result ≡ is_invalid_shorthand lo }
 {
-    if includes_self(lo) {
-        let mode = delivery_mode(lo);
-        if 4 <= mode {
-            return mode <= 6;
-        }
-    }
-    false
+    includes_self(lo)
+        && matches!(
+            delivery_mode(lo),
+            DeliveryMode::Nmi | DeliveryMode::Init | DeliveryMode::StartUp
+        )
 }
 
 fn includes_self(lo: u32) -> bool
     ensures { result ≡ includes_self lo }
 {
-    let which = shorthand(lo);
-    if which == 1 {
-        return true;
-    }
-    which == 2
+    matches!(
+        shorthand(lo),
+        DestinationShorthand::OnlySelf | DestinationShorthand::AllIncludingSelf
+    )
 }
 
 // Lowest priority and SMI.
 pub fn is_unsent(lo: u32) -> bool
     ensures { result ≡ is_unsent lo }
 {
-    let mode = delivery_mode(lo);
-    if mode == 1 {
-        return true;
-    }
-    mode == 2
+    matches!(
+        delivery_mode(lo),
+        DeliveryMode::LowestPriority | DeliveryMode::Smi
+    )
 }
