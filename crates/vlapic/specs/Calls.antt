@@ -1,14 +1,16 @@
 -- The calls that can be refused: setup and the write of a register. (Acceptance and EOI stand in Priority, the read in Registers.)
 -- Intel SDM volume 3, the APIC chapter: local APIC register address map; ICR in xAPIC and in x2APIC mode; SELF IPI register.
-use Rattle.std.specs.Prelude.{ℕ, ◌%◌, Bool, cond, ◌||◌, eqb, ltb}
+use Rattle.std.specs.Prelude.{ℕ, ◌%◌, Bool, cond, ◌||◌, eqb, ltb, Result, Ok, Err}
 use Rattle.types.specs.declared.VcpuId.{VcpuId}
+use Rattle.types.specs.declared.Refusal.{Refusal}
 use Rattle.types.specs.declared.Refusal.TheVariants.{InvalidRegister, OutOfRange}
 use Rattle.types.specs.Reply.{Outcome}
 use Rattle.vlapic_regs.specs.Register.{illegal_noted}
 use Rattle.vlapic_icr.specs.declared.InterruptCommand.{InterruptCommand}
 use Rattle.vlapic_icr.specs.declared.IcrAnswer.{IcrAnswer}
-use Rattle.vlapic_icr.specs.declared.IcrAnswer.TheVariants.{Nothing, SendIllegalVector, Ipi, Refused}
+use Rattle.vlapic_icr.specs.declared.IcrAnswer.TheVariants.{Nothing, SendIllegalVector, Ipi}
 use Rattle.vlapic_icr.specs.Fields.{idle, icr_width, icr_high}
+use Rattle.vlapic_icr.specs.Kinds.{mode_number}
 use Rattle.vlapic_icr.specs.Icr.{command, self_ipi}
 use Rattle.vlapic.specs.declared.VirtualApicRegs.{VirtualApicRegs}
 use Rattle.vlapic.specs.Regs.{start, with_pending, with_command}
@@ -37,11 +39,11 @@ command_of s = record {
   icr_hi = s.icr_hi;
 }
 
-abbrev pub answered : VirtualApicRegs → IcrAnswer → Outcome VirtualApicRegs
-answered s Nothing = done s
-answered s SendIllegalVector = done (with_pending s (illegal_noted s.esr_pending))
-answered s (Ipi kind vector mask) = sent s kind vector.0 mask
-answered s (Refused why) = refused s why
+abbrev pub answered : VirtualApicRegs → Result IcrAnswer Refusal → Outcome VirtualApicRegs
+answered s (Ok Nothing) = done s
+answered s (Ok SendIllegalVector) = done (with_pending s (illegal_noted s.esr_pending))
+answered s (Ok (Ipi ipi)) = sent s (mode_number ipi.kind) ipi.vector.0 ipi.mask
+answered s (Err why) = refused s why
 
 -- the words are stored, the delivery status cleared, and then carried out: a command that is refused stays in the ICR. D-89: reserved bits are kept
 unfoldable pub write_icr : VirtualApicRegs → ℕ → ℕ → ℕ → ℕ → Outcome VirtualApicRegs
@@ -55,7 +57,7 @@ write_icr_low s val width num active =
 
 -- the self-IPI register is there in x2APIC mode alone; the low byte is the vector (D-82: the other bits are dropped)
 unfoldable pub write_self_ipi : VirtualApicRegs → ℕ → Outcome VirtualApicRegs
-write_self_ipi s val = cond s.x2apic (answered s (self_ipi (record { 0 = s.vapic_id }) (record { 0 = val % 256 }))) (refused s InvalidRegister)
+write_self_ipi s val = cond s.x2apic (answered s (Ok (self_ipi (record { 0 = s.vapic_id }) (record { 0 = val % 256 })))) (refused s InvalidRegister)
 
 -- ---- a register's write
 

@@ -4,8 +4,8 @@
 //
 // Changed: ported to Rattle from vlapic.rs of the Rust crate x86_vlapic 0.5.4. The register page became the words of `VirtualApicRegs`, with three
 // arrays of eight; the state goes in and comes back by value; the host is asked nothing: the vCPU count and the active vCPUs come in as numbers, and an
-// IPI is an answer; the highest vector in service (`isrv`) is searched for where it is wanted and not kept; `Option` and `Result` became enums. Timer, logging and the
-// APIC base register were left out, `setup` was added, and each function has its contract.
+// IPI is an answer; the highest vector in service (`isrv`) is searched for where it is wanted and not kept. Timer,
+// logging and the APIC base register were left out, `setup` was added, and each function has its contract.
 
 #![tactic(auto)]
 
@@ -20,13 +20,13 @@ ghost use Rattle.vlapic.specs.Calls.{out_of_range, setup, answered, write_icr, w
 
 pub mod consts;
 
-use types::{Refusal, Reply, VcpuId, Vector};
-use vlapic_icr::{IcrAnswer, InterruptCommand};
+use types::{Refusal, VcpuId, Vector};
+use vlapic_icr::{IcrAnswer, InterruptCommand, Ipi};
 use vlapic_regs::{lvt, register, vectors};
 
 // The registers of one vCPU's local APIC, laid out in memory as they stand here (a caller in C lends them: crate vcpus).
 #[repr(C)]
-#[derive(Clone, Copy)]
+#[derive(Clone, Copy, Debug, PartialEq, Eq, Hash)]
 pub struct VirtualApicRegs {
     // x2APIC mode; else xAPIC mode.
     pub x2apic: bool,
@@ -55,85 +55,11 @@ pub struct VirtualApicRegs {
     pub irr: [u32; 8],
 }
 
-// What an EOI tells the I/O APICs.
-#[derive(Clone, Copy)]
-pub enum EoiAnswer {
-    Broadcast(Vector),
-    Nothing,
-}
-
-#[derive(Clone, Copy)]
-pub struct EoiStep {
-    pub regs: VirtualApicRegs,
-    pub answer: EoiAnswer,
-}
-
-#[derive(Clone, Copy)]
-pub enum ReadAnswer {
-    Value(u32),
-    Refused(Refusal),
-}
-
-#[derive(Clone, Copy)]
-pub enum WriteAnswer {
-    Done,
-    // An interrupt for the vCPUs in `mask`; its kind is the delivery mode: 0 fixed, 4 NMI, 5 INIT, 6 startup.
-    Ipi { kind: u8, vector: Vector, mask: u64 },
-    Refused(Refusal),
-}
-
-#[derive(Clone, Copy)]
-pub struct Written {
-    pub regs: VirtualApicRegs,
-    pub answer: WriteAnswer,
-}
-
-impl EoiAnswer {
-    pub fn reply(self) -> Reply
-        ensures { result ≡ eoi_reply self }
-    {
-        match self {
-            EoiAnswer::Broadcast(vector) => Reply::One(vector.0 as u64),
-            EoiAnswer::Nothing => Reply::Nothing,
-        }
-    }
-}
-
-impl ReadAnswer {
-    pub fn reply(self) -> Reply
-        ensures { result ≡ read_reply self }
-    {
-        match self {
-            ReadAnswer::Value(word) => Reply::One(word as u64),
-            ReadAnswer::Refused(why) => Reply::Refused(why),
-        }
-    }
-}
-
-impl WriteAnswer {
-    pub fn reply(self) -> Reply
-        ensures { result ≡ write_reply self }
-    {
-        match self {
-            WriteAnswer::Done => Reply::Nothing,
-            WriteAnswer::Ipi { kind, vector, mask } => Reply::Three(
-                kind as u64,
-                vector.0 as u64,
-                mask,
-            ),
-            WriteAnswer::Refused(why) => Reply::Refused(why),
-        }
-    }
-}
-
 // More vCPUs than a mask has bits, or an id that no mask can hold.
 pub fn is_out_of_range(vcpu_num: usize, vcpu_id: VcpuId) -> bool
     ensures { result ≡ out_of_range vcpu_num vcpu_id.0 }
 {
-    if vcpu_num > 64 {
-        return true;
-    }
-    vcpu_id.0 > 63
+    vcpu_num > 64 || vcpu_id.0 > 63
 }
 
 // The start, by id and mode.
@@ -167,14 +93,20 @@ fn reset(x2apic: bool, vapic_id: u32) -> VirtualApicRegs
 
 impl VirtualApicRegs {
     // The local APIC of vCPU 0 in xAPIC mode.
-    pub fn new() -> VirtualApicRegs
+    pub fn new() -> Self
         ensures { done result ≡ done (start false 0) }
     {
         reset(false, 0)
     }
 
     // A new local APIC in the place of this one: mode, own id, and how many vCPUs the VM has.
-    pub fn setup(self, x2apic: bool, vcpu_id: VcpuId, vcpu_num: usize) -> Written
+    #[tactic(auto, using(crate::proofs::Range::id_kept_lem), unfolding(crate::specs::Calls::setup))]
+    pub fn setup(
+        self,
+        x2apic: bool,
+        vcpu_id: VcpuId,
+        vcpu_num: usize,
+    ) -> (Self, Result<Option<Ipi>, Refusal>)
         ensures { write_outcome result ≡ setup self x2apic vcpu_id vcpu_num }
     {
         if is_out_of_range(vcpu_num, vcpu_id) {
@@ -183,22 +115,16 @@ impl VirtualApicRegs {
         reset(x2apic, vcpu_id.apic_id()).ok()
     }
 
-    fn ok(self) -> Written
+    fn ok(self) -> (Self, Result<Option<Ipi>, Refusal>)
         ensures { write_outcome result ≡ done self }
     {
-        Written {
-            regs: self,
-            answer: WriteAnswer::Done,
-        }
+        (self, Ok(None))
     }
 
-    fn refuse(self, why: Refusal) -> Written
+    fn refuse(self, why: Refusal) -> (Self, Result<Option<Ipi>, Refusal>)
         ensures { write_outcome result ≡ refused self why }
     {
-        Written {
-            regs: self,
-            answer: WriteAnswer::Refused(why),
-        }
+        (self, Err(why))
     }
 
     // The highest vector in service, or 0.
@@ -209,7 +135,8 @@ impl VirtualApicRegs {
         vectors::find_isrv(isr)
     }
 
-    fn update_ppr(mut self) -> VirtualApicRegs
+    #[tactic(auto, unfolding(crate::specs::Priority::update_ppr))]
+    fn update_ppr(mut self) -> Self
         ensures { result ≡ update_ppr self }
     {
         let isrv = self.find_isrv();
@@ -218,7 +145,7 @@ impl VirtualApicRegs {
     }
 
     // Puts the vectors that are in service and those that are level-triggered.
-    fn service(mut self, isr: [u32; 8], tmr: [u32; 8]) -> VirtualApicRegs
+    fn service(mut self, isr: [u32; 8], tmr: [u32; 8]) -> Self
         ensures { result ≡ update_ppr (with_tmr (with_isr self isr) tmr) }
     {
         self.isr = isr;
@@ -227,7 +154,8 @@ impl VirtualApicRegs {
     }
 
     // Records that the processor accepted an interrupt.
-    pub fn accept_interrupt(self, vector: Vector, level_triggered: bool) -> VirtualApicRegs
+    #[tactic(auto, unfolding(crate::specs::Priority::accept_interrupt))]
+    pub fn accept_interrupt(self, vector: Vector, level_triggered: bool) -> Self
         ensures { done result ≡ accept_interrupt self vector level_triggered }
     {
         let isr = self.isr;
@@ -246,33 +174,25 @@ impl VirtualApicRegs {
         register::is_eoi_broadcast(vectors::has(tmr, vector), self.svr)
     }
 
-    fn process_eoi(self) -> EoiStep
+    #[tactic(auto, unfolding(crate::specs::Priority::handle_eoi))]
+    fn process_eoi(self) -> (Self, Option<Vector>)
         ensures { eoi_outcome result ≡ handle_eoi self }
     {
         let vector = self.find_isrv();
         if vector.0 == 0 {
-            return EoiStep {
-                regs: self,
-                answer: EoiAnswer::Nothing,
-            };
+            return (self, None);
         }
         let isr = self.isr;
         let tmr = self.tmr;
         let regs = self.service(vectors::without(isr, vector), tmr);
         if self.is_broadcast_eoi(vector) {
-            return EoiStep {
-                regs,
-                answer: EoiAnswer::Broadcast(vector),
-            };
+            return (regs, Some(vector));
         }
-        EoiStep {
-            regs,
-            answer: EoiAnswer::Nothing,
-        }
+        (regs, None)
     }
 
     // A guest's EOI, and the vector that it broadcasts to the I/O APICs.
-    pub fn handle_eoi(self) -> EoiStep
+    pub fn handle_eoi(self) -> (Self, Option<Vector>)
         ensures { eoi_outcome result ≡ handle_eoi self }
     {
         self.process_eoi()
@@ -284,24 +204,20 @@ fn is_eight_from(base: u64, offset: u64) -> bool
     requires { base < 0x1000 }
     ensures { result ≡ eight_from base offset }
 {
-    if offset % 16 == 0 {
-        if base <= offset {
-            return offset < base + 0x80;
-        }
-    }
-    false
+    offset % 16 == 0 && base <= offset && offset < base + 0x80
 }
 
-fn word_at(words: [u32; 8], offset: u64) -> ReadAnswer
+fn word_at(words: [u32; 8], offset: u64) -> Result<u32, Refusal>
     ensures { read_reply result ≡ One (eight_at words offset) }
 {
     let i = (offset / 16 % 8) as usize;
-    ReadAnswer::Value(words[i])
+    Ok(words[i])
 }
 
 impl VirtualApicRegs {
     // Reads the register at an offset: the word that is stored.
-    pub fn handle_read(self, offset: u64) -> ReadAnswer
+    #[tactic(auto, unfolding(crate::specs::Registers::handle_read))]
+    pub fn handle_read(self, offset: u64) -> Result<u32, Refusal>
         ensures { read_reply result ≡ handle_read self offset }
     {
         if is_eight_from(consts::ISR, offset) {
@@ -316,54 +232,54 @@ impl VirtualApicRegs {
     }
 
     // Reads a register of one word.
-    fn read_word(self, offset: u64) -> ReadAnswer
+    fn read_word(self, offset: u64) -> Result<u32, Refusal>
         ensures { read_reply result ≡ word_at (readable self) offset }
     {
         match offset {
-            consts::ID => ReadAnswer::Value(register::id(self.x2apic, self.vapic_id)),
-            consts::TPR => ReadAnswer::Value(self.tpr),
-            consts::PPR => ReadAnswer::Value(self.ppr),
-            consts::LDR => ReadAnswer::Value(self.ldr),
-            consts::DFR => ReadAnswer::Value(self.dfr),
-            consts::SIVR => ReadAnswer::Value(self.svr),
-            consts::ESR => ReadAnswer::Value(self.esr),
-            consts::LVT_CMCI => ReadAnswer::Value(self.lvt_cmci),
-            consts::ICR_LOW => ReadAnswer::Value(self.icr_lo),
-            consts::ICR_HI => ReadAnswer::Value(self.icr_hi),
-            consts::LVT_TIMER => ReadAnswer::Value(self.lvt_timer),
-            consts::LVT_THERMAL => ReadAnswer::Value(self.lvt_thermal),
-            consts::LVT_PMC => ReadAnswer::Value(self.lvt_pmi),
-            consts::LVT_LINT0 => ReadAnswer::Value(self.lvt_lint0),
-            consts::LVT_LINT1 => ReadAnswer::Value(self.lvt_lint1),
-            consts::LVT_ERR => ReadAnswer::Value(self.lvt_error),
-            _ => ReadAnswer::Refused(Refusal::InvalidRegister),
+            consts::ID => Ok(register::id(self.x2apic, self.vapic_id)),
+            consts::TPR => Ok(self.tpr),
+            consts::PPR => Ok(self.ppr),
+            consts::LDR => Ok(self.ldr),
+            consts::DFR => Ok(self.dfr),
+            consts::SIVR => Ok(self.svr),
+            consts::ESR => Ok(self.esr),
+            consts::LVT_CMCI => Ok(self.lvt_cmci),
+            consts::ICR_LOW => Ok(self.icr_lo),
+            consts::ICR_HI => Ok(self.icr_hi),
+            consts::LVT_TIMER => Ok(self.lvt_timer),
+            consts::LVT_THERMAL => Ok(self.lvt_thermal),
+            consts::LVT_PMC => Ok(self.lvt_pmi),
+            consts::LVT_LINT0 => Ok(self.lvt_lint0),
+            consts::LVT_LINT1 => Ok(self.lvt_lint1),
+            consts::LVT_ERR => Ok(self.lvt_error),
+            _ => Err(Refusal::InvalidRegister),
         }
     }
 }
 
 impl VirtualApicRegs {
-    fn write_tpr(mut self, val: u32) -> VirtualApicRegs
+    fn write_tpr(mut self, val: u32) -> Self
         ensures { result ≡ with_tpr self (low_byte val) }
     {
         self.tpr = register::tpr(val);
         self
     }
 
-    fn write_ldr(mut self, val: u32) -> VirtualApicRegs
+    fn write_ldr(mut self, val: u32) -> Self
         ensures { result ≡ with_ldr self (top_byte val) }
     {
         self.ldr = register::ldr(val);
         self
     }
 
-    fn write_dfr(mut self, val: u32) -> VirtualApicRegs
+    fn write_dfr(mut self, val: u32) -> Self
         ensures { result ≡ with_dfr self (model_bits val) }
     {
         self.dfr = register::dfr(val);
         self
     }
 
-    fn write_svr(mut self, val: u32) -> VirtualApicRegs
+    fn write_svr(mut self, val: u32) -> Self
         ensures { result ≡ with_svr self val }
     {
         self.svr = register::svr(val);
@@ -371,7 +287,7 @@ impl VirtualApicRegs {
     }
 
     // Shows the errors since the last write.
-    fn write_esr(mut self) -> VirtualApicRegs
+    fn write_esr(mut self) -> Self
         ensures { result ≡ with_errors self (errors_shown self.esr_pending) }
     {
         let errors = register::esr(self.esr_pending);
@@ -380,7 +296,7 @@ impl VirtualApicRegs {
         self
     }
 
-    fn write_icr_hi(mut self, val: u32) -> VirtualApicRegs
+    fn write_icr_hi(mut self, val: u32) -> Self
         ensures { result ≡ with_icr_hi self (top_byte val) }
     {
         self.icr_hi = register::icr_hi(val);
@@ -388,7 +304,7 @@ impl VirtualApicRegs {
     }
 
     // Writes an entry of the local vector table; another offset is refused.
-    fn write_lvt(mut self, offset: u64, val: u32) -> Written
+    fn write_lvt(mut self, offset: u64, val: u32) -> (Self, Result<Option<Ipi>, Refusal>)
         ensures { write_outcome result ≡ outcome_at self (lvt_stored self val) offset }
     {
         match offset {
@@ -425,7 +341,7 @@ impl VirtualApicRegs {
     }
 
     // What a register that only xAPIC mode has leaves after its write.
-    fn in_xapic(self, next: VirtualApicRegs) -> Written
+    fn in_xapic(self, next: VirtualApicRegs) -> (Self, Result<Option<Ipi>, Refusal>)
         ensures { write_outcome result ≡ in_xapic self next }
     {
         if self.x2apic {
@@ -435,7 +351,8 @@ impl VirtualApicRegs {
     }
 
     // Writes a register that only stores the value.
-    fn write_register(self, offset: u64, val: u32) -> Written
+    #[tactic(auto, unfolding(crate::specs::Registers::write_stored, crate::specs::Registers::stored))]
+    fn write_register(self, offset: u64, val: u32) -> (Self, Result<Option<Ipi>, Refusal>)
         ensures { write_outcome result ≡ write_stored self offset val }
     {
         match offset {
@@ -452,7 +369,7 @@ impl VirtualApicRegs {
     }
 
     // Keeps the error until ESR is written: a vector below 16 was to be sent.
-    fn set_err(mut self) -> VirtualApicRegs
+    fn set_err(mut self) -> Self
         ensures { result ≡ with_pending self (illegal_noted self.esr_pending) }
     {
         self.esr_pending = register::illegal_noted(self.esr_pending);
@@ -460,22 +377,26 @@ impl VirtualApicRegs {
     }
 
     // What becomes of an interrupt command.
-    fn answer(self, answer: IcrAnswer) -> Written
+    fn answer(self, answer: Result<IcrAnswer, Refusal>) -> (Self, Result<Option<Ipi>, Refusal>)
         ensures { write_outcome result ≡ answered self answer }
     {
         match answer {
-            IcrAnswer::Nothing => self.ok(),
-            IcrAnswer::SendIllegalVector => self.set_err().ok(),
-            IcrAnswer::Ipi { kind, vector, mask } => Written {
-                regs: self,
-                answer: WriteAnswer::Ipi { kind, vector, mask },
-            },
-            IcrAnswer::Refused(why) => self.refuse(why),
+            Ok(IcrAnswer::Nothing) => self.ok(),
+            Ok(IcrAnswer::SendIllegalVector) => self.set_err().ok(),
+            Ok(IcrAnswer::Ipi(ipi)) => (self, Ok(Some(ipi))),
+            Err(why) => self.refuse(why),
         }
     }
 
     // Puts the command's words, the delivery status cleared, and carries the command out.
-    fn write_icr(mut self, lo: u32, hi: u32, vcpu_num: usize, active_vcpus: u64) -> Written
+    #[tactic(auto, unfolding(crate::specs::Calls::write_icr))]
+    fn write_icr(
+        mut self,
+        lo: u32,
+        hi: u32,
+        vcpu_num: usize,
+        active_vcpus: u64,
+    ) -> (Self, Result<Option<Ipi>, Refusal>)
         ensures { write_outcome result ≡ write_icr self lo hi vcpu_num active_vcpus }
     {
         self.icr_lo = vlapic_icr::fields::idle(lo);
@@ -492,10 +413,17 @@ impl VirtualApicRegs {
     }
 
     // A write of the ICR's low word; in x2APIC mode of both words.
-    fn write_icr_low(self, val: u64, width: u8, vcpu_num: usize, active_vcpus: u64) -> Written
+    #[tactic(auto, unfolding(crate::specs::Calls::write_icr_low))]
+    fn write_icr_low(
+        self,
+        val: u64,
+        width: u8,
+        vcpu_num: usize,
+        active_vcpus: u64,
+    ) -> (Self, Result<Option<Ipi>, Refusal>)
         ensures { write_outcome result ≡ write_icr_low self val width vcpu_num active_vcpus }
     {
-        if vlapic_icr::fields::is_icr_width(self.x2apic, width) {
+        if vlapic_icr::fields::is_icr_width(self.x2apic, u64::from(width)) {
             let lo = (val % 0x100000000) as u32;
             let hi = vlapic_icr::fields::icr_high(self.x2apic, val, self.icr_hi);
             return self.write_icr(lo, hi, vcpu_num, active_vcpus);
@@ -504,22 +432,25 @@ impl VirtualApicRegs {
     }
 
     // A write of the self-IPI register, which x2APIC mode alone has.
-    fn write_self_ipi(self, val: u64) -> Written
+    #[tactic(auto, unfolding(crate::specs::Calls::write_self_ipi))]
+    fn write_self_ipi(self, val: u64) -> (Self, Result<Option<Ipi>, Refusal>)
         ensures { write_outcome result ≡ write_self_ipi self val }
     {
         if self.x2apic {
             let vector = Vector((val % 256) as u8);
-            return self.answer(vlapic_icr::handle_self_ipi(VcpuId::of_apic(self.vapic_id), vector));
+            return self.answer(Ok(vlapic_icr::handle_self_ipi(
+                VcpuId::of_apic(self.vapic_id),
+                vector,
+            )));
         }
         self.refuse(Refusal::InvalidRegister)
     }
 
     // The EOI register: what is broadcast is dropped.
-    fn write_eoi(self) -> Written
+    fn write_eoi(self) -> (Self, Result<Option<Ipi>, Refusal>)
         ensures { write_outcome result ≡ done (handle_eoi self).state }
     {
-        let step = self.process_eoi();
-        let regs = step.regs;
+        let (regs, _told) = self.process_eoi();
         regs.ok()
     }
 
@@ -531,7 +462,7 @@ impl VirtualApicRegs {
         width: u8,
         vcpu_num: usize,
         active_vcpus: u64,
-    ) -> Written
+    ) -> (Self, Result<Option<Ipi>, Refusal>)
         ensures { write_outcome result ≡ handle_write self offset val width vcpu_num active_vcpus }
     {
         if is_out_of_range(vcpu_num, VcpuId::of_apic(self.vapic_id)) {
