@@ -12,9 +12,11 @@ use borrow.Author.Tests.{lt-ltb, le-ltb, le-leb, lt-leb, eq-eqb, ne_eqb, ltb-tru
 use Rattle.utils.specs.Cases.{cond_yes, cond_no}
 use Rattle.utils.specs.Set.{marked}
 use Rattle.utils.proofs.Marked.{marked_lt}
+use Rattle.std.specs.Prelude.{Result, Ok}
+use Rattle.types.specs.declared.Refusal.{Refusal}
 use Rattle.types.specs.declared.Refusal.TheVariants.{InvalidRegister, OutOfRange}
 use Rattle.types.specs.declared.Reply.{Reply}
-use Rattle.types.specs.declared.Reply.TheVariants.{Refused, Nothing, One, Two, Three}
+use Rattle.types.specs.declared.Reply.TheVariants.{Refused, Nothing, One}
 use Rattle.types.specs.declared.VcpuId.{VcpuId}
 use Rattle.types.specs.declared.Vector.{Vector}
 use Rattle.types.specs.Counters.{apic_id, vcpu_of}
@@ -86,7 +88,7 @@ module _ (l : List ℕ) (n : length l ≡ 48) where
   unfolding write_icr
   written_is lo hi num active = refl
 
-  pub icr_way : (a b m : List ℕ) (x : Bool) (id ldr dfr low : ℕ) (ans : IcrAnswer) (r : Reply) (lo hi num active : ℕ) → lo < 2 ^ 32 → hi < 2 ^ 32
+  pub icr_way : (a b m : List ℕ) (x : Bool) (id ldr dfr low : ℕ) (ans : Result IcrAnswer Refusal) (r : Reply) (lo hi num active : ℕ) → lo < 2 ^ 32 → hi < 2 ^ 32
       → x ≡ (view l).x2apic
       → id ≡ word l 1
       → ldr ≡ word l 4
@@ -293,9 +295,9 @@ pub id_is : (l : List ℕ) → word l 1 ≡ (view l).vapic_id
 unfolding view
 id_is l = refl
 
-module _ (l : List ℕ) (val width num active : ℕ) (x w : Bool) (ex : x ≡ (view l).x2apic) (ew : w ≡ icr_width x width) where
+module _ (l : List ℕ) (val width num active : ℕ) (x w : Bool) (wide : ℕ) (ex : x ≡ (view l).x2apic) (en : wide ≡ width) (ew : w ≡ icr_width x wide) where
   fits : (b : Bool) → w ≡ b → icr_width (view l).x2apic width ≡ b
-  fits b t = ap (λ (y : Bool). icr_width y width) (sym ex) ∙ sym ew ∙ t
+  fits b t = ap (λ (y : Bool). icr_width y width) (sym ex) ∙ ap (icr_width x) (sym en) ∙ sym ew ∙ t
 
   pub icr_in : (m : List ℕ) (r : Reply) (high hi : ℕ) → w ≡ true → high ≡ word l 10 → hi ≡ icr_high x val high
       → Leaves l (command_stored l (val % 0x100000000) hi) m r (write_icr (view l) (val % 0x100000000) hi num active)
@@ -316,11 +318,11 @@ module _ (l : List ℕ) (val width num active : ℕ) (x w : Bool) (ex : x ≡ (v
 -- the self-IPI register
 module _ (l : List ℕ) (val : ℕ) (x : Bool) (ex : x ≡ (view l).x2apic) where
   pub self_in : (m : List ℕ) (r : Reply) (n : ℕ) (id : VcpuId) (a : IcrAnswer) → x ≡ true → n ≡ word l 1 → id ≡ vcpu_of n → a ≡ self_ipi id (record { 0 = val % 256 })
-      → Leaves l l m r (answered (view l) a) → Leaves l l m r (write_self_ipi (view l) val)
+      → Leaves l l m r (answered (view l) (Ok a)) → Leaves l l m r (write_self_ipi (view l) val)
   unfolding write_self_ipi
   self_in m r n id a t en ei ea k =
       leaves_as (write_self_ipi (view l) val) l k
-      (cond_yes _ _ _ _ _ (sym ex ∙ t) (ap (answered (view l)) (ea ∙ ap (λ (y : VcpuId). self_ipi y (record { 0 = val % 256 })) (ei ∙ ap vcpu_of (en ∙ id_is l))))) refl
+      (cond_yes _ _ _ _ _ (sym ex ∙ t) (ap (λ (y : IcrAnswer). answered (view l) (Ok y)) (ea ∙ ap (λ (y : VcpuId). self_ipi y (record { 0 = val % 256 })) (ei ∙ ap vcpu_of (en ∙ id_is l))))) refl
 
   pub self_out : x ≡ false → Leaves l l l (Refused InvalidRegister) (write_self_ipi (view l) val)
   unfolding write_self_ipi

@@ -19,8 +19,8 @@ ghost use Rattle.vlapic_words.specs.Steps.{start_words, served, marked_in, ranke
 
 use types::{Refusal, VcpuId, Vector};
 use utils::seen;
-use vlapic::{EoiAnswer, ReadAnswer, WriteAnswer, consts};
-use vlapic_icr::{IcrAnswer, InterruptCommand, fields};
+use vlapic::consts;
+use vlapic_icr::{IcrAnswer, InterruptCommand, Ipi, fields};
 use vlapic_regs::{lvt, register};
 
 // ---- The words
@@ -88,22 +88,22 @@ fn put(words: &mut [u64; 48], k: usize, x: u32)
 }
 
 // A register of one word, written.
-fn store(words: &mut [u64; 48], k: usize, x: u32) -> WriteAnswer
+fn store(words: &mut [u64; 48], k: usize, x: u32) -> Result<Option<Ipi>, Refusal>
     requires { (1 ≤ k) × (k < 18) }
     ensures { Leaves words.old words.old words.new (write_reply result) (done (with_word (view words.old) k x)) }
 {
     seen(&*words);
     put(&mut *words, k, x);
-    WriteAnswer::Done
+    Ok(None)
 }
 
 // One that only xAPIC mode has.
-fn store_in_xapic(words: &mut [u64; 48], k: usize, x: u32) -> WriteAnswer
+fn store_in_xapic(words: &mut [u64; 48], k: usize, x: u32) -> Result<Option<Ipi>, Refusal>
     requires { (1 ≤ k) × (k < 18) }
     ensures { Leaves words.old words.old words.new (write_reply result) (in_xapic (view words.old) (with_word (view words.old) k x)) }
 {
     if is_x2apic(&*words) {
-        return WriteAnswer::Refused(Refusal::InvalidRegister);
+        return Err(Refusal::InvalidRegister);
     }
     store(&mut *words, k, x)
 }
@@ -180,17 +180,22 @@ pub fn new(words: &mut [u64; 48])
 }
 
 // A new local APIC in the place of this one: mode, own id, and how many vCPUs the VM has.
-pub fn setup(words: &mut [u64; 48], x2apic: bool, vcpu_id: VcpuId, vcpu_num: usize) -> WriteAnswer
+pub fn setup(
+    words: &mut [u64; 48],
+    x2apic: bool,
+    vcpu_id: VcpuId,
+    vcpu_num: usize,
+) -> Result<Option<Ipi>, Refusal>
     ensures { Leaves words.old words.old words.new (write_reply result) (setup (view words.old) x2apic vcpu_id vcpu_num) }
 {
     if vlapic::is_out_of_range(vcpu_num, vcpu_id) {
-        return WriteAnswer::Refused(Refusal::OutOfRange);
+        return Err(Refusal::OutOfRange);
     }
     let spare = [
         words[42], words[43], words[44], words[45], words[46], words[47],
     ];
     reset(&mut *words, x2apic, vcpu_id.apic_id(), spare);
-    WriteAnswer::Done
+    Ok(None)
 }
 
 // ---- Vectors
@@ -295,20 +300,20 @@ fn end(words: &mut [u64; 48], vector: Vector)
 }
 
 // A guest's EOI, and the vector that it broadcasts to the I/O APICs.
-pub fn handle_eoi(words: &mut [u64; 48]) -> EoiAnswer
+pub fn handle_eoi(words: &mut [u64; 48]) -> Option<Vector>
     ensures { Leaves words.old words.old words.new (eoi_reply result) (handle_eoi (view words.old)) }
 {
     seen(&*words);
     let vector = find_isrv(&*words);
     if vector.0 == 0 {
-        return EoiAnswer::Nothing;
+        return None;
     }
     let is_told = register::is_eoi_broadcast(has(&*words, TMR, vector), word(&*words, SVR));
     end(&mut *words, vector);
     if is_told {
-        return EoiAnswer::Broadcast(vector);
+        return Some(vector);
     }
-    EoiAnswer::Nothing
+    None
 }
 
 // ---- Reads
@@ -355,61 +360,61 @@ const AT_LVT_ERR: u64 = consts::LVT_ERR / 16;
 const AT_SELF_IPI: u64 = consts::SELF_IPI / 16;
 
 // Reads the register at an offset: the word that is stored.
-pub fn handle_read(words: &[u64; 48], offset: u64) -> ReadAnswer
+pub fn handle_read(words: &[u64; 48], offset: u64) -> Result<u32, Refusal>
     ensures { read_reply result ≡ handle_read (view words.now) offset }
 {
     if offset % 16 == 0 {
         return read_at(words, offset / 16);
     }
-    ReadAnswer::Refused(Refusal::InvalidRegister)
+    Err(Refusal::InvalidRegister)
 }
 
-fn read_at(words: &[u64; 48], at: u64) -> ReadAnswer
+fn read_at(words: &[u64; 48], at: u64) -> Result<u32, Refusal>
     ensures { read_reply result ≡ handle_read (view words.now) (at * 16) }
 {
     match at {
-        AT_ID => ReadAnswer::Value(register::id(is_x2apic(words), word(words, VAPIC_ID))),
-        AT_TPR => ReadAnswer::Value(word(words, TPR)),
-        AT_PPR => ReadAnswer::Value(word(words, PPR)),
-        AT_LDR => ReadAnswer::Value(word(words, LDR)),
-        AT_DFR => ReadAnswer::Value(word(words, DFR)),
-        AT_SIVR => ReadAnswer::Value(word(words, SVR)),
-        AT_ESR => ReadAnswer::Value(word(words, ESR)),
-        AT_LVT_CMCI => ReadAnswer::Value(word(words, LVT_CMCI)),
-        AT_ICR_LOW => ReadAnswer::Value(word(words, ICR_LO)),
-        AT_ICR_HI => ReadAnswer::Value(word(words, ICR_HI)),
-        AT_LVT_TIMER => ReadAnswer::Value(word(words, LVT_TIMER)),
-        AT_LVT_THERMAL => ReadAnswer::Value(word(words, LVT_THERMAL)),
-        AT_LVT_PMC => ReadAnswer::Value(word(words, LVT_PMI)),
-        AT_LVT_LINT0 => ReadAnswer::Value(word(words, LVT_LINT0)),
-        AT_LVT_LINT1 => ReadAnswer::Value(word(words, LVT_LINT1)),
-        AT_LVT_ERR => ReadAnswer::Value(word(words, LVT_ERROR)),
+        AT_ID => Ok(register::id(is_x2apic(words), word(words, VAPIC_ID))),
+        AT_TPR => Ok(word(words, TPR)),
+        AT_PPR => Ok(word(words, PPR)),
+        AT_LDR => Ok(word(words, LDR)),
+        AT_DFR => Ok(word(words, DFR)),
+        AT_SIVR => Ok(word(words, SVR)),
+        AT_ESR => Ok(word(words, ESR)),
+        AT_LVT_CMCI => Ok(word(words, LVT_CMCI)),
+        AT_ICR_LOW => Ok(word(words, ICR_LO)),
+        AT_ICR_HI => Ok(word(words, ICR_HI)),
+        AT_LVT_TIMER => Ok(word(words, LVT_TIMER)),
+        AT_LVT_THERMAL => Ok(word(words, LVT_THERMAL)),
+        AT_LVT_PMC => Ok(word(words, LVT_PMI)),
+        AT_LVT_LINT0 => Ok(word(words, LVT_LINT0)),
+        AT_LVT_LINT1 => Ok(word(words, LVT_LINT1)),
+        AT_LVT_ERR => Ok(word(words, LVT_ERROR)),
         // ISR and TMR stand side by side, there as here.
-        AT_ISR..=AT_TMR_LAST => ReadAnswer::Value(word(words, at as usize + 2)),
-        _ => ReadAnswer::Refused(Refusal::InvalidRegister),
+        AT_ISR..=AT_TMR_LAST => Ok(word(words, at as usize + 2)),
+        _ => Err(Refusal::InvalidRegister),
     }
 }
 
 // ---- Writes
 
 // ESR shows the errors since the last write.
-fn show_errors(words: &mut [u64; 48]) -> WriteAnswer
+fn show_errors(words: &mut [u64; 48]) -> Result<Option<Ipi>, Refusal>
     ensures { Leaves words.old words.old words.new (write_reply result) (done (with_errors (view words.old) (errors_shown (view words.old).esr_pending))) }
 {
     seen(&*words);
     let errors = register::esr(word(&*words, ESR_PENDING));
     put(&mut *words, ESR, errors.esr);
     put(&mut *words, ESR_PENDING, errors.esr_pending);
-    WriteAnswer::Done
+    Ok(None)
 }
 
 // Writes a register that only stores the value.
-fn write_register(words: &mut [u64; 48], at: u64, val: u32) -> WriteAnswer
+fn write_register(words: &mut [u64; 48], at: u64, val: u32) -> Result<Option<Ipi>, Refusal>
     ensures { Leaves words.old words.old words.new (write_reply result) (write_stored (view words.old) (at * 16) val) }
 {
     match at {
         // Force APIC ID to be read-only.
-        AT_ID => WriteAnswer::Done,
+        AT_ID => Ok(None),
         AT_TPR => store(&mut *words, TPR, register::tpr(val)),
         AT_LDR => store_in_xapic(&mut *words, LDR, register::ldr(val)),
         AT_DFR => store_in_xapic(&mut *words, DFR, register::dfr(val)),
@@ -423,22 +428,22 @@ fn write_register(words: &mut [u64; 48], at: u64, val: u32) -> WriteAnswer
         AT_LVT_LINT0 => store(&mut *words, LVT_LINT0, lvt::pin(val)),
         AT_LVT_LINT1 => store(&mut *words, LVT_LINT1, lvt::pin(val)),
         AT_LVT_ERR => store(&mut *words, LVT_ERROR, lvt::error(val)),
-        _ => WriteAnswer::Refused(Refusal::InvalidRegister),
+        _ => Err(Refusal::InvalidRegister),
     }
 }
 
 // What becomes of an interrupt command.
-fn answer(words: &mut [u64; 48], answer: IcrAnswer) -> WriteAnswer
+#[tactic(auto, unfolding(crate::specs::Words::view))]
+fn answer(words: &mut [u64; 48], answer: Result<IcrAnswer, Refusal>) -> Result<Option<Ipi>, Refusal>
     ensures { Leaves words.old words.old words.new (write_reply result) (answered (view words.old) answer) }
 {
-    match answer {
-        IcrAnswer::Nothing => WriteAnswer::Done,
+    match answer? {
+        IcrAnswer::Nothing => Ok(None),
         IcrAnswer::SendIllegalVector => {
             let noted = register::illegal_noted(word(&*words, ESR_PENDING));
             store(&mut *words, ESR_PENDING, noted)
         }
-        IcrAnswer::Ipi { kind, vector, mask } => WriteAnswer::Ipi { kind, vector, mask },
-        IcrAnswer::Refused(why) => WriteAnswer::Refused(why),
+        IcrAnswer::Ipi(ipi) => Ok(Some(ipi)),
     }
 }
 
@@ -449,7 +454,7 @@ fn write_icr(
     hi: u32,
     vcpu_num: usize,
     active_vcpus: u64,
-) -> WriteAnswer
+) -> Result<Option<Ipi>, Refusal>
     ensures { Leaves words.old (command_stored words.old lo hi) words.new (write_reply result) (write_icr (view words.old) lo hi vcpu_num active_vcpus) }
 {
     seen(&*words);
@@ -473,41 +478,41 @@ fn write_icr_low(
     width: u8,
     vcpu_num: usize,
     active_vcpus: u64,
-) -> WriteAnswer
+) -> Result<Option<Ipi>, Refusal>
     ensures { Leaves words.old (icr_refused words.old val width) words.new (write_reply result) (write_icr_low (view words.old) val width vcpu_num active_vcpus) }
 {
     let x2apic = is_x2apic(&*words);
-    if fields::is_icr_width(x2apic, width) {
+    if fields::is_icr_width(x2apic, u64::from(width)) {
         let lo = (val % 0x1_0000_0000) as u32;
         let hi = fields::icr_high(x2apic, val, word(&*words, ICR_HI));
         return write_icr(&mut *words, lo, hi, vcpu_num, active_vcpus);
     }
-    WriteAnswer::Refused(Refusal::InvalidRegister)
+    Err(Refusal::InvalidRegister)
 }
 
 // A write of the self-IPI register, which x2APIC mode alone has.
-fn write_self_ipi(words: &mut [u64; 48], val: u64) -> WriteAnswer
+fn write_self_ipi(words: &mut [u64; 48], val: u64) -> Result<Option<Ipi>, Refusal>
     ensures { Leaves words.old words.old words.new (write_reply result) (write_self_ipi (view words.old) val) }
 {
     if is_x2apic(&*words) {
         let vector = Vector((val % 256) as u8);
         let id = VcpuId::of_apic(word(&*words, VAPIC_ID));
-        return answer(&mut *words, vlapic_icr::handle_self_ipi(id, vector));
+        return answer(&mut *words, Ok(vlapic_icr::handle_self_ipi(id, vector)));
     }
-    WriteAnswer::Refused(Refusal::InvalidRegister)
+    Err(Refusal::InvalidRegister)
 }
 
 // The EOI register: what is broadcast is dropped.
-fn write_eoi(words: &mut [u64; 48]) -> WriteAnswer
+fn write_eoi(words: &mut [u64; 48]) -> Result<Option<Ipi>, Refusal>
     ensures { Leaves words.old words.old words.new (write_reply result) (done (handle_eoi (view words.old)).state) }
 {
     seen(&*words);
     let vector = find_isrv(&*words);
     if vector.0 == 0 {
-        return WriteAnswer::Done;
+        return Ok(None);
     }
     end(&mut *words, vector);
-    WriteAnswer::Done
+    Ok(None)
 }
 
 // Writes the register at an offset, where the VM has `vcpu_num` vCPUs, of which those in `active_vcpus` are active.
@@ -518,16 +523,16 @@ pub fn handle_write(
     width: u8,
     vcpu_num: usize,
     active_vcpus: u64,
-) -> WriteAnswer
+) -> Result<Option<Ipi>, Refusal>
     ensures { Leaves words.old (refused_words words.old offset val width vcpu_num) words.new (write_reply result) (handle_write (view words.old) offset val width vcpu_num active_vcpus) }
 {
     if vlapic::is_out_of_range(vcpu_num, VcpuId::of_apic(word(&*words, VAPIC_ID))) {
-        return WriteAnswer::Refused(Refusal::OutOfRange);
+        return Err(Refusal::OutOfRange);
     }
     if offset % 16 == 0 {
         return write_at(&mut *words, offset / 16, val, width, vcpu_num, active_vcpus);
     }
-    WriteAnswer::Refused(Refusal::InvalidRegister)
+    Err(Refusal::InvalidRegister)
 }
 
 fn write_at(
@@ -537,7 +542,7 @@ fn write_at(
     width: u8,
     vcpu_num: usize,
     active_vcpus: u64,
-) -> WriteAnswer
+) -> Result<Option<Ipi>, Refusal>
     requires { out_of_range vcpu_num (view words.old).vapic_id ≡ false }
     ensures { Leaves words.old (refused_words words.old (at * 16) val width vcpu_num) words.new (write_reply result) (handle_write (view words.old) (at * 16) val width vcpu_num active_vcpus) }
 {
