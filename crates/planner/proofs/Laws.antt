@@ -1,9 +1,10 @@
 -- A test of the numbers below n: at every one, at some, and at how many it holds. Assumes nothing.
 use mathlib.Core.List.{List, [], ◌∷◌}
 use lib.ListN.{length, get_or, take}
-use Rattle.std.specs.List.{list_any, list_all}
+use Rattle.std.specs.List.{list_any, list_all, range_with_len}
+use Rattle.std.proofs.lemmas.List.FromFn.{length-range_with_len, get_or-range_with_len}
 use Rattle.std.proofs.lemmas.List.Folds.{list_any_more, list_all_more}
-use mathlib.Core.Path.{◌≡◌, refl, sym, ap, ◌∙◌}
+use mathlib.Core.Path.{◌≡◌, refl, sym, ap, ap₂, ◌∙◌}
 use mathlib.Core.Bool.{Bool, true, false, ◌&&◌, ◌||◌, true≢false}
 use Prim.Native.Nat.{ℕ, zero, suc, ◌≤◌, ◌<◌, zero-le}
 use native.Mathlib.Omega.{arith}
@@ -93,3 +94,14 @@ module _ (q : ℕ → Bool) (xs : List ℕ) where
 pub take_all : (xs : List ℕ) → take (length xs) xs ≡ xs
 take_all [] = refl
 take_all (x ∷ xs) = ap (λ (l : List ℕ). x ∷ l) (take_all xs)
+
+every_same : (n : ℕ) (p q : ℕ → Bool) → ((k : ℕ) → k < n → p k ≡ q k) → every n p ≡ every n q
+every_same zero p q h = refl
+every_same (suc n) p q h = ap₂ (λ (a b : Bool). a && b) (h n (omega arith)) (every_same n p q (λ k l. h k (omega arith)))
+
+-- and over the numbers below n themselves
+pub every_range : (q : ℕ → Bool) (n : ℕ) → list_all q (range_with_len 0 n) ≡ every n q
+every_range q n =
+    let l : length (range_with_len 0 n) ≡ n = length-range_with_len 0 n in
+    let t : take n (range_with_len 0 n) ≡ range_with_len 0 n = ap (λ (m : ℕ). take m (range_with_len 0 n)) (sym l) ∙ take_all (range_with_len 0 n) in
+    ap (list_all q) (sym t) ∙ every_all q (range_with_len 0 n) n (omega (arith, l)) ∙ every_same n (at_element q (range_with_len 0 n)) q (λ k h. let e : get_or (range_with_len 0 n) k 0 ≡ k = omega (arith, get_or-range_with_len 0 n k 0 h) in ap q e)

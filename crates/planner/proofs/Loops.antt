@@ -1,32 +1,32 @@
 -- What each loop and each return of the planner's code shows. Assumes nothing.
 use mathlib.Core.Path.{◌≡◌, refl, sym, ap, ◌∙◌}
-use mathlib.Core.Bool.{Bool, true, false, not, cond, true≢false}
+use mathlib.Core.Bool.{Bool, true, false, not, cond}
 use mathlib.Core.List.{List, [], ◌∷◌}
 use Prim.Native.Nat.{ℕ, zero, suc, ◌+◌, ◌-◌, ◌≤◌, ◌<◌}
 use native.Mathlib.Nat.{le_antisymm}
 use native.Mathlib.Omega.{arith}
 use native.Mathlib.Numerals.{add-one}
-use lib.Dec.{eqb, leb}
-use Rattle.std.specs.List.{list_any, list_all}
+use lib.Dec.{eqb, leb, ltb}
+use Rattle.std.specs.List.{list_any, list_all, range_with_len, position, position_or_len}
 use Rattle.std.proofs.Common.{Option, Some, None}
 use lib.ListN.{length, get_or, set, take, length-set, length-replicate}
-use borrow.Author.Tests.{lt-leb, le-leb, lt-ltb, le-ltb, ltb-true}
-use Rattle.utils.specs.Cases.{and_right_no, so_true, so_false}
-use Rattle.utils.specs.Set.{set_of, with}
-use Rattle.utils.proofs.Search.{first_is, first_none, first_holds}
+use borrow.Author.Tests.{lt-leb, le-leb, lt-ltb, le-ltb, ltb-true, ltb-false}
+use Rattle.utils.specs.Cases.{so_true, so_false}
+use Rattle.utils.specs.Set.{first, set_of, with}
+use Rattle.utils.proofs.Search.{first_le, first_holds}
 use Rattle.utils.proofs.Laws.{set_of_next}
 use Rattle.types.specs.declared.Refusal.TheVariants.{InvalidRegister, OutOfRange, NoPlan, TooShort}
 use Rattle.types.specs.declared.Reply.{Reply}
 use Rattle.types.specs.declared.Reply.TheVariants.{Refused, Nothing, Three}
 use Rattle.types.specs.Reply.{outcome_of, option_reply}
-use Rattle.planner.specs.Lines.{every, count, lowest_of, highest_of, is_free, allows}
+use Rattle.planner.specs.Lines.{count, lowest_of, highest_of, is_free, allows}
 use Rattle.planner.specs.Check.{has_vector, among, line_passes, passes}
 use Rattle.planner.specs.Plan.{next_line, give, giving, planned, in_order, ordered, written, plan}
 use Rattle.planner.specs.declared.shortage.CrowdedRange.{CrowdedRange}
 use Rattle.planner.specs.Answers.{shown_reply}
-use Rattle.planner.specs.Shortage.{confined, ends_at, end_line, starts_at, start_line, shown, shown_from, IsFirst, IsShown, shortage}
+use Rattle.planner.specs.Shortage.{confined, crowded, ends_at, end_line, starts_at, start_line, shown, shown_from, IsFirst, IsShown, shortage}
 use Rattle.std.specs.Option.{is_some}
-use Rattle.planner.proofs.Laws.{every_fails, every_all, some_any, take_all}
+use Rattle.planner.proofs.Laws.{every_all, every_range, some_any, take_all}
 
 -- ---- the check
 
@@ -39,17 +39,13 @@ pub line_allowed : (r t plan : List ℕ) (k : ℕ) (b : Bool) → allows (get_or
 unfolding line_passes
 line_allowed r t plan k b h l e = rw (h, ← among_any plan k (get_or plan k 0) l, ← e) refl
 
-pub passes_short : (r t plan : List ℕ) → length plan < length r → false ≡ passes r t plan
+pub passes_short : (r t plan : List ℕ) → length plan < length r → leb (length r) (length plan) ≡ passes r t plan
 unfolding passes
 passes_short r t plan h = rw (lt-leb (length r) (length plan) h)
 
-pub passes_not : (r t plan : List ℕ) (k : ℕ) → k < length r → line_passes r t plan k ≡ false → false ≡ passes r t plan
+pub passes_all : (r t plan : List ℕ) → length r ≤ length plan → list_all (line_passes r t plan) (range_with_len 0 (length r)) ≡ passes r t plan
 unfolding passes
-passes_not r t plan k l h = sym (and_right_no (leb (length r) (length plan)) (every (length r) (line_passes r t plan)) (every_fails (line_passes r t plan) (length r) k l h))
-
-pub passes_yes : (r t plan : List ℕ) (k : ℕ) → length r ≤ length plan → k ≤ length r → length r ≤ k → every k (line_passes r t plan) ≡ true → true ≡ passes r t plan
-unfolding passes
-passes_yes r t plan k s a b e = rw (le-leb (length r) (length plan) s, ← le_antisymm a b, e)
+passes_all r t plan s = rw (le-leb (length r) (length plan) s) (every_range (line_passes r t plan) (length r))
 
 -- ---- the planner
 
@@ -128,30 +124,36 @@ module _ (r t lent : List ℕ) where
 pub counted_all : (p : ℕ → Bool) (k m n : ℕ) → n ≡ count k p → k ≤ m → m ≤ k → n ≡ count m p
 counted_all p k m n e a b = e ∙ ap (λ (i : ℕ). count i p) (le_antisymm a b)
 
--- where a first line was found there is one, and where none was there is none
-pub first_some : (n line : ℕ) (o : Option ℕ) → IsFirst n line o → is_some o ≡ true → line < n
-first_some n line (Some k) h e = omega (arith, h.0, h.1)
-first_some n line None h e = absurd (true≢false (sym e))
+-- the first at which a list's test holds is where the list's own search stops
+first_position : (p : ℕ → Bool) (xs : List ℕ) → first (length xs) (λ k. p (get_or xs k 0)) ≡ position_or_len p xs
+first_position p [] = refl
+first_position p (x ∷ xs) = go (first_position p xs) (p x)
+  where
+    go : first (length xs) (λ k. p (get_or xs k 0)) ≡ position_or_len p xs → (b : Bool) → cond b zero (suc (first (length xs) (λ k. p (get_or xs k 0)))) ≡ cond (not b) (1 + position_or_len p xs) zero
+    go rest true = refl
+    go rest false = omega (arith, rest)
 
-pub first_not : (n line : ℕ) (o : Option ℕ) → IsFirst n line o → is_some o ≡ false → n ≤ line
-first_not n line (Some k) h e = absurd (true≢false e)
-first_not n line None h e = omega (arith, h)
+first_of : (p : ℕ → Bool) (xs : List ℕ) → IsFirst (length xs) (first (length xs) (λ k. p (get_or xs k 0))) (position p xs)
+first_of p xs = rw (first_position p xs) (go (ltb (position_or_len p xs) (length xs)) refl)
+  where
+    go : (b : Bool) → ltb (position_or_len p xs) (length xs) ≡ b → IsFirst (length xs) (position_or_len p xs) (cond b (Some (position_or_len p xs)) None)
+    go true e = (refl, ltb-true (position_or_len p xs) (length xs) e)
+    go false e =
+        let l : length xs ≤ position_or_len p xs = ltb-false (position_or_len p xs) (length xs) e in
+        let m : position_or_len p xs ≤ length xs = omega (arith, first_position p xs, first_le (length xs) (λ k. p (get_or xs k 0))) in omega arith
 
-pub end_found : (r t : List ℕ) (a k : ℕ) → k < length r → ends_at r t a k ≡ true → ((j : ℕ) → j < k → ends_at r t a j ≡ false) → (k ≡ end_line r t a) × (k < length r)
-unfolding end_line
-end_found r t a k l h n = (sym (first_is (length r) (ends_at r t a) k l h n), l)
+-- a first line was found where there is one
+pub first_found : (n line : ℕ) (o : Option ℕ) → IsFirst n line o → is_some o ≡ ltb line n
+first_found n line (Some k) h = sym (lt-ltb line n (omega (arith, h.0, h.1)))
+first_found n line None h = sym (le-ltb line n (omega (arith, h)))
 
-pub end_none : (r t : List ℕ) (a k : ℕ) → length r ≤ k → ((j : ℕ) → j < k → ends_at r t a j ≡ false) → end_line r t a ≡ length r
-unfolding end_line
-end_none r t a k m n = first_none (length r) (ends_at r t a) (λ j q. n j (omega arith))
+pub end_position : (r t : List ℕ) (a : ℕ) (o : Option ℕ) → o ≡ position (λ range. crowded r t a (highest_of range)) r → IsFirst (length r) (end_line r t a) o
+unfolding end_line ends_at
+end_position r t a o e = rw e (first_of (λ range. crowded r t a (highest_of range)) r)
 
-pub start_found : (r t : List ℕ) (k : ℕ) → k < length r → starts_at r t k ≡ true → ((j : ℕ) → j < k → starts_at r t j ≡ false) → (k ≡ start_line r t) × (k < length r)
-unfolding start_line
-start_found r t k l h n = (sym (first_is (length r) (starts_at r t) k l h n), l)
-
-pub start_none : (r t : List ℕ) (k : ℕ) → length r ≤ k → ((j : ℕ) → j < k → starts_at r t j ≡ false) → start_line r t ≡ length r
-unfolding start_line
-start_none r t k m n = first_none (length r) (starts_at r t) (λ j q. n j (omega arith))
+pub start_position : (r t : List ℕ) (o : Option ℕ) → o ≡ position (λ range. ltb (end_line r t (lowest_of range)) (length r)) r → IsFirst (length r) (start_line r t) o
+unfolding start_line starts_at
+start_position r t o e = rw e (first_of (λ range. ltb (end_line r t (lowest_of range)) (length r)) r)
 
 pub lines_with : (p : ℕ → Bool) (k s m : ℕ) → s ≡ set_of k p → p k ≡ true → m ≡ with s k → m ≡ set_of (k + 1) p
 lines_with p k s m e h g = rw (add-one k) (g ∙ ap (λ (n : ℕ). with n k) e ∙ sym (set_of_next k p ∙ rw h refl))

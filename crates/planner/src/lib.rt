@@ -75,15 +75,7 @@ fn line_passes(ranges: &[u16], taken: &[u64; 4], plan: &[u8], k: usize) -> bool
 pub fn check(ranges: &[u16], taken: &[u64; 4], plan: &[u8]) -> bool
     ensures { result ≡ passes ranges.now taken.now plan.now }
 {
-    if plan.len() < ranges.len() {
-        return false;
-    }
-    for k in 0..ranges.len() {
-        if !line_passes(ranges, taken, plan, k) {
-            return false;
-        }
-    }
-    true
+    plan.len() >= ranges.len() && (0..ranges.len()).all(|k| line_passes(ranges, taken, plan, k))
 }
 
 // A line waits, and its range has the vector.

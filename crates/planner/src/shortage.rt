@@ -85,24 +85,18 @@ impl<'a> Lines<'a> {
     fn end_line(self, from: Vector) -> Option<usize>
         ensures { IsFirst (length self.entry.ranges.now) (end_line self.entry.ranges.now self.entry.taken.now from.0) result }
     {
-        for k in 0..self.ranges.len() {
-            if self.crowded(from, crate::highest(self.ranges[k])) {
-                return Some(k);
-            }
-        }
-        None
+        self.ranges
+            .iter()
+            .position(|range| self.crowded(from, crate::highest(*range)))
     }
 
     // The first line from whose lowest vector it is crowded up to some line's highest.
     fn start_line(self) -> Option<usize>
         ensures { IsFirst (length self.entry.ranges.now) (start_line self.entry.ranges.now self.entry.taken.now) result }
     {
-        for k in 0..self.ranges.len() {
-            if self.end_line(crate::lowest(self.ranges[k])).is_some() {
-                return Some(k);
-            }
-        }
-        None
+        self.ranges
+            .iter()
+            .position(|range| self.end_line(crate::lowest(*range)).is_some())
     }
 
     // The set of the lines that are confined to the range.

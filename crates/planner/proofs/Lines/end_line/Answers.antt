@@ -1,13 +1,13 @@
-use borrow.Author.Count.{below_more}
-use Rattle.planner.proofs.Loops.{end_found, end_none}
-use Rattle.planner.proofs.Leaves.{ends_at_lem}
+use Rattle.std.proofs.lemmas.Iterator.{YieldsList-from_slice}
+use Rattle.std.proofs.lemmas.Iterator.Search.{position_from_yields_List}
+use borrow.Author.Rules.{rules}
+use Rattle.planner.specs.Lines.{highest_of}
+use Rattle.planner.specs.Shortage.{crowded}
+use Rattle.planner.proofs.Loops.{end_position}
 use Rattle.planner.proofs.Lines.end_line.Goals as goal
 
-pub returns-then-crowded : goal.returns-then-crowded
-returns-then-crowded c = end_found _ _ _ _ c.loop-k-test.true (search ends_at_lem) c.loop-k.invariant
-
-pub loop-k-preserved : goal.loop-k-preserved
-loop-k-preserved c = below_more _ _ c.loop-k.invariant (search ends_at_lem)
-
 pub returns : goal.returns
-returns c = search end_none
+returns c =
+    end_position _ _ _ _
+    (position_from_yields_List (λ range. crowded c.args.self.ranges.now c.args.self.taken.now c.args.from.0 (highest_of range)) _ _ _ c.position.ensures.ran
+    (YieldsList-from_slice c.args.self.ranges.now cc) (λ x b q k. search rules))

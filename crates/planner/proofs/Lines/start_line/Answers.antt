@@ -1,18 +1,15 @@
-use borrow.Author.Count.{below_more}
-use Rattle.std.proofs.Common.{refl, sym, ◌∙◌}
-use Rattle.planner.proofs.Loops.{first_some, first_not, start_found, start_none}
-use Rattle.planner.proofs.Leaves.{starts_at_lem, starts_not}
+use Rattle.std.proofs.lemmas.Iterator.{YieldsList-from_slice}
+use Rattle.std.proofs.lemmas.Iterator.Search.{position_from_yields_List}
+use borrow.Author.Rules.{rules}
+use lib.Dec.{ltb}
+use lib.ListN.{length}
+use Rattle.planner.specs.Lines.{lowest_of}
+use Rattle.planner.specs.Shortage.{end_line}
+use Rattle.planner.proofs.Loops.{start_position, first_found}
 use Rattle.planner.proofs.Lines.start_line.Goals as goal
 
-pub returns-then-is_some : goal.returns-then-is_some
-returns-then-is_some c =
-    start_found _ _ _ c.loop-k-test.true
-    (starts_at_lem _ _ _ _ _ c.lowest.ensures refl (first_some _ _ _ c.end_line.ensures (sym c.is_some.ensures ∙ c.if-is_some.true))) c.loop-k.invariant
-
-pub loop-k-preserved : goal.loop-k-preserved
-loop-k-preserved c =
-    below_more _ _ c.loop-k.invariant
-    (starts_not _ _ _ _ _ c.lowest.ensures refl (first_not _ _ _ c.end_line.ensures (sym c.is_some.ensures ∙ c.if-is_some.false)))
-
 pub returns : goal.returns
-returns c = search start_none
+returns c =
+    start_position _ _ _
+    (position_from_yields_List (λ range. ltb (end_line c.args.self.ranges.now c.args.self.taken.now (lowest_of range)) (length c.args.self.ranges.now)) _ _ _ c.position.ensures.ran
+    (YieldsList-from_slice c.args.self.ranges.now cc) (λ x b q k. search (rules, first_found)))
