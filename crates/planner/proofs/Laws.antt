@@ -1,12 +1,13 @@
 -- A test of the numbers below n: at every one, at some, and at how many it holds. Assumes nothing.
 use mathlib.Core.List.{List, [], ◌∷◌}
 use lib.ListN.{length, get_or, take}
-use Rattle.std.specs.List.{list_any, list_all, range_with_len}
+use Rattle.std.proofs.lemmas.List.Sums.{count_by_more_yes, count_by_more_no}
+use Rattle.std.specs.List.{count_by, list_any, list_all, range_with_len}
 use Rattle.std.proofs.lemmas.List.FromFn.{length-range_with_len, get_or-range_with_len}
 use Rattle.std.proofs.lemmas.List.Folds.{list_any_more, list_all_more}
 use mathlib.Core.Path.{◌≡◌, refl, sym, ap, ap₂, ◌∙◌}
 use mathlib.Core.Bool.{Bool, true, false, ◌&&◌, ◌||◌, true≢false}
-use Prim.Native.Nat.{ℕ, zero, suc, ◌≤◌, ◌<◌, zero-le}
+use Prim.Native.Nat.{ℕ, zero, suc, ◌+◌, ◌≤◌, ◌<◌, zero-le}
 use native.Mathlib.Omega.{arith}
 use native.Mathlib.Numerals.{add-one}
 use lib.Dec.{eqb}
@@ -90,6 +91,14 @@ module _ (q : ℕ → Bool) (xs : List ℕ) where
   some_any zero h = refl
   some_any (suc n) h =
       rw (← add-one n) (list_any_more q xs n 0 (omega arith) ∙ ap (λ (b : Bool). b || q (get_or xs n 0)) (some_any n (omega arith)) ∙ swapped_or (some n at_element) (q (get_or xs n 0)))
+
+pub count_all : (q : ℕ → Bool) (xs : List ℕ) (n : ℕ) → n ≤ length xs → count_by q (take n xs) ≡ count n (λ k. q (get_or xs k 0))
+count_all q xs zero h = refl
+count_all q xs (suc n) h = rw (← add-one n) (go (q (get_or xs n 0)) refl (count_all q xs n (omega arith)))
+  where
+    go : (b : Bool) → q (get_or xs n 0) ≡ b → count_by q (take n xs) ≡ count n (λ k. q (get_or xs k 0)) → count_by q (take (n + 1) xs) ≡ count n (λ k. q (get_or xs k 0)) + flag (q (get_or xs n 0))
+    go true e r = rw e (omega (arith, r, count_by_more_yes q xs n 0 (omega arith) e))
+    go false e r = rw e (omega (arith, r, count_by_more_no q xs n 0 (omega arith) e))
 
 pub take_all : (xs : List ℕ) → take (length xs) xs ≡ xs
 take_all [] = refl

@@ -1,13 +1,13 @@
 -- What each loop and each return of the planner's code shows. Assumes nothing.
 use mathlib.Core.Path.{◌≡◌, refl, sym, ap, ◌∙◌}
-use mathlib.Core.Bool.{Bool, true, false, not, cond}
+use mathlib.Core.Bool.{Bool, true, false, not, cond, ◌&&◌}
 use mathlib.Core.List.{List, [], ◌∷◌}
 use Prim.Native.Nat.{ℕ, zero, suc, ◌+◌, ◌-◌, ◌≤◌, ◌<◌}
 use native.Mathlib.Nat.{le_antisymm}
 use native.Mathlib.Omega.{arith}
 use native.Mathlib.Numerals.{add-one}
 use lib.Dec.{eqb, leb, ltb}
-use Rattle.std.specs.List.{list_any, list_all, range_with_len, position, position_or_len}
+use Rattle.std.specs.List.{count_by, list_any, list_all, range_with_len, position, position_or_len}
 use Rattle.std.proofs.Common.{Option, Some, None}
 use lib.ListN.{length, get_or, set, take, length-set, length-replicate}
 use borrow.Author.Tests.{lt-leb, le-leb, lt-ltb, le-ltb, ltb-true, ltb-false}
@@ -24,9 +24,9 @@ use Rattle.planner.specs.Check.{has_vector, among, line_passes, passes}
 use Rattle.planner.specs.Plan.{next_line, give, giving, planned, in_order, ordered, written, plan}
 use Rattle.planner.specs.declared.shortage.CrowdedRange.{CrowdedRange}
 use Rattle.planner.specs.Answers.{shown_reply}
-use Rattle.planner.specs.Shortage.{confined, crowded, ends_at, end_line, starts_at, start_line, shown, shown_from, IsFirst, IsShown, shortage}
+use Rattle.planner.specs.Shortage.{lies_within, confined, crowded, ends_at, end_line, starts_at, start_line, shown, shown_from, IsFirst, IsShown, shortage}
 use Rattle.std.specs.Option.{is_some}
-use Rattle.planner.proofs.Laws.{every_all, every_range, some_any, take_all}
+use Rattle.planner.proofs.Laws.{every_all, count_all, every_range, some_any, take_all}
 
 -- ---- the check
 
@@ -120,6 +120,15 @@ module _ (r t lent : List ℕ) where
         plan_done after h w = rw (le-ltb 24 (length r) few, le-ltb (length lent) (length r) room, so_true tested inorder, so_true (checked ∙ ap (passes r t) is) h, w, is)
 
 -- ---- the shortage
+
+pub confined_all : (r : List ℕ) (a b : ℕ) → count_by (λ range. lies_within range a b) r ≡ count (length r) (confined r a b)
+unfolding lies_within confined
+confined_all r a b =
+    ap (count_by (λ range. leb a (lowest_of range) && leb (highest_of range) b)) (sym (take_all r)) ∙ count_all (λ range. leb a (lowest_of range) && leb (highest_of range) b) r (length r) (omega arith)
+
+pub confined_at : (r : List ℕ) (a b k : ℕ) → lies_within (get_or r k 0) a b ≡ confined r a b k
+unfolding lies_within confined
+confined_at r a b k = refl
 
 pub counted_all : (p : ℕ → Bool) (k m n : ℕ) → n ≡ count k p → k ≤ m → m ≤ k → n ≡ count m p
 counted_all p k m n e a b = e ∙ ap (λ (i : ℕ). count i p) (le_antisymm a b)

@@ -13,7 +13,10 @@ use Rattle.planner.specs.declared.shortage.CrowdedRange.{CrowdedRange}
 unfoldable pub free_within : List ℕ → ℕ → ℕ → ℕ → Bool
 free_within taken a b v = leb a v && leb v b && is_free taken v
 
--- a line that may have none but vectors from a to b
+-- a range from a to b; and a line that may have none but vectors from there
+unfoldable pub lies_within : ℕ → ℕ → ℕ → Bool
+lies_within range a b = leb a (lowest_of range) && leb (highest_of range) b
+
 unfoldable pub confined : List ℕ → ℕ → ℕ → ℕ → Bool
 confined ranges a b k = leb a (lowest_of (get_or ranges k 0)) && leb (highest_of (get_or ranges k 0)) b
 

@@ -4,7 +4,7 @@ ghost use Rattle.std.specs.Prelude.{◌≡◌, ◌≤◌, ◌<◌, length};
 ghost use Rattle.utils.specs.Set.{set_of};
 ghost use Rattle.planner.specs.Answers.{shown_reply, shortage_reply};
 ghost use Rattle.planner.specs.Lines.{count};
-ghost use Rattle.planner.specs.Shortage.{free_within, confined, crowded, end_line, start_line, IsFirst, IsShown, shortage};
+ghost use Rattle.planner.specs.Shortage.{free_within, lies_within, confined, crowded, end_line, start_line, IsFirst, IsShown, shortage};
 
 use crate::Lines;
 use types::{Refusal, Reply, ToReply, Vector};
@@ -51,26 +51,21 @@ pub fn count_free(taken: &[u64; 4], from: Vector, to: Vector) -> u64
     n
 }
 
-#[tactic(auto, unfolding(crate::specs::Shortage::confined))]
-fn confined(ranges: &[u16], from: u8, to: u8, k: usize) -> bool
-    requires { k < length ranges.now }
-    ensures { result ≡ confined ranges.now from to k }
+#[tactic(auto, unfolding(crate::specs::Shortage::lies_within))]
+fn lies_within(range: u16, from: Vector, to: Vector) -> bool
+    ensures { result ≡ lies_within range from.0 to.0 }
 {
-    from <= crate::lowest(ranges[k]).0 && crate::highest(ranges[k]).0 <= to
+    from.0 <= crate::lowest(range).0 && crate::highest(range).0 <= to.0
 }
 
 // How many lines may have none but vectors of the range.
-#[tactic(auto, using(crate::proofs::Laws::count_le))]
 pub fn count_confined(ranges: &[u16], from: Vector, to: Vector) -> u64
     ensures { result ≡ count (length ranges.now) (confined ranges.now from.0 to.0) }
 {
-    let mut n = 0;
-    for k in 0..ranges.len() {
-        if confined(ranges, from.0, to.0, k) {
-            n += 1;
-        }
-    }
-    n
+    ranges
+        .iter()
+        .filter(|range| lies_within(**range, from, to))
+        .count() as u64
 }
 
 impl<'a> Lines<'a> {
@@ -100,12 +95,12 @@ impl<'a> Lines<'a> {
     }
 
     // The set of the lines that are confined to the range.
-    fn lines_confined(self, from: u8, to: u8) -> u64
-        ensures { result ≡ set_of (length self.entry.ranges.now) (confined self.entry.ranges.now from to) }
+    fn lines_confined(self, from: Vector, to: Vector) -> u64
+        ensures { result ≡ set_of (length self.entry.ranges.now) (confined self.entry.ranges.now from.0 to.0) }
     {
         let mut lines = 0u64;
-        for k in 0..self.ranges.len() {
-            if confined(self.ranges, from, to, k) {
+        for (k, range) in self.ranges.iter().enumerate() {
+            if lies_within(*range, from, to) {
                 lines = lines.with(k as u32);
             }
         }
@@ -121,7 +116,7 @@ impl<'a> Lines<'a> {
         Some(CrowdedRange {
             lowest: from,
             highest,
-            lines: self.lines_confined(from.0, highest.0),
+            lines: self.lines_confined(from, highest),
         })
     }
 }
