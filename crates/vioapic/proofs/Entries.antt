@@ -297,7 +297,10 @@ module _ (l w : List ℕ) (g word : ℕ) (at : word ≡ (entry_at (view l) g).wo
 
 -- ---- the guest's writes
 
-module _ (l : List ℕ) (g word x : ℕ) (at : word ≡ (entry_at (view l) g).word) (a : Bool) (same : a ≡ same_low word x) where
+module _ (l : List ℕ) (g word x : ℕ) (at : word ≡ (entry_at (view l) g).word) (wide : ℕ) (cast : wide ≡ x) (a : Bool) (given : a ≡ same_low word wide) where
+  same : a ≡ same_low word x
+  same = given ∙ ap (same_low word) cast
+
   sames : (b : Bool) → a ≡ b → same_low (entry_at (view l) g).word x ≡ b
   sames b h = ap (λ (n : ℕ). same_low n x) (sym at) ∙ sym same ∙ h
 
@@ -342,21 +345,21 @@ module _ (l : List ℕ) (g word x : ℕ) (at : word ≡ (entry_at (view l) g).wo
 -- the register takes a low word
 module _ (l w : List ℕ) (g word x y : ℕ) (a : Bool) (long : length l ≡ 32) (here : g < 24) (at : word ≡ (entry_at (view l) g).word) (flies : a ≡ remote_irr word) where
   module _ (new : y ≡ replace_low word (without_status x)) where
-    pub laid_level : (b : Bool) (z : ℕ) → not a ≡ false → b ≡ is_level x → not b ≡ false → z ≡ cond (remote_irr word) (with_remote_irr (replace_low word (without_status x))) (replace_low word (without_status x))
+    pub laid_level : (b : Bool) (z wide : ℕ) → not a ≡ false → wide ≡ x → b ≡ is_level wide → not b ≡ false → z ≡ cond (remote_irr word) (with_remote_irr (replace_low word (without_status x))) (replace_low word (without_status x))
         → w ≡ set (set l g y) g z → Keeps l w (view w ≡ put (view l) g (with_word (entry_at (view l) g) (replace_low20 word x)))
-    laid_level b z f v h q r =
-        let k : is_level x ≡ true = sym v ∙ not-false b h in
+    laid_level b z wide f cast v h q r =
+        let k : is_level x ≡ true = sym (v ∙ ap is_level cast) ∙ not-false b h in
         let n : z ≡ replace_low20 word x = q ∙ flight_level word x k in
         let i : remote_irr z ≡ remote_irr word = ap remote_irr n ∙ irr_low20 word x ∙ ap (λ (c : Bool). c && remote_irr word) k in
         rw (r ∙ set-set l g y z, ← n) (so_that (word_is l g long here z) (λ p. p ∙ put_same (view l) g (with_word (entry_at (view l) g) z) (i ∙ ap remote_irr at)))
 
     -- or the bit is set where it lies
-    pub laid_again : (b : Bool) (k z : ℕ) → not a ≡ false → b ≡ is_level x → not b ≡ false → k ≡ g → z ≡ with_remote_irr (get_or (set l g y) k 0) → w ≡ set (set l g y) k z
+    pub laid_again : (b : Bool) (k z wide : ℕ) → not a ≡ false → wide ≡ x → b ≡ is_level wide → not b ≡ false → k ≡ g → z ≡ with_remote_irr (get_or (set l g y) k 0) → w ≡ set (set l g y) k z
         → Keeps l w (view w ≡ put (view l) g (with_word (entry_at (view l) g) (replace_low20 word x)))
-    laid_again b k z f v h e q r =
+    laid_again b k z wide f cast v h e q r =
         let i : remote_irr word ≡ true = sym flies ∙ not-false a f in
         let n : get_or (set l g y) k 0 ≡ replace_low word (without_status x) = ap (λ (j : ℕ). get_or (set l g y) j 0) e ∙ get_or-set_same l g y 0 (omega arith) ∙ new in
-        laid_level b z f v h (rw i (q ∙ ap with_remote_irr n)) (r ∙ ap (λ (j : ℕ). set (set l g y) j z) e)
+        laid_level b z wide f cast v h (rw i (q ∙ ap with_remote_irr n)) (r ∙ ap (λ (j : ℕ). set (set l g y) j z) e)
 
     pub laid_none : (b : Bool) → not a ≡ false → (b ≡ true → NoneDeferred (view (set l g y))) → b ≡ true → Flown word (entry_at (view l) g)
     laid_none b f none h =
@@ -364,10 +367,10 @@ module _ (l w : List ℕ) (g word x y : ℕ) (a : Bool) (long : length l ≡ 32)
         ap (λ (s : IoApicState). entry_at s g) (word_is l g long here y).is ∙ get_or-set_same (view l).entries g (with_word (entry_at (view l) g) y) no_entry (omega (arith, view_long l)) in
         record { flying = sym flies ∙ not-false a f; undeferred = sym (ap (λ (z : Entry). z.pending_level) e) ∙ none h g here }
 
-    pub laid_edge : (b : Bool) → not a ≡ false → b ≡ is_level x → not b ≡ true → w ≡ put_flag (set l g y) 30 g false → Keeps l w (view w ≡ put (view l) g (with_word (entry_at (view l) g) (replace_low20 word x)))
-    laid_edge b f v h r =
+    pub laid_edge : (b : Bool) (wide : ℕ) → not a ≡ false → wide ≡ x → b ≡ is_level wide → not b ≡ true → w ≡ put_flag (set l g y) 30 g false → Keeps l w (view w ≡ put (view l) g (with_word (entry_at (view l) g) (replace_low20 word x)))
+    laid_edge b wide f cast v h r =
         so_that (ground_flying l w g long here word y at (sym flies ∙ not-false a f) (irr_low_of y word (without_status x) new) r)
-        (λ p. p ∙ ap (λ (n : ℕ). put (view l) g (with_word (entry_at (view l) g) n)) (new ∙ flight_edge word x (sym v ∙ not-true b h)))
+        (λ p. p ∙ ap (λ (n : ℕ). put (view l) g (with_word (entry_at (view l) g) n)) (new ∙ flight_edge word x (sym (v ∙ ap is_level cast) ∙ not-true b h)))
 
     pub laid_still : not a ≡ true → w ≡ set l g y → Keeps l w (view w ≡ put (view l) g (with_word (entry_at (view l) g) (replace_low20 word x)))
     laid_still f r =
@@ -407,9 +410,9 @@ none_deferred l h g i =
 pub not_quiet : (e : Entry) → false ≡ true → Quiet e
 not_quiet e h = never h refl
 
-pub quiet : (l : List ℕ) (g : ℕ) (b c : Bool) → g < 24 → (b ≡ true → NoneDeferred (view l)) → not b ≡ false → c ≡ bit (get_or l 25 0 % 4294967296) g → not c ≡ true → Quiet (entry_at (view l) g)
+pub quiet : (l : List ℕ) (g : ℕ) (b c : Bool) → g < 24 → (b ≡ true → NoneDeferred (view l)) → b ≡ true → c ≡ bit (get_or l 25 0 % 4294967296) g → not c ≡ true → Quiet (entry_at (view l) g)
 quiet l g b c i none n line d =
-    record { undeferred = none (not-false b n) g i; down = sym (input_at l g c i (line ∙ bit_cut (get_or l 25 0) 32 g (omega arith))) ∙ not-true c d }
+    record { undeferred = none n g i; down = sym (input_at l g c i (line ∙ bit_cut (get_or l 25 0) 32 g (omega arith))) ∙ not-true c d }
 
 -- what is owed
 module _ (l : List ℕ) (g word : ℕ) (at : word ≡ (entry_at (view l) g).word) (c : Bool) (line : c ≡ (entry_at (view l) g).input_level) where

@@ -43,12 +43,17 @@ routed_served l w None = tt
 routed_served l w (Some i) = tt
 
 module _ (l : List ℕ) (gsi : Gsi) where
-  pub assert_in : (w : List ℕ) (a : Option IoApicInterrupt) → gsi.0 < 24 → Keeps l w (routing (view w) a ≡ route_at (view l) gsi.0 (send_entry (entry_at (view l) gsi.0)))
+  assert_in_lem : (w : List ℕ) (a : Option IoApicInterrupt) → gsi.0 < 24 → Keeps l w (routing (view w) a ≡ route_at (view l) gsi.0 (send_entry (entry_at (view l) gsi.0)))
       → Leaves l w (routed_reply a) (assert_gsi (view l) gsi)
   unfolding assert_gsi interrupt_for_entry
-  assert_in w a h k =
+  assert_in_lem w a h k =
       let q : routing (view w) a ≡ interrupt_for_entry (view l) gsi = k.is ∙ rw (lt-ltb _ _ h, lt-ltb _ _ h) in
       record { outcome = ap routing_outcome q; untouched = routed_served l w a; kept = k.kept }
+
+  pub assert_in : (w : List ℕ) (a : Option IoApicInterrupt) (g : ℕ) → g ≡ gsi.0 → g < 24 → Keeps l w (routing (view w) a ≡ route_at (view l) g (send_entry (entry_at (view l) g)))
+      → Leaves l w (routed_reply a) (assert_gsi (view l) gsi)
+  assert_in w a g at h k =
+      assert_in_lem w a (subst (λ (n : ℕ). n < 24) at h) (subst (λ (n : ℕ). Keeps l w (routing (view w) a ≡ route_at (view l) n (send_entry (entry_at (view l) n)))) at k)
 
   pub assert_out : 24 ≤ gsi.0 → Leaves l l Nothing (assert_gsi (view l) gsi)
   unfolding assert_gsi interrupt_for_entry
@@ -61,20 +66,26 @@ module _ (l : List ℕ) (gsi : Gsi) where
         let q : routing (view w) a ≡ set_level (view l) gsi up = k.is ∙ rw (u, lt-ltb _ _ here, lt-ltb _ _ here) in
         record { outcome = ap routing_outcome q; untouched = routed_served l w a; kept = k.kept }
 
-    pub level_up : up ≡ true → Keeps l w (routing (view w) a ≡ route_at (view l) gsi.0 (raise_entry (entry_at (view l) gsi.0))) → Leaves l w (routed_reply a) (set_gsi_level (view l) gsi up)
-    level_up u k = level_in_lem true u k
+  module _ (up : Bool) (w : List ℕ) (a : Option IoApicInterrupt) (g : ℕ) (at : g ≡ gsi.0) (here : g < 24) where
+    moved : (b : Bool) → Keeps l w (routing (view w) a ≡ route_at (view l) g (move_line (entry_at (view l) g) b)) → Keeps l w (routing (view w) a ≡ route_at (view l) gsi.0 (move_line (entry_at (view l) gsi.0) b))
+    moved b k = subst (λ (n : ℕ). Keeps l w (routing (view w) a ≡ route_at (view l) n (move_line (entry_at (view l) n) b))) at k
 
-    pub level_down : up ≡ false → Keeps l w (routing (view w) a ≡ route_at (view l) gsi.0 (lower_entry (entry_at (view l) gsi.0))) → Leaves l w (routed_reply a) (set_gsi_level (view l) gsi up)
-    level_down u k = level_in_lem false u k
+    pub level_up : up ≡ true → Keeps l w (routing (view w) a ≡ route_at (view l) g (raise_entry (entry_at (view l) g))) → Leaves l w (routed_reply a) (set_gsi_level (view l) gsi up)
+    level_up u k = level_in_lem up w a (subst (λ (n : ℕ). n < 24) at here) true u (moved true k)
+
+    pub level_down : up ≡ false → Keeps l w (routing (view w) a ≡ route_at (view l) g (lower_entry (entry_at (view l) g))) → Leaves l w (routed_reply a) (set_gsi_level (view l) gsi up)
+    level_down u k = level_in_lem up w a (subst (λ (n : ℕ). n < 24) at here) false u (moved false k)
 
   pub level_out : (up : Bool) → 24 ≤ gsi.0 → Leaves l l Nothing (set_gsi_level (view l) gsi up)
   unfolding set_gsi_level set_level
   level_out up h = record { outcome = rw (le-ltb _ _ h); untouched = tt; kept = refl }
 
-  pub vector_in_lem : (r : Option Vector) → gsi.0 < 24 → r ≡ vector_of_entry (get_or l gsi.0 0) → gsi_vector_reply r ≡ vector_for_gsi (view l) gsi
+  pub vector_in_lem : (r : Option Vector) (g : ℕ) → g ≡ gsi.0 → g < 24 → r ≡ vector_of_entry (get_or l g 0) → gsi_vector_reply r ≡ vector_for_gsi (view l) gsi
   unfolding vector_for_gsi vector_for
-  vector_in_lem r h q =
-      let p : r ≡ vector_for (view l) gsi = q ∙ ap (λ (d : Entry). vector_of_entry d.word) (sym (view_at l gsi.0 h)) ∙ rw (lt-ltb _ _ h, lt-ltb _ _ h) in
+  vector_in_lem r g at here q =
+      let h : gsi.0 < 24 = subst (λ (n : ℕ). n < 24) at here in
+      let p : r ≡ vector_for (view l) gsi =
+      q ∙ ap (λ (n : ℕ). vector_of_entry (get_or l n 0)) at ∙ ap (λ (d : Entry). vector_of_entry d.word) (sym (view_at l gsi.0 h)) ∙ rw (lt-ltb _ _ h, lt-ltb _ _ h) in
       ap gsi_vector_reply p
 
   pub vector_out : 24 ≤ gsi.0 → Nothing ≡ vector_for_gsi (view l) gsi

@@ -7,10 +7,12 @@ use native.Mathlib.Omega.{arith}
 use mathlib.Core.Bool.{Bool, true, false}
 use mathlib.Core.List.{List, [], ◌∷◌}
 use mathlib.Core.Path.{◌≡◌, refl, sym, ◌∙◌, ap, ap₂}
-use lib.Dec.{lit<}
+use borrow.Author.Tests.{ltb-true, ltb-false}
+use lib.Dec.{lit<, ltb}
 use lib.ListN.{length, get_or, set}
 use lib.Seq.{get_or-set_same, get_or-set_other}
 use Rattle.utils.specs.Set.{bit, with, without, marked}
+use Rattle.utils.proofs.Bools.{never}
 use Rattle.utils.proofs.Marked.{bit_marked_same, bit_marked_other, marked_cut, marked_above}
 use Rattle.types.specs.declared.Vector.{Vector}
 use Rattle.vioapic_entry.specs.Redirection.{with_word, with_deferred, with_input, awaits}
@@ -48,7 +50,14 @@ input_at l g b h q = q ∙ sym (ap (λ (e : Entry). e.input_level) (view_at l g 
 pub awaits_is : (l : List ℕ) (g : ℕ) (v : Vector) (b : Bool) → g < 24 → b ≡ awaits v (record { word = get_or l g 0; pending_level = false; input_level = false }) → b ≡ awaits v (entry_at (view l) g)
 awaits_is l g v b h e = rw (view_at l g h) e
 
--- an entry past the table is blank
+-- a GSI without a place is past the table, where an entry is blank
+pub past : (g : ℕ) → (g < 24 → false ≡ true) → 24 ≤ g
+past g none = go (ltb g 24) refl
+  where
+    go : (b : Bool) → ltb g 24 ≡ b → 24 ≤ g
+    go true h = never (none (ltb-true g 24 h)) refl
+    go false h = ltb-false g 24 h
+
 past_from : (l : List ℕ) (i n k : ℕ) → n ≤ k → get_or (entries_from l i n) k no_entry ≡ no_entry
 unfolding entries_from
 past_from l i zero k h = refl

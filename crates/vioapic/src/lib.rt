@@ -9,7 +9,7 @@
 
 #![tactic(auto)]
 
-ghost use Rattle.std.specs.Prelude.{◌≡◌, true, false, ◌<◌, ◌%◌, ◌^◌, Some, Ok};
+ghost use Rattle.std.specs.Prelude.{◌≡◌, true, false, ◌<◌, ◌%◌, ◌^◌, Some, Ok, MatchOption};
 ghost use Rattle.vioapic_entry.specs.Answers.{routed_reply};
 ghost use Rattle.vioapic_entry.specs.Redirection.{vector_of, remote_irr, is_level, with_remote_irr, without_remote_irr, with_word, with_deferred, with_input, awaits, send_entry, raise_entry, lower_entry, end_entry, end_entry20, write_low, write_high, is_owed, replace_low20, write_low20};
 ghost use Rattle.vioapic.specs.Answers.{ended_reply, every_reply, ends_reply, eoi_reply, gsi_vector_reply, read_reply, served_reply, written_reply, new_reply, between_reply, range_reply};
@@ -20,8 +20,8 @@ ghost use Rattle.vioapic.specs.Registers.{is_entry_word, is_low, entry_of, versi
 ghost use Rattle.vioapic.specs.IoApic.{good_width, fits, version_number, version_of, is_version, NamesVersion, chip_of, chip_at, new_default, Leaves, Wrote, Makes, created_version, vector_for_gsi, address_range, assert_gsi, set_gsi_level, end_of_interrupt, handle_read, handle_writing};
 ghost use Rattle.vioapic.specs.Inside.{Keeps, put_flag, with_low, NoneDeferred, Quiet, Flown, forgetting, every_end, end_next, every_ending, cleared_in, sent_in};
 
-use types::{Gsi, Refusal, Reply, ToReply, Vector};
-use utils::{seen, set32, set64};
+use types::{Gsi, Place, Refusal, Reply, ToReply, Vector};
+use utils::{Members, Set};
 use vioapic_entry::{Entry, IoApicInterrupt};
 
 pub const IOAPIC_BASE: u64 = 0xfec0_0000;
@@ -54,8 +54,6 @@ const IOAPIC_VERSION_20_VALUE: u64 = 0x0017_0020;
 const VERSION_11: u64 = 0x11;
 
 const VERSION_20: u64 = 0x20;
-
-const ENTRIES: usize = 24;
 
 const PENDING: usize = 24;
 
@@ -277,100 +275,86 @@ pub fn in_flight(words: &[u64; 32]) -> u32
     (words[IN_FLIGHT] % 0x100_0000) as u32
 }
 
-// Entry g of the redirection table with its two flags, and a blank one from 24 up.
+// The entry of the redirection table with its two flags, and a blank one for a GSI from 24 up.
 pub fn entry(words: &[u64; 32], gsi: Gsi) -> Entry
     ensures { result ≡ entry_at (view words.now) gsi.0 }
 {
-    let g = gsi.0;
-    if g < ENTRIES {
-        return entry_in(words, g);
-    }
-    Entry {
-        word: 0,
-        pending_level: false,
-        input_level: false,
+    match gsi.place() {
+        Some(place) => entry_in(words, place),
+        None => Entry {
+            word: 0,
+            pending_level: false,
+            input_level: false,
+        },
     }
 }
 
-fn entry_in(words: &[u64; 32], g: usize) -> Entry
-    requires { g < 24 }
-    ensures { result ≡ entry_at (view words.now) g }
+fn entry_in(words: &[u64; 32], place: Place) -> Entry
+    ensures { result ≡ entry_at (view words.now) place.index }
 {
     Entry {
-        word: words[g],
-        pending_level: set64::has(words[PENDING], g as u64),
-        input_level: set64::has(words[INPUT], g as u64),
+        word: words[place.index],
+        pending_level: words[PENDING].has(place.index as u32),
+        input_level: words[INPUT].has(place.index as u32),
     }
 }
 
-fn word_at(words: &[u64; 32], g: usize) -> u64
-    requires { g < 24 }
-    ensures { result ≡ (entry_at (view words.now) g).word }
+fn word_at(words: &[u64; 32], place: Place) -> u64
+    ensures { result ≡ (entry_at (view words.now) place.index).word }
 {
-    words[g]
+    words[place.index]
 }
 
-fn set_flag(words: &mut [u64; 32], at: usize, g: usize, up: bool)
-    requires { (at < 32) × (g < 24) }
-    ensures { words.new ≡ put_flag words.old at g up }
+fn set_flag(words: &mut [u64; 32], at: usize, place: Place, up: bool)
+    requires { at < 32 }
+    ensures { words.new ≡ put_flag words.old at place.index up }
 {
-    if up {
-        words[at] = set64::with(words[at], g as u64);
-        return;
-    }
-    words[at] = set64::without(words[at], g as u64);
+    words[at] = words[at].marked(place.index as u32, up);
 }
 
-// What is done to entry g, part by part. `word` is its register.
+// What is done to an entry, part by part. `word` is its register, which the caller has read.
+// Stays: the new form is no plainer: that `word` is the entry's register is a fact of two arguments, and a type of both would have to borrow the words.
 
-fn set_deferred(words: &mut [u64; 32], g: usize, deferred: bool)
-    requires { g < 24 }
-    ensures { Keeps words.old words.new (view words.new ≡ put (view words.old) g (with_deferred (entry_at (view words.old) g) deferred)) }
+fn set_deferred(words: &mut [u64; 32], place: Place, deferred: bool)
+    ensures { Keeps words.old words.new (view words.new ≡ put (view words.old) place.index (with_deferred (entry_at (view words.old) place.index) deferred)) }
 {
-    seen(&*words);
-    set_flag(words, PENDING, g, deferred);
+    set_flag(words, PENDING, place, deferred);
 }
 
-fn set_input(words: &mut [u64; 32], g: usize, up: bool)
-    requires { g < 24 }
-    ensures { Keeps words.old words.new (view words.new ≡ put (view words.old) g (with_input (entry_at (view words.old) g) up)) }
+fn set_input(words: &mut [u64; 32], place: Place, up: bool)
+    ensures { Keeps words.old words.new (view words.new ≡ put (view words.old) place.index (with_input (entry_at (view words.old) place.index) up)) }
 {
-    seen(&*words);
-    set_flag(words, INPUT, g, up);
+    set_flag(words, INPUT, place, up);
 }
 
 // Remote IRR is set, and the line is in flight.
-fn fly(words: &mut [u64; 32], g: usize, word: u64)
-    requires { (g < 24) × (word ≡ (entry_at (view words.old) g).word) × (remote_irr word ≡ false) }
-    ensures { Keeps words.old words.new (view words.new ≡ put (view words.old) g (with_word (entry_at (view words.old) g) (with_remote_irr word))) }
+fn fly(words: &mut [u64; 32], place: Place, word: u64)
+    requires { (word ≡ (entry_at (view words.old) place.index).word) × (remote_irr word ≡ false) }
+    ensures { Keeps words.old words.new (view words.new ≡ put (view words.old) place.index (with_word (entry_at (view words.old) place.index) (with_remote_irr word))) }
 {
-    seen(&*words);
-    set_flag(words, IN_FLIGHT, g, true);
-    words[g] = vioapic_entry::with_remote_irr(words[g]);
+    set_flag(words, IN_FLIGHT, place, true);
+    words[place.index] = vioapic_entry::with_remote_irr(words[place.index]);
 }
 
 // It is clear, and the line isn't.
-fn rest(words: &mut [u64; 32], g: usize, word: u64)
-    requires { (g < 24) × (word ≡ (entry_at (view words.old) g).word) × (remote_irr word ≡ true) }
-    ensures { Keeps words.old words.new (view words.new ≡ put (view words.old) g (with_word (entry_at (view words.old) g) (without_remote_irr word))) }
+fn rest(words: &mut [u64; 32], place: Place, word: u64)
+    requires { (word ≡ (entry_at (view words.old) place.index).word) × (remote_irr word ≡ true) }
+    ensures { Keeps words.old words.new (view words.new ≡ put (view words.old) place.index (with_word (entry_at (view words.old) place.index) (without_remote_irr word))) }
 {
-    seen(&*words);
-    words[g] = vioapic_entry::without_remote_irr(word);
-    set_flag(words, IN_FLIGHT, g, false);
+    words[place.index] = vioapic_entry::without_remote_irr(word);
+    set_flag(words, IN_FLIGHT, place, false);
 }
 
-fn is_deferred(words: &[u64; 32], g: usize) -> bool
-    requires { g < 24 }
-    ensures { result ≡ (entry_at (view words.now) g).pending_level }
+fn is_deferred(words: &[u64; 32], place: Place) -> bool
+    ensures { result ≡ (entry_at (view words.now) place.index).pending_level }
 {
-    set64::has(words[PENDING], g as u64)
+    words[PENDING].has(place.index as u32)
 }
 
-fn is_up(words: &[u64; 32], g: usize) -> bool
-    requires { g < 24 }
-    ensures { result ≡ (entry_at (view words.now) g).input_level }
+fn is_up(words: &[u64; 32], place: Place) -> bool
+    ensures { result ≡ (entry_at (view words.now) place.index).input_level }
 {
-    set64::has(words[INPUT], g as u64)
+    words[INPUT].has(place.index as u32)
 }
 
 // Nothing is deferred on any line, as is usual.
@@ -391,10 +375,10 @@ fn interrupt(word: u64, level: bool) -> Option<IoApicInterrupt>
 
 // ---- Lines
 
-// Entry g is sent, if it can be, its line left as it is.
-fn interrupt_for_entry(words: &mut [u64; 32], g: usize, word: u64) -> Option<IoApicInterrupt>
-    requires { (g < 24) × (word ≡ (entry_at (view words.old) g).word) }
-    ensures { Keeps words.old words.new (routing (view words.new) result ≡ route_at (view words.old) g (send_entry (entry_at (view words.old) g))) }
+// An entry is sent, if it can be, its line left as it is.
+fn interrupt_for_entry(words: &mut [u64; 32], place: Place, word: u64) -> Option<IoApicInterrupt>
+    requires { word ≡ (entry_at (view words.old) place.index).word }
+    ensures { Keeps words.old words.new (routing (view words.new) result ≡ route_at (view words.old) place.index (send_entry (entry_at (view words.old) place.index))) }
 {
     if !vioapic_entry::is_fit(word) {
         return None;
@@ -403,43 +387,41 @@ fn interrupt_for_entry(words: &mut [u64; 32], g: usize, word: u64) -> Option<IoA
         return interrupt(word, false);
     }
     if vioapic_entry::remote_irr(word) {
-        set_deferred(words, g, true);
+        set_deferred(words, place, true);
         return None;
     }
-    fly(words, g, word);
+    fly(words, place, word);
     interrupt(word, true)
 }
 
 // Its line goes up.
-fn raise(words: &mut [u64; 32], g: usize) -> Option<IoApicInterrupt>
-    requires { g < 24 }
-    ensures { Keeps words.old words.new (routing (view words.new) result ≡ route_at (view words.old) g (raise_entry (entry_at (view words.old) g))) }
+fn raise(words: &mut [u64; 32], place: Place) -> Option<IoApicInterrupt>
+    ensures { Keeps words.old words.new (routing (view words.new) result ≡ route_at (view words.old) place.index (raise_entry (entry_at (view words.old) place.index))) }
 {
-    let word = word_at(words, g);
+    let word = word_at(words, place);
     // The usual case first: not in flight.
     if !vioapic_entry::remote_irr(word) {
-        set_input(words, g, true);
-        return interrupt_for_entry(words, g, word);
+        set_input(words, place, true);
+        return interrupt_for_entry(words, place, word);
     }
-    if is_up(words, g) {
-        set_deferred(words, g, true);
+    if is_up(words, place) {
+        set_deferred(words, place, true);
         return None;
     }
-    set_input(words, g, true);
-    interrupt_for_entry(words, g, word)
+    set_input(words, place, true);
+    interrupt_for_entry(words, place, word)
 }
 
 // Its line goes down.
-fn lower(words: &mut [u64; 32], g: usize) -> Option<IoApicInterrupt>
-    requires { g < 24 }
-    ensures { Keeps words.old words.new (routing (view words.new) result ≡ route_at (view words.old) g (lower_entry (entry_at (view words.old) g))) }
+fn lower(words: &mut [u64; 32], place: Place) -> Option<IoApicInterrupt>
+    ensures { Keeps words.old words.new (routing (view words.new) result ≡ route_at (view words.old) place.index (lower_entry (entry_at (view words.old) place.index))) }
 {
-    if is_deferred(words, g) {
-        set_deferred(words, g, false);
-        set_input(words, g, false);
+    if is_deferred(words, place) {
+        set_deferred(words, place, false);
+        set_input(words, place, false);
         return None;
     }
-    set_input(words, g, false);
+    set_input(words, place, false);
     None
 }
 
@@ -447,12 +429,9 @@ fn lower(words: &mut [u64; 32], g: usize) -> Option<IoApicInterrupt>
 pub fn assert_gsi(words: &mut [u64; 32], gsi: Gsi) -> Option<IoApicInterrupt>
     ensures { Leaves words.old words.new (routed_reply result) (assert_gsi (view words.old) gsi) }
 {
-    let g = gsi.0;
-    if g < ENTRIES {
-        let word = word_at(words, g);
-        return interrupt_for_entry(words, g, word);
-    }
-    None
+    let line = gsi.place()?;
+    let word = word_at(words, line);
+    interrupt_for_entry(words, line, word)
 }
 
 // Updates one IO APIC input line and returns a newly routable interrupt.
@@ -461,25 +440,19 @@ pub fn assert_gsi(words: &mut [u64; 32], gsi: Gsi) -> Option<IoApicInterrupt>
 pub fn set_gsi_level(words: &mut [u64; 32], gsi: Gsi, asserted: bool) -> Option<IoApicInterrupt>
     ensures { Leaves words.old words.new (routed_reply result) (set_gsi_level (view words.old) gsi asserted) }
 {
-    let g = gsi.0;
-    if g < ENTRIES {
-        if asserted {
-            return raise(words, g);
-        }
-        return lower(words, g);
+    let place = gsi.place()?;
+    if asserted {
+        raise(words, place)
+    } else {
+        lower(words, place)
     }
-    None
 }
 
 // Return the guest interrupt vector programmed for a GSI.
 pub fn vector_for_gsi(words: &[u64; 32], gsi: Gsi) -> Option<Vector>
     ensures { gsi_vector_reply result ≡ vector_for_gsi (view words.now) gsi }
 {
-    let g = gsi.0;
-    if g < ENTRIES {
-        return vector_of_entry(words[g]);
-    }
-    None
+    vector_of_entry(words[gsi.place()?.index])
 }
 
 // ---- EOIs
@@ -490,76 +463,70 @@ fn is_version_20(words: &[u64; 32]) -> bool
     words[VERSION] == VERSION_20
 }
 
-// Whether entry g awaits the EOI: its flags aren't looked at.
-fn awaits_at(words: &[u64; 32], g: usize, vector: Vector) -> bool
-    requires { g < 24 }
-    ensures { result ≡ awaits vector (entry_at (view words.now) g) }
+// Whether an entry awaits the EOI: its flags aren't looked at.
+fn awaits_at(words: &[u64; 32], place: Place, vector: Vector) -> bool
+    ensures { result ≡ awaits vector (entry_at (view words.now) place.index) }
 {
     let entry = Entry {
-        word: words[g],
+        word: words[place.index],
         pending_level: false,
         input_level: false,
     };
     entry.awaits(vector)
 }
 
-// The lowest entry that an EOI of the vector ends, or 24. Only those in flight are looked at.
-fn first_awaiting(words: &[u64; 32], vector: Vector) -> usize
-    ensures { result ≡ first_awaiting (view words.now) vector }
+// The lowest entry that an EOI of the vector ends. Only those in flight are looked at.
+fn first_awaiting(words: &[u64; 32], vector: Vector) -> Option<Place>
+    ensures { MatchOption result (first_awaiting (view words.now) vector ≡ 24) (λ place. place.index ≡ first_awaiting (view words.now) vector) }
 {
-    let mut left = in_flight(words);
-    while left != 0 {
-        let g = set32::lowest(left);
-        if awaits_at(words, g as usize, vector) {
-            return g as usize;
+    for k in Members(in_flight(words)) {
+        let place = Place { index: k as usize };
+        if awaits_at(words, place, vector) {
+            return Some(place);
         }
-        left = set32::without(left, g);
     }
-    ENTRIES
+    None
 }
 
-// Entry g, which awaits the EOI, is sent again if it can be: in flight as before, so that nothing moves. Else it is at rest.
-fn resend(words: &mut [u64; 32], g: usize, word: u64) -> Option<IoApicInterrupt>
-    requires { (g < 24) × (word ≡ (entry_at (view words.old) g).word) × (remote_irr word ≡ true) × (is_level word ≡ true) }
-    ensures { Keeps words.old words.new (routing (view words.new) result ≡ route_at (view words.old) g (send_entry (with_word (entry_at (view words.old) g) (without_remote_irr word)))) }
+// Entry place, which awaits the EOI, is sent again if it can be: in flight as before, so that nothing moves. Else it is at rest.
+fn resend(words: &mut [u64; 32], place: Place, word: u64) -> Option<IoApicInterrupt>
+    requires { (word ≡ (entry_at (view words.old) place.index).word) × (remote_irr word ≡ true) × (is_level word ≡ true) }
+    ensures { Keeps words.old words.new (routing (view words.new) result ≡ route_at (view words.old) place.index (send_entry (with_word (entry_at (view words.old) place.index) (without_remote_irr word)))) }
 {
     if vioapic_entry::is_fit(word) {
         return interrupt(word, true);
     }
-    rest(words, g, word);
+    rest(words, place, word);
     None
 }
 
 // Version 0x11: it ends.
-fn end(words: &mut [u64; 32], g: usize) -> Option<IoApicInterrupt>
-    requires { (g < 24) × (remote_irr (entry_at (view words.old) g).word ≡ true) × (is_level (entry_at (view words.old) g).word ≡ true) }
-    ensures { Keeps words.old words.new (routing (view words.new) result ≡ route_at (view words.old) g (end_entry (entry_at (view words.old) g))) }
+fn end(words: &mut [u64; 32], place: Place) -> Option<IoApicInterrupt>
+    requires { (remote_irr (entry_at (view words.old) place.index).word ≡ true) × (is_level (entry_at (view words.old) place.index).word ≡ true) }
+    ensures { Keeps words.old words.new (routing (view words.new) result ≡ route_at (view words.old) place.index (end_entry (entry_at (view words.old) place.index))) }
 {
-    let word = word_at(words, g);
-    if is_up(words, g) {
-        return resend(words, g, word);
+    let word = word_at(words, place);
+    if is_up(words, place) {
+        return resend(words, place, word);
     }
-    if !is_deferred(words, g) {
-        rest(words, g, word);
+    if !is_deferred(words, place) {
+        rest(words, place, word);
         return None;
     }
-    set_deferred(words, g, false);
-    resend(words, g, word)
+    set_deferred(words, place, false);
+    resend(words, place, word)
 }
 
 // The lowest of the entries that await the EOI does.
 fn end_first(words: &mut [u64; 32], vector: Vector) -> Option<Eoi>
     ensures { Keeps words.old words.new (ending (view words.new) result ≡ end_of_entry (view words.old) vector) }
 {
-    let g = first_awaiting(words, vector);
-    if g < ENTRIES {
-        let pending = end(words, g);
-        return Some(Eoi::Ended(IoApicEoi {
-            gsi: Gsi(g),
-            pending,
-        }));
-    }
-    None
+    let place = first_awaiting(words, vector)?;
+    let pending = end(words, place);
+    Some(Eoi::Ended(IoApicEoi {
+        gsi: Gsi(place.index),
+        pending,
+    }))
 }
 
 // What an EOI of version 0x20 has ended so far, in one number: bit g is up where entry g was, and bit 24 + g where it is sent again.
@@ -579,35 +546,34 @@ impl Ends {
     }
 }
 
-// Version 0x20: entry g ends, and what was deferred goes.
-fn end20(words: &mut [u64; 32], g: usize) -> Option<IoApicInterrupt>
-    requires { (g < 24) × (remote_irr (entry_at (view words.old) g).word ≡ true) × (is_level (entry_at (view words.old) g).word ≡ true) }
-    ensures { Keeps words.old words.new (routing (view words.new) result ≡ route_at (view words.old) g (end_entry20 (entry_at (view words.old) g))) }
+// Version 0x20: an entry ends, and what was deferred goes.
+fn end20(words: &mut [u64; 32], place: Place) -> Option<IoApicInterrupt>
+    requires { (remote_irr (entry_at (view words.old) place.index).word ≡ true) × (is_level (entry_at (view words.old) place.index).word ≡ true) }
+    ensures { Keeps words.old words.new (routing (view words.new) result ≡ route_at (view words.old) place.index (end_entry20 (entry_at (view words.old) place.index))) }
 {
-    let word = word_at(words, g);
-    if is_deferred(words, g) {
-        set_deferred(words, g, false);
-        return resend(words, g, word);
+    let word = word_at(words, place);
+    if is_deferred(words, place) {
+        set_deferred(words, place, false);
+        return resend(words, place, word);
     }
-    if is_up(words, g) {
-        return resend(words, g, word);
+    if is_up(words, place) {
+        return resend(words, place, word);
     }
-    rest(words, g, word);
+    rest(words, place, word);
     None
 }
 
-// The turn of entry g, which ends if it awaits the EOI.
-fn end_at(words: &mut [u64; 32], g: usize, vector: Vector, ends: Ends) -> Ends
-    requires { g < 24 }
-    ensures { Keeps words.old words.new (every_end (view words.new) (cleared_in result) (sent_in result) ≡ end_next vector (every_end (view words.old) (cleared_in ends) (sent_in ends)) g) }
+// The turn of entry place, which ends if it awaits the EOI.
+fn end_at(words: &mut [u64; 32], place: Place, vector: Vector, ends: Ends) -> Ends
+    ensures { Keeps words.old words.new (every_end (view words.new) (cleared_in result) (sent_in result) ≡ end_next vector (every_end (view words.old) (cleared_in ends) (sent_in ends)) place.index) }
 {
-    if !awaits_at(words, g, vector) {
+    if !awaits_at(words, place, vector) {
         return ends;
     }
-    let answer = end20(words, g);
-    let cleared = set64::with(ends.0, g as u64);
+    let answer = end20(words, place);
+    let cleared = ends.0.with(place.index as u32);
     if answer.is_some() {
-        return Ends(set64::with(cleared, g as u64 + 24));
+        return Ends(cleared.with(place.index as u32 + 24));
     }
     Ends(cleared)
 }
@@ -617,11 +583,8 @@ fn end_every(words: &mut [u64; 32], vector: Vector) -> Ends
     ensures { Keeps words.old words.new (every_ending (every_end (view words.new) (cleared_in result) (sent_in result)) ≡ end_of_every (view words.old) vector) }
 {
     let mut ends = Ends(0);
-    let mut left = in_flight(words);
-    while left != 0 {
-        let g = set32::lowest(left);
-        ends = end_at(words, g as usize, vector, ends);
-        left = set32::without(left, g);
+    for k in Members(in_flight(words)) {
+        ends = end_at(words, Place { index: k as usize }, vector, ends);
     }
     ends
 }
@@ -684,7 +647,7 @@ fn read_at(words: &[u64; 32], offset: u64) -> u64
     ensures { result ≡ read_at (view words.now) offset }
 {
     if offset == IOREGSEL {
-        return selector(words) as u64;
+        return u64::from(selector(words));
     }
     if offset == IOWIN {
         return read_selected_register(words);
@@ -718,58 +681,55 @@ pub fn handle_read(words: &[u64; 32], addr: u64, width: u64) -> Result<u64, Refu
 }
 
 // The register is `after`, which isn't in flight.
-fn ground(words: &mut [u64; 32], g: usize, word: u64, after: u64)
-    requires { (g < 24) × (word ≡ (entry_at (view words.old) g).word) × (remote_irr after ≡ false) }
-    ensures { Keeps words.old words.new (view words.new ≡ put (view words.old) g (with_word (entry_at (view words.old) g) after)) }
+fn ground(words: &mut [u64; 32], place: Place, word: u64, after: u64)
+    requires { (word ≡ (entry_at (view words.old) place.index).word) × (remote_irr after ≡ false) }
+    ensures { Keeps words.old words.new (view words.new ≡ put (view words.old) place.index (with_word (entry_at (view words.old) place.index) after)) }
 {
-    seen(&*words);
-    words[g] = after;
+    words[place.index] = after;
     if vioapic_entry::remote_irr(word) {
-        set_flag(words, IN_FLIGHT, g, false);
+        set_flag(words, IN_FLIGHT, place, false);
     }
 }
 
-fn write_low(words: &mut [u64; 32], g: usize, value: u32)
-    requires { g < 24 }
-    ensures { Keeps words.old words.new (view words.new ≡ put (view words.old) g (write_low (entry_at (view words.old) g) value)) }
+fn write_low(words: &mut [u64; 32], place: Place, value: u32)
+    ensures { Keeps words.old words.new (view words.new ≡ put (view words.old) place.index (write_low (entry_at (view words.old) place.index) value)) }
 {
     // As mostly, and found at once: nothing is there to be forgotten.
     if none_deferred(words) {
-        let register = word_at(words, g);
-        if !vioapic_entry::same_low(register, value as u64) {
+        let register = word_at(words, place);
+        if !vioapic_entry::same_low(register, u64::from(value)) {
             ground(
                 words,
-                g,
+                place,
                 register,
                 vioapic_entry::replace_low(register, value),
             );
         }
         return;
     }
-    let word = word_at(words, g);
-    if !vioapic_entry::same_low(word, value as u64) {
-        set_deferred(words, g, false);
-        ground(words, g, word, vioapic_entry::replace_low(word, value));
+    let word = word_at(words, place);
+    if !vioapic_entry::same_low(word, u64::from(value)) {
+        set_deferred(words, place, false);
+        ground(words, place, word, vioapic_entry::replace_low(word, value));
         return;
     }
     if vioapic_entry::is_masked(word) {
-        set_deferred(words, g, false);
+        set_deferred(words, place, false);
     }
 }
 
 // Version 0x20: the register takes a low word. First as one that isn't in flight, whatever it was: so it is one store of the lower half. `word` is the register before.
 // Answers whether that is all, as mostly of an entry in flight: it stays in flight, and nothing is there to be forgotten.
-fn lay(words: &mut [u64; 32], selected: u32, g: usize, word: u64, value: u32) -> bool
-    requires { (g < 24) × (is_entry_word selected ≡ true) × (g ≡ entry_of selected) × (word ≡ (entry_at (view words.old) g).word) }
-    ensures { Keeps words.old words.new (view words.new ≡ put (view words.old) g (with_word (entry_at (view words.old) g) (replace_low20 word value))) × (result ≡ true → Flown word (entry_at (view words.old) g)) }
+fn lay(words: &mut [u64; 32], selected: u32, place: Place, word: u64, value: u32) -> bool
+    requires { (is_entry_word selected ≡ true) × (place.index ≡ entry_of selected) × (word ≡ (entry_at (view words.old) place.index).word) }
+    ensures { Keeps words.old words.new (view words.new ≡ put (view words.old) place.index (with_word (entry_at (view words.old) place.index) (replace_low20 word value))) × (result ≡ true → Flown word (entry_at (view words.old) place.index)) }
 {
-    seen(&*words);
-    words[g] = vioapic_entry::replace_resting(word, value);
+    words[place.index] = vioapic_entry::replace_resting(word, value);
     if !vioapic_entry::remote_irr(word) {
         return false;
     }
-    if !vioapic_entry::is_level(value as u64) {
-        set_flag(words, IN_FLIGHT, g, false);
+    if !vioapic_entry::is_level(u64::from(value)) {
+        set_flag(words, IN_FLIGHT, place, false);
         return false;
     }
     if none_deferred(words) {
@@ -778,14 +738,13 @@ fn lay(words: &mut [u64; 32], selected: u32, g: usize, word: u64, value: u32) ->
         words[again] = vioapic_entry::with_remote_irr(words[again]);
         return true;
     }
-    words[g] = vioapic_entry::replace_level(word, value);
+    words[place.index] = vioapic_entry::replace_level(word, value);
     false
 }
 
 // What was deferred is forgotten, unless the low word that was there is written, unmasked. `word` is the register before.
-fn forget(words: &mut [u64; 32], g: usize, word: u64, value: u32)
-    requires { g < 24 }
-    ensures { Keeps words.old words.new (view words.new ≡ put (view words.old) g (forgetting word (entry_at (view words.old) g) value)) }
+fn forget(words: &mut [u64; 32], place: Place, word: u64, value: u32)
+    ensures { Keeps words.old words.new (view words.new ≡ put (view words.old) place.index (forgetting word (entry_at (view words.old) place.index) value)) }
 {
     // As mostly, and found at once.
     if none_deferred(words) {
@@ -794,33 +753,23 @@ fn forget(words: &mut [u64; 32], g: usize, word: u64, value: u32)
     if vioapic_entry::keeps_deferred(word, value) {
         return;
     }
-    set_deferred(words, g, false);
+    set_deferred(words, place, false);
 }
 
 // A level entry, its line up, that isn't in flight. `word` is its register.
-fn is_owed(words: &[u64; 32], g: usize, word: u64) -> bool
-    requires { (g < 24) × (word ≡ (entry_at (view words.now) g).word) }
-    ensures { result ≡ is_owed (entry_at (view words.now) g) }
+fn is_owed(words: &[u64; 32], place: Place, word: u64) -> bool
+    requires { word ≡ (entry_at (view words.now) place.index).word }
+    ensures { result ≡ is_owed (entry_at (view words.now) place.index) }
 {
-    if !is_up(words, g) {
-        return false;
-    }
-    if !vioapic_entry::is_level(word) {
-        return false;
-    }
-    !vioapic_entry::remote_irr(word)
+    is_up(words, place) && vioapic_entry::is_level(word) && !vioapic_entry::remote_irr(word)
 }
 
 // The line is down, and nothing is deferred.
-fn is_quiet(words: &[u64; 32], g: usize) -> bool
-    requires { g < 24 }
-    ensures { result ≡ true → Quiet (entry_at (view words.now) g) }
+fn is_quiet(words: &[u64; 32], place: Place) -> bool
+    ensures { result ≡ true → Quiet (entry_at (view words.now) place.index) }
 {
-    if !none_deferred(words) {
-        return false;
-    }
     // By the lower half of the word: the compiler then doesn't make the line's bit for what comes after.
-    !set32::has((words[INPUT] % 0x1_0000_0000) as u32, g as u32)
+    none_deferred(words) && !((words[INPUT] % 0x1_0000_0000) as u32).has(place.index as u32)
 }
 
 // And the entry is sent if it is owed that. One in flight isn't: with a level word it stays in flight, and an edge one isn't owed anything. Else the usual case first:
@@ -828,37 +777,35 @@ fn is_quiet(words: &[u64; 32], g: usize) -> bool
 fn write_low20(
     words: &mut [u64; 32],
     selected: u32,
-    g: usize,
+    place: Place,
     value: u32,
 ) -> Option<IoApicInterrupt>
-    requires { (g < 24) × (is_entry_word selected ≡ true) × (g ≡ entry_of selected) }
-    ensures { Keeps words.old words.new (routing (view words.new) result ≡ route_at (view words.old) g (write_low20 (entry_at (view words.old) g) value)) }
+    requires { (is_entry_word selected ≡ true) × (place.index ≡ entry_of selected) }
+    ensures { Keeps words.old words.new (routing (view words.new) result ≡ route_at (view words.old) place.index (write_low20 (entry_at (view words.old) place.index) value)) }
 {
-    let word = word_at(words, g);
-    if lay(words, selected, g, word, value) {
+    let word = word_at(words, place);
+    if lay(words, selected, place, word, value) {
         return None;
     }
     if vioapic_entry::remote_irr(word) {
-        forget(words, g, word, value);
+        forget(words, place, word, value);
         return None;
     }
-    if is_quiet(words, g) {
+    if is_quiet(words, place) {
         return None;
     }
-    forget(words, g, word, value);
+    forget(words, place, word, value);
     let after = vioapic_entry::replace_resting(word, value);
-    if is_owed(words, g, after) {
-        return interrupt_for_entry(words, g, after);
+    if is_owed(words, place, after) {
+        return interrupt_for_entry(words, place, after);
     }
     None
 }
 
-fn write_high(words: &mut [u64; 32], g: usize, value: u32)
-    requires { g < 24 }
-    ensures { Keeps words.old words.new (view words.new ≡ put (view words.old) g (write_high (entry_at (view words.old) g) value)) }
+fn write_high(words: &mut [u64; 32], place: Place, value: u32)
+    ensures { Keeps words.old words.new (view words.new ≡ put (view words.old) place.index (write_high (entry_at (view words.old) place.index) value)) }
 {
-    seen(&*words);
-    words[g] = vioapic_entry::replace_high(words[g], value);
+    words[place.index] = vioapic_entry::replace_high(words[place.index], value);
 }
 
 fn write_selected_register(words: &mut [u64; 32], value: u32) -> Written
@@ -866,15 +813,15 @@ fn write_selected_register(words: &mut [u64; 32], value: u32) -> Written
 {
     let selected = selector(words);
     if is_entry_word(selected) {
-        let g = entry_of(selected);
+        let place = entry_of(selected);
         if is_low(selected) {
             if is_version_20(words) {
-                return Written::from(write_low20(words, selected, g, value));
+                return Written::from(write_low20(words, selected, place, value));
             }
-            write_low(words, g, value);
+            write_low(words, place, value);
             return Written::Done;
         }
-        write_high(words, g, value);
+        write_high(words, place, value);
         return Written::Done;
     }
     Written::Done
@@ -894,14 +841,13 @@ fn write_eoi(words: &mut [u64; 32], value: u32) -> Written
 fn with_low(word: u64, value: u32) -> u64
     ensures { result ≡ with_low word value }
 {
-    word / 0x1_0000_0000 * 0x1_0000_0000 + value as u64
+    word / 0x1_0000_0000 * 0x1_0000_0000 + u64::from(value)
 }
 
 // IOREGSEL.
 fn select(words: &mut [u64; 32], value: u32) -> Written
     ensures { Keeps words.old words.new (writing (view words.new) (Ok result) ≡ write_at (view words.old) 0 value) }
 {
-    seen(&*words);
     words[SELECTOR] = with_low(words[SELECTOR], value);
     Written::Done
 }
@@ -1031,18 +977,17 @@ fn vector_of_entry(word: u64) -> Option<Vector>
 fn is_entry_word(selector: u32) -> bool
     ensures { result ≡ is_entry_word selector }
 {
-    if IOREDTBL_BASE <= selector {
-        return selector <= IOREDTBL_LAST;
-    }
-    false
+    IOREDTBL_BASE <= selector && selector <= IOREDTBL_LAST
 }
 
 // Which entry the selector names: always one of the table's, so that the Rust's `InvalidInput` can't occur.
-fn entry_of(selector: u32) -> usize
+fn entry_of(selector: u32) -> Place
     requires { is_entry_word selector ≡ true }
-    ensures { (result ≡ entry_of selector) × (result < 24) }
+    ensures { result.index ≡ entry_of selector }
 {
-    ((selector - IOREDTBL_BASE) / 2) as usize
+    Place {
+        index: ((selector - IOREDTBL_BASE) / 2) as usize,
+    }
 }
 
 fn is_low(selector: u32) -> bool
@@ -1054,10 +999,7 @@ fn is_low(selector: u32) -> bool
 fn good_width(width: u64) -> bool
     ensures { result ≡ good_width width }
 {
-    if width == 4 {
-        return true;
-    }
-    width == 8
+    matches!(width, 4 | 8)
 }
 
 // base + size is at most 2^64 - 1.

@@ -1,19 +1,20 @@
-use Rattle.vioapic.proofs.Flight.{left_index, left_bit, left_less, left_small}
+use Rattle.vioapic.proofs.Flight.{left_index, left_small}
 use Rattle.vioapic.proofs.Every.{next_turn, all_turns}
-use borrow.Author.Rules.{rules}
 use Rattle.vioapic.proofs.end_every.Goals as goal
 
-pub end_at-ends-requires : goal.end_at-ends-requires
-end_at-ends-requires c = search (rules, left_index)
+pub invariant_of-end_at : goal.invariant_of-end_at
+invariant_of-end_at c =
+    let step = c.in-Some.ensures.steps in
+    record { in_table = left_index _ _ c.loop-k.invariant.2 step.0 step.1 }
 
-pub without-left-requires : goal.without-left-requires
-without-left-requires c = search (rules, left_bit)
-
-pub loop-left-smaller : goal.loop-left-smaller
-loop-left-smaller c = search left_less
-
-pub loop-left-preserved : goal.loop-left-preserved
-loop-left-preserved c = (search left_small, search next_turn)
+pub loop-k-preserved : goal.loop-k-preserved
+loop-k-preserved c =
+    let step = c.in-Some.ensures.steps in (
+      tt,
+      tt,
+      left_small _ _ c.loop-k.invariant.2 step.0 step.1 _ step.3,
+      next_turn _ _ _ _ _ _ _ _ _ c.loop-k.invariant.2 step.0 step.1 step.3 c.loop-k.invariant.3 c.end_at-ends.ensures,
+    )
 
 pub returns : goal.returns
-returns c = search all_turns
+returns c = all_turns _ _ _ _ _ c.in-None.ensures.steps.0 c.loop-k.invariant.3

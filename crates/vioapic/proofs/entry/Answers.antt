@@ -1,5 +1,5 @@
-use Rattle.vioapic.proofs.Words.{entry_past}
+use Rattle.vioapic.proofs.Words.{entry_past, past}
 use Rattle.vioapic.proofs.entry.Goals as goal
 
-pub returns : goal.returns
-returns c = search entry_past
+pub returns-in-None : goal.returns-in-None
+returns-in-None c = entry_past _ _ (past _ c.in-None.ensures.found.1)

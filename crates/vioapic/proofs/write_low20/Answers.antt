@@ -1,5 +1,4 @@
 use Rattle.vioapic.proofs.Entries.{low20_flown, low20_rested, low20_sent, low20_stayed, low20_unsent, word_stored}
-use borrow.Author.Rules.{rules}
 use Rattle.vioapic.proofs.write_low20.Goals as goal
 
 pub returns-then-lay : goal.returns-then-lay
@@ -12,10 +11,10 @@ pub returns-then-is_quiet : goal.returns-then-is_quiet
 returns-then-is_quiet c = search low20_rested
 
 pub is_owed-requires : goal.is_owed-requires
-is_owed-requires c = (search rules, word_stored _ _ _ _ _ (search rules) c.word_at-word.ensures _ c.remote_irr.ensures c.lay.ensures.0 _ c.forget-2.ensures _ c.if-remote_irr.false c.replace_resting-after.ensures)
+is_owed-requires c = word_stored _ _ _ _ _ c.args.place.in_table c.word_at-word.ensures _ c.remote_irr.ensures c.lay.ensures.0 _ c.forget-2.ensures _ c.if-remote_irr.false c.replace_resting-after.ensures
 
 pub interrupt_for_entry-requires : goal.interrupt_for_entry-requires
-interrupt_for_entry-requires c = (search rules, word_stored _ _ _ _ _ (search rules) c.word_at-word.ensures _ c.remote_irr.ensures c.lay.ensures.0 _ c.forget-2.ensures _ c.if-remote_irr.false c.replace_resting-after.ensures)
+interrupt_for_entry-requires c = word_stored _ _ _ _ _ c.args.place.in_table c.word_at-word.ensures _ c.remote_irr.ensures c.lay.ensures.0 _ c.forget-2.ensures _ c.if-remote_irr.false c.replace_resting-after.ensures
 
 pub returns-then-is_owed : goal.returns-then-is_owed
 returns-then-is_owed c = search low20_sent
