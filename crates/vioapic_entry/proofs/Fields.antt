@@ -1,10 +1,10 @@
 -- What setting and clearing Remote IRR, and writing a half of the register, do to its fields. Assumes nothing.
-use Prim.Native.Nat.{ℕ, zero, suc, ◌+◌, ◌*◌, ◌/◌, ◌%◌, ◌<◌}
+use Prim.Native.Nat.{ℕ, zero, suc, ◌+◌, ◌-◌, ◌*◌, ◌/◌, ◌%◌, ◌^◌, ◌<◌}
 use native.Mathlib.Omega.{arith}
 use mathlib.Core.Bool.{Bool, true, false, cond}
 use mathlib.Core.Path.{◌≡◌, refl, sym, ◌∙◌, ap}
 use borrow.Author.Tests.{eq-eqb, ne_eqb, eqb-true, eqb-false}
-use Rattle.utils.specs.Set.{bit}
+use Rattle.utils.specs.Set.{bit, with, without}
 use Rattle.types.specs.declared.Vector.{Vector}
 use Rattle.vioapic_entry.specs.Redirection.{remote_irr, is_level, is_fit, has_vector, with_remote_irr, without_remote_irr, low_part, replace_low, replace_high, without_status, keeps_flight, replace_low20}
 
@@ -30,6 +30,37 @@ module _ {u w : ℕ} (a : Alike u w) where
 
   pub same_vector : (v : Vector) → has_vector u v ≡ has_vector w v
   same_vector v = rw a.vector
+
+bit_down : (n : ℕ) → n < 2 → (n ≡ 1 → ⊥) → n ≡ 0
+bit_down zero h k = refl
+bit_down (suc zero) h k = absurd (k refl)
+bit_down (suc (suc n)) h k = absurd (omega arith)
+
+-- as the word's set has it
+module _ (w : ℕ) where
+  pub with_irr : with w 14 ≡ with_remote_irr w
+  unfolding with
+  with_irr = go (bit w 14) refl
+    where
+      go : (b : Bool) → bit w 14 ≡ b → cond b w (w + 2 ^ 14) ≡ with_remote_irr w
+      go true h = let e : w / 2 ^ 14 % 2 ≡ 1 = eqb-true _ _ h in omega (arith, e)
+      go false h = let e : w / 2 ^ 14 % 2 ≡ 0 = bit_down _ (omega arith) (eqb-false _ _ h) in omega (arith, e)
+
+  pub without_irr : without w 14 ≡ without_remote_irr w
+  unfolding without
+  without_irr = go (bit w 14) refl
+    where
+      go : (b : Bool) → bit w 14 ≡ b → cond b (w - 2 ^ 14) w ≡ without_remote_irr w
+      go true h = let e : w / 2 ^ 14 % 2 ≡ 1 = eqb-true _ _ h in omega (arith, e)
+      go false h = let e : w / 2 ^ 14 % 2 ≡ 0 = bit_down _ (omega arith) (eqb-false _ _ h) in omega (arith, e)
+
+  pub without_status_bit : without w 12 ≡ without_status w
+  unfolding without
+  without_status_bit = go (bit w 12) refl
+    where
+      go : (b : Bool) → bit w 12 ≡ b → cond b (w - 2 ^ 12) w ≡ without_status w
+      go true h = let e : w / 2 ^ 12 % 2 ≡ 1 = eqb-true _ _ h in omega (arith, e)
+      go false h = let e : w / 2 ^ 12 % 2 ≡ 0 = bit_down _ (omega arith) (eqb-false _ _ h) in omega (arith, e)
 
 -- bits 15 and 16 stand above Remote IRR
 upper : (u w : ℕ) → u / 32768 ≡ w / 32768 → (u / 32768 % 2 ≡ w / 32768 % 2) × (u / 65536 % 2 ≡ w / 65536 % 2)
@@ -70,11 +101,6 @@ pub low_written : (w x : ℕ) → x < 4294967296 → low_part (replace_low w x) 
 low_written w x h = omega arith
 
 -- ---- version 0x20
-
-bit_down : (n : ℕ) → n < 2 → (n ≡ 1 → ⊥) → n ≡ 0
-bit_down zero h k = refl
-bit_down (suc zero) h k = absurd (k refl)
-bit_down (suc (suc n)) h k = absurd (omega arith)
 
 -- a level word: Remote IRR is taken over as it stands
 pub level_low : (w x : ℕ) → w / 4294967296 * 4294967296 + w / 16384 % 2 * 16384 + without_remote_irr x ≡ cond (remote_irr w) (with_remote_irr (replace_low w x)) (replace_low w x)

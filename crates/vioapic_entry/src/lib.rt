@@ -12,6 +12,7 @@ ghost use Rattle.vioapic_entry.specs.Answers.{interrupt_reply};
 ghost use Rattle.vioapic_entry.specs.Redirection.{vector_of, remote_irr, is_level, is_masked, with_remote_irr, without_remote_irr, is_fit, same_low, replace_low, replace_high, without_status, keeps_deferred, awaits};
 
 use types::{Reply, ToReply, Vector};
+use utils::Set;
 
 // A redirection entry: its register, whether a level interrupt was deferred, and the level of its input line.
 #[derive(Clone, Copy, Debug, PartialEq, Eq, Hash)]
@@ -39,6 +40,14 @@ impl ToReply for IoApicInterrupt {
 
 // ---- The fields of the register
 
+const DELIVERY_STATUS: u32 = 12;
+
+const REMOTE_IRR: u32 = 14;
+
+const TRIGGER_MODE: u32 = 15;
+
+const MASK: u32 = 16;
+
 pub fn vector_of(word: u64) -> Vector
     ensures { result ≡ vector_of word }
 {
@@ -48,34 +57,36 @@ pub fn vector_of(word: u64) -> Vector
 pub fn remote_irr(word: u64) -> bool
     ensures { result ≡ remote_irr word }
 {
-    word / 0x4000 % 2 == 1
+    word.has(REMOTE_IRR)
 }
 
 pub fn is_level(word: u64) -> bool
     ensures { result ≡ is_level word }
 {
-    word / 0x8000 % 2 == 1
+    word.has(TRIGGER_MODE)
 }
 
 pub fn is_masked(word: u64) -> bool
     ensures { result ≡ is_masked word }
 {
-    word / 0x1_0000 % 2 == 1
+    word.has(MASK)
 }
 
+#[tactic(auto, using(crate::proofs::Fields::with_irr))]
 pub fn with_remote_irr(word: u64) -> u64
     ensures { result ≡ with_remote_irr word }
 {
-    word / 0x8000 * 0x8000 + 0x4000 + word % 0x4000
+    word.with(REMOTE_IRR)
 }
 
+#[tactic(auto, using(crate::proofs::Fields::without_irr))]
 pub fn without_remote_irr(word: u64) -> u64
     ensures { result ≡ without_remote_irr word }
 {
-    word / 0x8000 * 0x8000 + word % 0x4000
+    word.without(REMOTE_IRR)
 }
 
-// Unmasked, of fixed delivery, with a vector that can be delivered: the mask, the delivery mode and the vector's upper half in one
+// Unmasked, of fixed delivery, with a vector that can be delivered. Stays: what may not change (DECISIONS, "Two tests became one comparison"): the mask, the delivery mode and the vector's upper half in one
 // number, since every send asks it.
 pub fn is_fit(word: u64) -> bool
     ensures { result ≡ is_fit word }
@@ -96,13 +107,13 @@ pub fn same_low(word: u64, value: u64) -> bool
 pub fn replace_low(word: u64, value: u32) -> u64
     ensures { result ≡ replace_low word value }
 {
-    word / 0x1_0000_0000 * 0x1_0000_0000 + without_remote_irr(value as u64)
+    word / 0x1_0000_0000 * 0x1_0000_0000 + without_remote_irr(u64::from(value))
 }
 
 pub fn replace_high(word: u64, value: u32) -> u64
     ensures { result ≡ replace_high word value }
 {
-    value as u64 * 0x1_0000_0000 + word % 0x1_0000_0000
+    u64::from(value) * 0x1_0000_0000 + word % 0x1_0000_0000
 }
 
 // Version 0x20, in which Delivery Status and Remote IRR are read-only.
@@ -110,20 +121,21 @@ pub fn replace_high(word: u64, value: u32) -> u64
 pub fn has_status(word: u64) -> bool
     ensures { result ≡ bit word 12 }
 {
-    word / 0x1000 % 2 == 1
+    word.has(DELIVERY_STATUS)
 }
 
+#[tactic(auto, using(crate::proofs::Fields::without_status_bit))]
 pub fn without_status(word: u64) -> u64
     ensures { result ≡ without_status word }
 {
-    word / 0x2000 * 0x2000 + word % 0x1000
+    word.without(DELIVERY_STATUS)
 }
 
 // The register of an entry that isn't in flight.
 pub fn replace_resting(word: u64, value: u32) -> u64
     ensures { result ≡ replace_low word (without_status value) }
 {
-    replace_low(word, without_status(value as u64) as u32)
+    replace_low(word, without_status(u64::from(value)) as u32)
 }
 
 // With a level word: Remote IRR stays as it is. By the word alone, and not by what `replace_resting` gives, so that nothing waits for that.
@@ -132,25 +144,22 @@ pub fn replace_level(word: u64, value: u32) -> u64
 {
     word / 0x1_0000_0000 * 0x1_0000_0000
         + word / 0x4000 % 2 * 0x4000
-        + without_remote_irr(without_status(value as u64))
+        + without_remote_irr(without_status(u64::from(value)))
 }
 
 pub fn keeps_deferred(word: u64, value: u32) -> bool
     ensures { result ≡ keeps_deferred word value }
 {
-    if same_low(without_status(word), without_status(value as u64)) {
-        return !is_masked(value as u64);
-    }
-    false
+    same_low(without_status(word), without_status(u64::from(value))) && !is_masked(u64::from(value))
 }
 
 impl Entry {
-    // Whether an EOI of the vector ends it: level, in flight and of that vector, all in one comparison, since an EOI asks it of every
-    // entry in flight.
+    // Whether an EOI of the vector ends it: level, in flight and of that vector. Stays: what may not change (DECISIONS, "Two tests became
+    // one comparison"), since an EOI asks it of every entry in flight.
     pub fn awaits(self, vector: Vector) -> bool
         ensures { result ≡ awaits vector self }
     {
         let word = self.word;
-        word / 0x4000 % 4 * 0x4000 + word % 0x100 == 0xc000 + vector.0 as u64
+        word / 0x4000 % 4 * 0x4000 + word % 0x100 == 0xc000 + u64::from(vector.0)
     }
 }
