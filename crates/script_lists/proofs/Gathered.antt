@@ -116,3 +116,6 @@ module _ (w vs : List ℕ) (n : ℕ) (f : Gathered w vs n) where
 
   pub gathered_all : length w ≤ n → (take n vs ≡ w) × IsPrefixLen n vs
   gathered_all h = (f.same ∙ take_all n w h, prefix_len_of_le n vs (omega (arith, f.within, f.size)))
+
+  pub gathered_end : 64 ≤ n → length w ≤ 64 → (take 64 vs ≡ w) × IsPrefixLen 64 vs
+  gathered_end h k = let all : n ≡ 64 = omega (arith, f.within) in rw all at (gathered_all (omega arith))

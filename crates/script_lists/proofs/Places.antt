@@ -1,22 +1,16 @@
 -- What stands at a place, for each way that the reader returns. Assumes nothing.
-use mathlib.Core.Path.{◌≡◌, ap, ◌∙◌}
+use mathlib.Core.Path.{◌≡◌}
 use mathlib.Core.List.{List}
-use Prim.Native.Nat.{ℕ, ◌+◌, ◌-◌, ◌*◌, ◌≤◌, ◌<◌}
+use Prim.Native.Nat.{ℕ, ◌+◌, ◌-◌, ◌≤◌, ◌<◌}
 use native.Mathlib.Omega.{arith}
 use lib.ListN.{length, get_or, take, drop, get_or-eq_default}
 use borrow.Author.Tests.{lt-ltb, le-ltb}
-use Rattle.script_format.specs.Format.{number_at}
-use Rattle.script_format.specs.Fields.{length_at, end_at}
-use Rattle.script_format.proofs.Numbers.{joined}
-use Rattle.script_lists.specs.declared.ListBody.{ListBody}
-use Rattle.script_lists.specs.declared.ListField.{ListField}
-use Rattle.script_lists.specs.declared.ListField.TheVariants.{Bad, Other}
-use Rattle.script_lists.specs.Fields.{decoded, field_of, list_field_at}
-
-pub length_is : (s : List ℕ) (at x y : ℕ) → x ≡ number_at s (at + 1) 1 → y ≡ number_at s (at + 2) 1 → x + 256 * y ≡ length_at s at
-length_is s at x y p q =
-    let z : at + 2 ≡ at + 1 + 1 = omega arith in
-    joined s 1 1 (at + 1) x y p (q ∙ ap (λ (k : ℕ). number_at s k 1) z)
+use Rattle.script_format.specs.Fields.{Bad, length_at, end_at, field_of}
+use Rattle.std.specs.Prelude.{Option, Result}
+use Rattle.script_format.specs.declared.BadField.{BadField}
+use Rattle.script_format.specs.declared.Field.{Field}
+use Rattle.script_lists.specs.declared.ListCall.{ListCall}
+use Rattle.script_lists.specs.Fields.{Other, decoded, list_field_at}
 
 module _ (s : List ℕ) (at : ℕ) where
   pub ended : length s ≤ at → Other ≡ list_field_at s at
@@ -37,7 +31,7 @@ module _ (s : List ℕ) (at : ℕ) where
       unfolding list_field_at
       cut_off c = rw (le-ltb (get_or s at 0) 0x40 t, le-ltb (length s) (at + 3) (omega arith), lt-ltb (length s) (end_at s at) (omega arith))
 
-      pub whole : (b : ListBody) (f : ListField) → n ≤ length s - (at + 3)
+      pub whole : (b : Option ListCall) (f : Result (Option (Field ListCall)) BadField) → n ≤ length s - (at + 3)
           → b ≡ decoded (get_or s at 0) (take (at + 3 + n - (at + 3)) (drop (at + 3) s))
           → f ≡ field_of (get_or s at 0) b (at + 3 + n)
           → f ≡ list_field_at s at

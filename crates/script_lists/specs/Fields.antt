@@ -1,14 +1,12 @@
 -- The fields of the waiting lists in a script (document 02, T-13, which names none: these are the house's own), as one table: for each tag how many numbers of one byte are in its
 -- body, and the call that they make. A field has the form of document 01's: tag, length, body.
-use Rattle.std.specs.Prelude.{ℕ, ◌+◌, cond, List, [], ◌∷◌, eqb, ltb, length, get_or}
+use Rattle.std.specs.Prelude.{ℕ, ◌+◌, cond, List, [], ◌∷◌, eqb, ltb, length, get_or, Option, Some, None, Result, Ok}
 use Rattle.script_format.specs.Format.{number_at}
-use Rattle.script_format.specs.Fields.{end_at, body_at}
+use Rattle.script_format.specs.Fields.{Bad, end_at, body_at, field_of}
+use Rattle.script_format.specs.declared.BadField.{BadField}
+use Rattle.script_format.specs.declared.Field.{Field}
 use Rattle.script_lists.specs.declared.ListCall.{ListCall}
 use Rattle.script_lists.specs.declared.ListCall.TheVariants.{Take, Deliver, Cancel, ClaimIrq, ClaimPendingInterrupt, New}
-use Rattle.script_lists.specs.declared.ListBody.{ListBody}
-use Rattle.script_lists.specs.declared.ListBody.TheVariants.{Says, Malformed}
-use Rattle.script_lists.specs.declared.ListField.{ListField}
-use Rattle.script_lists.specs.declared.ListField.TheVariants.{Good, Bad, Other}
 
 pub record Format : Type 0 where
   pub tag : ℕ
@@ -29,23 +27,23 @@ list_formats =
     ∷ []
 
 -- the call, if the body has its size
-abbrev pub checked : List ℕ → ℕ → ListCall → ListBody
-checked body size call = cond (eqb (length body) size) (Says call) Malformed
+abbrev pub checked : List ℕ → ℕ → ListCall → Option ListCall
+checked body size call = cond (eqb (length body) size) (Some call) None
 
 -- the first row with the tag decides; a tag that no row has is unknown
-abbrev pub decoded_in : List Format → ℕ → List ℕ → ListBody
-decoded_in [] tag body = Malformed
+abbrev pub decoded_in : List Format → ℕ → List ℕ → Option ListCall
+decoded_in [] tag body = None
 decoded_in (f ∷ fs) tag body = cond (eqb tag f.tag) (checked body f.size (f.call (number_at body 0 1) (number_at body 1 1))) (decoded_in fs tag body)
 
-unfoldable pub decoded : ℕ → List ℕ → ListBody
+unfoldable pub decoded : ℕ → List ℕ → Option ListCall
 decoded tag body = decoded_in list_formats tag body
 
-abbrev pub field_of : ℕ → ListBody → ℕ → ListField
-field_of tag (Says call) next = Good tag call (record { at = next })
-field_of tag Malformed next = Bad
+-- nothing of the lists
+abbrev pub Other : Result (Option (Field ListCall)) BadField
+Other = Ok None
 
 -- what stands at a place: a tag below 40 is no field of the lists, nor is the end; a field whose header or body is cut off is bad, and so is one that the table doesn't know
-unfoldable pub list_field_at : List ℕ → ℕ → ListField
+unfoldable pub list_field_at : List ℕ → ℕ → Result (Option (Field ListCall)) BadField
 list_field_at s at =
     cond (ltb (get_or s at 0) 0x40) Other
     (cond (ltb (length s) (at + 3)) Bad

@@ -1,10 +1,14 @@
-use Prim.Native.Nat.{◌-◌}
-use native.Mathlib.Omega.{arith}
-use Rattle.script_lists.proofs.Gathered.{gathered_more, gathered_all, gave, gave_none, refused, waits_le}
+use mathlib.Core.Path.{◌∙◌}
+use Rattle.script_lists.proofs.Gathered.{gathered_none, gathered_more, gathered_all, gathered_end, gave, gave_none, refused, waits_le}
 use Rattle.script_lists.proofs.gather.Goals as goal
 
+pub loop-n-init : goal.loop-n-init
+loop-n-init c = gathered_none _ _ c.requires
+
 pub loop-n-preserved : goal.loop-n-preserved
-loop-n-preserved c = gathered_more _ _ _ c.loop-n.invariant _ c.loop-n-test.true (gave _ _ _ c.peek.result c.peek.ensures _ c.in-Given.is)
+loop-n-preserved c =
+    let g = gave _ _ _ c.peek.result c.peek.ensures _ c.in-Given.is in
+    gathered_more _ _ _ c.loop-n.invariant _ c.loop-n-test.true (g.0, c.from.ensures ∙ g.1)
 
 pub returns-in-Nothing : goal.returns-in-Nothing
 returns-in-Nothing c =
@@ -18,5 +22,5 @@ returns-in-Refused c =
 
 pub returns : goal.returns
 returns c =
-    let whole = gathered_all _ _ _ c.loop-n.invariant (omega (arith, waits_le c.args.lists.now c.args.vcpu, c.loop-n-test.false)) in
+    let whole = gathered_end _ _ _ c.loop-n.invariant c.loop-n-test.false (waits_le c.args.lists.now c.args.vcpu) in
     record { vectors_after = whole.0; prefix_len = whole.1 }

@@ -1,4 +1,5 @@
-use Rattle.script_lists.proofs.Places.{length_is, ended, machines, no_header, cut_off, whole}
+use mathlib.Core.Path.{◌∙◌}
+use Rattle.script_lists.proofs.Places.{ended, machines, no_header, cut_off, whole}
 use Rattle.script_lists.proofs.read.Goals as goal
 
 pub returns-then-script-at : goal.returns-then-script-at
@@ -11,7 +12,7 @@ pub returns-then-script-at-lt3 : goal.returns-then-script-at-lt3
 returns-then-script-at-lt3 c = no_header _ _ c.if-tag-lt64.false c.if-script-at.false c.if-script-at-lt3.true
 
 pub returns-then-script-start : goal.returns-then-script-start
-returns-then-script-start c = cut_off _ _ c.if-tag-lt64.false c.if-script-at.false c.if-script-at-lt3.false _ (length_is _ _ _ _ c.byte.ensures c.byte-2.ensures) c.if-script-start.true
+returns-then-script-start c = cut_off _ _ c.if-tag-lt64.false c.if-script-at.false c.if-script-at-lt3.false _ (c.from-size.ensures ∙ c.length_at.ensures) c.if-script-start.true
 
 pub returns : goal.returns
-returns c = whole _ _ c.if-tag-lt64.false c.if-script-at.false c.if-script-at-lt3.false _ (length_is _ _ _ _ c.byte.ensures c.byte-2.ensures) _ _ c.if-script-start.false c.decode.ensures c.field_of.ensures
+returns c = whole _ _ c.if-tag-lt64.false c.if-script-at.false c.if-script-at-lt3.false _ (c.from-size.ensures ∙ c.length_at.ensures) _ _ c.if-script-start.false c.decode.ensures c.field_of.ensures
