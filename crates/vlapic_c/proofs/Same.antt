@@ -8,6 +8,7 @@ use mathlib.Core.Path.{◌≡◌, refl, sym, ap, ap₂, ◌∙◌}
 use lib.Dec.{eqb, ltb}
 use lib.ListN.{length, get_or, set}
 use lib.Seq.{get_or-set_same}
+use Rattle.std.specs.Prelude.{Result, Ok, Err}
 use Rattle.types.specs.declared.Refusal.{Refusal}
 use Rattle.types.specs.declared.Reply.{Reply}
 use Rattle.types.specs.declared.Reply.TheVariants.{Refused, Nothing, One, Two, Three}
@@ -19,11 +20,11 @@ use Rattle.types.specs.declared.Vector.{Vector}
 use Rattle.utils.specs.Set.{below}
 use Rattle.utils.proofs.Bools.{both}
 use Rattle.vlapic_icr.specs.declared.InterruptCommand.{InterruptCommand}
-use Rattle.vlapic_icr.specs.declared.Dest.{Dest}
-use Rattle.vlapic_icr.specs.declared.Dest.TheVariants.{Mask, NoMask}
 use Rattle.vlapic_icr.specs.declared.IcrAnswer.{IcrAnswer}
 use Rattle.vlapic_icr.specs.declared.IcrAnswer.TheVariants as icr
-use Rattle.vlapic_icr.specs.Fields.{idle, icr_width, icr_high, is_reserved_mode, is_illegal_vector, is_invalid_shorthand, is_unsent}
+use Rattle.vlapic_icr.specs.Fields.{delivery_mode, idle, icr_width, icr_high, is_reserved_mode, is_illegal_vector, is_invalid_shorthand, is_unsent}
+use Rattle.vlapic_icr.specs.Kinds.{mode_number, mode_of}
+use Rattle.vlapic_icr.proofs.Ipis.{mode_small}
 use Rattle.vlapic_icr.specs.Icr.{deliver, calculate_dest, command, self_ipi}
 use Rattle.vlapic.specs.declared.VirtualApicRegs.{VirtualApicRegs}
 use Rattle.vlapic.specs.Regs.{with_command}
@@ -142,15 +143,17 @@ module _ (ipi : List ℕ) (n : length ipi ≡ 1) where
 
 -- ---- and a write's replies are of that kind
 
-abbrev IcrFits : IcrAnswer → Type 0
-IcrFits icr.Nothing = Unit
-IcrFits icr.SendIllegalVector = Unit
-IcrFits (icr.Ipi kind vector mask) = (kind < 2 ^ 8) × (vector.0 < 2 ^ 8)
-IcrFits (icr.Refused why) = Unit
+abbrev IcrFits : Result IcrAnswer Refusal → Type 0
+IcrFits (Ok icr.Nothing) = Unit
+IcrFits (Ok icr.SendIllegalVector) = Unit
+IcrFits (Ok (icr.Ipi ipi)) = (mode_number ipi.kind < 2 ^ 8) × (ipi.vector.0 < 2 ^ 8)
+IcrFits (Err why) = Unit
 
-deliver_fits : (lo num : ℕ) (d : Dest) → IcrFits (deliver lo num d)
-deliver_fits lo num (Mask mask) = both IcrFits (eqb (below mask num) 0) _ _ tt (both IcrFits (is_unsent lo) _ _ tt (omega arith, omega arith))
-deliver_fits lo num (NoMask why) = tt
+deliver_fits : (lo num : ℕ) (d : Result ℕ Refusal) → IcrFits (deliver lo num d)
+deliver_fits lo num (Ok mask) =
+    both (λ (a : IcrAnswer). IcrFits (Ok a)) (eqb (below mask num) 0) _ _ tt
+    (both (λ (a : IcrAnswer). IcrFits (Ok a)) (is_unsent lo) _ _ tt (omega (arith, mode_small (mode_of (delivery_mode lo))), omega arith))
+deliver_fits lo num (Err why) = tt
 
 command_fits : (s : InterruptCommand) (num active : ℕ) → IcrFits (command s num active)
 unfolding command
@@ -159,11 +162,11 @@ command_fits s num active =
     (both IcrFits (is_illegal_vector s.icr_lo) _ _ tt
     (both IcrFits (is_invalid_shorthand s.icr_lo) _ _ tt (deliver_fits s.icr_lo num (calculate_dest s num active))))
 
-answered_fits : (s : VirtualApicRegs) (a : IcrAnswer) → IcrFits a → SentFits (answered s a).reply
-answered_fits s icr.Nothing h = tt
-answered_fits s icr.SendIllegalVector h = tt
-answered_fits s (icr.Ipi kind vector mask) h = h
-answered_fits s (icr.Refused why) h = tt
+answered_fits : (s : VirtualApicRegs) (a : Result IcrAnswer Refusal) → IcrFits a → SentFits (answered s a).reply
+answered_fits s (Ok icr.Nothing) h = tt
+answered_fits s (Ok icr.SendIllegalVector) h = tt
+answered_fits s (Ok (icr.Ipi ipi)) h = h
+answered_fits s (Err why) h = tt
 
 icr_fits : (s : VirtualApicRegs) (lo hi num active : ℕ) → SentFits (write_icr s lo hi num active).reply
 unfolding write_icr
@@ -173,9 +176,9 @@ icr_fits s lo hi num active =
 abbrev OutcomeFits : Outcome VirtualApicRegs → Type 0
 OutcomeFits o = SentFits o.reply
 
-self_fits : (id : VcpuId) (v : Vector) → v.0 < 2 ^ 8 → IcrFits (self_ipi id v)
+self_fits : (id : VcpuId) (v : Vector) → v.0 < 2 ^ 8 → IcrFits (Ok (self_ipi id v))
 unfolding self_ipi
-self_fits id v h = both IcrFits (ltb v.0 16) _ _ tt (omega arith, h)
+self_fits id v h = both (λ (a : IcrAnswer). IcrFits (Ok a)) (ltb v.0 16) _ _ tt (omega arith, h)
 
 -- of a table of what registers leave
 abbrev All : List (ℕ × Outcome VirtualApicRegs) → Type 0
@@ -203,5 +206,5 @@ write_fits s offset val width num active =
     (both OutcomeFits (eqb offset 0x300) _ _
     (both OutcomeFits (icr_width s.x2apic width) _ _ (icr_fits s (val % 0x100000000) (icr_high s.x2apic val s.icr_hi) num active) tt)
     (both OutcomeFits (eqb offset 0x3f0) _ _
-    (both OutcomeFits s.x2apic _ _ (answered_fits s (self_ipi (record { 0 = s.vapic_id }) (record { 0 = val % 256 })) (self_fits (record { 0 = s.vapic_id }) (record { 0 = val % 256 }) (mod-lt val (omega arith)))) tt)
+    (both OutcomeFits s.x2apic _ _ (answered_fits s (Ok (self_ipi (record { 0 = s.vapic_id }) (record { 0 = val % 256 }))) (self_fits (record { 0 = s.vapic_id }) (record { 0 = val % 256 }) (mod-lt val (omega arith)))) tt)
     (stored_fits s offset (val % 0x100000000)))))

@@ -13,8 +13,8 @@ ghost use Rattle.vlapic_words.specs.Calls.{IsNew};
 ghost use Rattle.vlapic_c.specs.Calls.{Lent, accepting, sent_code, sent_mask, LentSent, writing, writing_refused};
 
 use reply_code::{code, is_up};
-use types::{Refusal, Reply, VcpuId, Vector};
-use vlapic::WriteAnswer;
+use types::{Refusal, Reply, ToReply, VcpuId, Vector};
+use vlapic_icr::Ipi;
 
 #[unsafe(no_mangle)]
 pub extern "C" fn sillwander_lapic_new(words: &mut [u64; 48]) -> u64
@@ -66,16 +66,16 @@ pub extern "C" fn sillwander_lapic_handle_read(words: &[u64; 48], offset: u64) -
 }
 
 // A write's answer as a code; of an IPI the mask goes to `ipi`.
-fn sent(answer: WriteAnswer, ipi: &mut [u64; 1]) -> u64
+fn sent(answer: Result<Option<Ipi>, Refusal>, ipi: &mut [u64; 1]) -> u64
     ensures { (result ≡ sent_code (write_reply answer)) × (ipi.new ≡ sent_mask ipi.old (write_reply answer)) }
 {
     match answer {
-        WriteAnswer::Done => 0,
-        WriteAnswer::Ipi { kind, vector, mask } => {
-            ipi[0] = mask;
-            code(Reply::Two(kind as u64, vector.0 as u64))
+        Ok(None) => 0,
+        Ok(Some(sent)) => {
+            ipi[0] = sent.mask;
+            code(Reply::Two(u64::from(u8::from(sent.kind)), u64::from(sent.vector.0)))
         }
-        WriteAnswer::Refused(why) => code(Reply::Refused(why)),
+        Err(why) => code(Reply::Refused(why)),
     }
 }
 

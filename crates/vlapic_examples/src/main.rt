@@ -4,7 +4,7 @@
 #![tactic(auto)]
 
 use std::io::{self, Write};
-use types::Vector;
+use types::{ToReply, Vector};
 use vlapic::VirtualApicRegs;
 
 const TPR: u64 = 0x80;
@@ -19,9 +19,7 @@ const ICR_LOW: u64 = 0x300;
 
 // A write by four bytes in a VM of one vCPU.
 fn write(regs: VirtualApicRegs, offset: u64, val: u64) -> VirtualApicRegs {
-    let written = regs.handle_write(offset, val, 4, 1, 1);
-    let next = written.regs;
-    next
+    regs.handle_write(offset, val, 4, 1, 1).0
 }
 
 fn show_read<W: Write>(out: &mut W, regs: VirtualApicRegs, offset: u64) -> io::Result<()> {
@@ -29,10 +27,8 @@ fn show_read<W: Write>(out: &mut W, regs: VirtualApicRegs, offset: u64) -> io::R
 }
 
 fn show_eoi<W: Write>(out: &mut W, regs: VirtualApicRegs) -> io::Result<VirtualApicRegs> {
-    let step = regs.handle_eoi();
-    let answer = step.answer;
-    reply_text::print_reply(out, answer.reply())?;
-    let next = step.regs;
+    let (next, told) = regs.handle_eoi();
+    reply_text::print_reply(out, told.reply())?;
     Ok(next)
 }
 
@@ -57,9 +53,7 @@ fn unseen<W: Write>(out: &mut W) -> io::Result<()> {
 
 // A fixed interrupt with vector 15 to vCPU 0; ESR before and after it is written.
 fn illegal<W: Write>(out: &mut W) -> io::Result<()> {
-    let written = VirtualApicRegs::new().handle_write(ICR_LOW, 15, 4, 1, 1);
-    let answer = written.answer;
-    let regs = written.regs;
+    let (regs, answer) = VirtualApicRegs::new().handle_write(ICR_LOW, 15, 4, 1, 1);
     reply_text::print_text(out, b"12 ICR ")?;
     reply_text::print_reply(out, answer.reply())?;
     reply_text::print_text(out, b"12 ESR ")?;

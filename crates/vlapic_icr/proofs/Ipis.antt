@@ -31,6 +31,16 @@ number_back (suc (suc (suc (suc (suc (suc zero)))))) h = refl
 number_back (suc (suc (suc (suc (suc (suc (suc zero))))))) h = refl
 number_back (suc (suc (suc (suc (suc (suc (suc (suc n)))))))) h = absurd (omega arith)
 
+pub mode_small : (m : DeliveryMode) → mode_number m < 8
+mode_small Fixed = omega arith
+mode_small LowestPriority = omega arith
+mode_small Smi = omega arith
+mode_small Reserved3 = omega arith
+mode_small Nmi = omega arith
+mode_small Init = omega arith
+mode_small StartUp = omega arith
+mode_small Reserved7 = omega arith
+
 -- what can be read back from a reply
 abbrev ipi_of : Reply → Ipi
 ipi_of (Three kind vector mask) = record { kind = mode_of kind; vector = record { 0 = vector }; mask = mask }

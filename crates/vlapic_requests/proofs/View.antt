@@ -16,7 +16,7 @@ use Rattle.vlapic_words.specs.Words.{word, eight, view}
 use Rattle.vlapic_words.specs.Calls.{Stored}
 use Rattle.vlapic_words.specs.Steps.{marked_in}
 use Rattle.vlapic_words.proofs.Runs.{at_from, from_other, from_set}
-use Rattle.vlapic_words.proofs.View.{cut_small, of, view_of, put_view, moved, priority_small, stored_set}
+use Rattle.vlapic_words.proofs.View.{cut_small, view_of, put_view, moved, priority_small, stored_set}
 use Rattle.vlapic_requests.specs.Requests.{with_irr, highest, ranked}
 use Rattle.vlapic_requests.specs.Promise.{ranked_words}
 

@@ -1,4 +1,5 @@
 -- A law for each way that a call goes. Assumes nothing.
+use Rattle.std.specs.Prelude.{Option, Some, None}
 use Prim.Native.Nat.{ℕ, ◌^◌, ◌≤◌, ◌<◌}
 use native.Mathlib.Omega.{arith}
 use mathlib.Core.Bool.{Bool, true, false, cond}
@@ -17,16 +18,12 @@ use Rattle.vlapic_regs.specs.Vectors.{in_words, highest_from}
 use Rattle.vlapic_regs.specs.Register.{low_byte, broadcast}
 use Rattle.vlapic_regs.proofs.Highest.{served}
 use Rattle.vlapic.specs.declared.VirtualApicRegs.{VirtualApicRegs}
-use Rattle.vlapic.specs.declared.EoiAnswer.{EoiAnswer}
-use Rattle.vlapic.specs.declared.EoiAnswer.TheVariants as eoi
 use Rattle.vlapic.specs.Regs.{with_isr, with_tmr, with_tpr}
 use Rattle.vlapic.specs.Priority.{broadcasts}
 use Rattle.vlapic_words.specs.Words.{word, eight, view}
 use Rattle.vlapic_words.specs.Calls.{Stored}
 use Rattle.vlapic_words.specs.Steps.{marked_in}
 use Rattle.vlapic_words.proofs.View.{cut_small, put_view, moved, mark_isr, mark_tmr, stored_set, stored_then}
-use Rattle.vlapic_requests.specs.declared.Acceptance.{Acceptance}
-use Rattle.vlapic_requests.specs.declared.Acceptance.TheVariants.{NotAccepted, Accepted}
 use Rattle.vlapic_requests.specs.Requests.{after, with_irr, highest, ranked, request, received_illegal, receive, is_acceptable, taken, accept, ended, end_highest, write_tpr}
 use Rattle.vlapic_requests.specs.Promise.{Becomes, Answers, ranked_words}
 use Rattle.vlapic_requests.proofs.View.{mark_irr, rank_view, stored_mark, stored_rank}
@@ -102,19 +99,19 @@ module _ (l : List ℕ) (n : length l ≡ 48) where
     unfolding view
     test = rw (er, eq, ep, e)
 
-    pub accept_no : p ≤ q → Answers Acceptance l l NotAccepted (accept (view l))
+    pub accept_no : p ≤ q → Answers (Option Vector) l l None (accept (view l))
     unfolding accept
     accept_no h = record { outcome = rw (test, le-ltb q p h); stored = same_stored l }
 
-    pub accept_yes : (a b m : List ℕ) → q < p → a ≡ marked_in l 34 v.0 false → b ≡ marked_in a 18 v.0 true → m ≡ ranked_words b → Answers Acceptance l m (Accepted v) (accept (view l))
+    pub accept_yes : (a b m : List ℕ) → q < p → a ≡ marked_in l 34 v.0 false → b ≡ marked_in a 18 v.0 true → m ≡ ranked_words b → Answers (Option Vector) l m (Some v) (accept (view l))
     unfolding accept view
     accept_yes a b m h ea eb em =
         let s : v.0 < 256 = rw e (highest_small (eight l 34)) in
         let k : ◌≡◌ {A = Vector} (record { 0 = highest (eight l 34) }) v = ap (λ (x : ℕ). record { 0 = x }) (sym e) in
         record {
           outcome =
-              ap (λ (w : List ℕ). after (view w) (Accepted v)) em
-              ∙ ap (λ (w : VirtualApicRegs). after w (Accepted v)) (taken_view a b v.0 s ea eb)
+              ap (λ (w : List ℕ). after (view w) (Some v)) em
+              ∙ ap (λ (w : VirtualApicRegs). after w (Some v)) (taken_view a b v.0 s ea eb)
               ∙ rw (test, lt-ltb q p h, k, ← e);
           stored = rw em (taken_stored a b v.0 s ea eb);
         }
@@ -122,7 +119,7 @@ module _ (l : List ℕ) (n : length l ≡ 48) where
   -- ---- EOI
 
   module _ (v : Vector) (e : v.0 ≡ highest (eight l 18)) where
-    pub end_none : v.0 ≡ 0 → Answers EoiAnswer l l eoi.Nothing (end_highest (view l))
+    pub end_none : v.0 ≡ 0 → Answers (Option Vector) l l None (end_highest (view l))
     unfolding end_highest view
     end_none z = record { outcome = rw (← e, eq-eqb v.0 0 z); stored = same_stored l }
 
@@ -140,19 +137,19 @@ module _ (l : List ℕ) (n : length l ≡ 48) where
       ended_stored : Stored l m
       ended_stored = rw em (stored_then l a (ranked_words a) (rw ea (stored_mark l 18 v.0 false n small (omega arith) (omega arith))) (stored_rank a len))
 
-      ended_is : (b : Bool) (r : EoiAnswer) → told ≡ b → r ≡ cond b (eoi.Broadcast v) eoi.Nothing → after (view m) r ≡ end_highest (view l)
+      ended_is : (b : Bool) (r : Option Vector) → told ≡ b → r ≡ cond b (Some v) None → after (view m) r ≡ end_highest (view l)
       unfolding end_highest view
       ended_is b r eb er =
           let p : eqb (highest (eight l 18)) 0 ≡ false = rw (← e) (ne_eqb v.0 0 z) in
           let q : broadcasts (view l) v.0 ≡ b = rw (← el, ← es, ← et) eb in
           let k : ◌≡◌ {A = Vector} (record { 0 = v.0 }) v = refl in
-          rw er (ap (λ (w : VirtualApicRegs). after w (cond b (eoi.Broadcast v) eoi.Nothing)) ended_view ∙ rw (p, ← e, q))
+          rw er (ap (λ (w : VirtualApicRegs). after w (cond b (Some v) None)) ended_view ∙ rw (p, ← e, q))
 
-      pub end_told : told ≡ true → Answers EoiAnswer l m (eoi.Broadcast v) (end_highest (view l))
-      end_told t = record { outcome = ended_is true (eoi.Broadcast v) t refl; stored = ended_stored }
+      pub end_told : told ≡ true → Answers (Option Vector) l m (Some v) (end_highest (view l))
+      end_told t = record { outcome = ended_is true (Some v) t refl; stored = ended_stored }
 
-      pub end_silent : told ≡ false → Answers EoiAnswer l m eoi.Nothing (end_highest (view l))
-      end_silent t = record { outcome = ended_is false eoi.Nothing t refl; stored = ended_stored }
+      pub end_silent : told ≡ false → Answers (Option Vector) l m None (end_highest (view l))
+      end_silent t = record { outcome = ended_is false None t refl; stored = ended_stored }
 
 -- a message goes either way
 pub receive_low : (l m : List ℕ) (v : Vector) (level : Bool) → v.0 < 16 → Becomes l m (received_illegal (view l)) → Becomes l m (receive (view l) v level)

@@ -1,20 +1,19 @@
 -- What acceptance answers, and what a call in place promises of the 48 words: the registers that they stand for after it, and that each word is as it was or was
 -- stored (vlapic_words).
-use Rattle.std.specs.Prelude.{ℕ, List, ◌≡◌, set}
+use Rattle.types.specs.declared.Vector.{Vector}
+use Rattle.std.specs.Prelude.{ℕ, List, ◌≡◌, set, Option, Some, None}
 use Rattle.types.specs.declared.Reply.{Reply}
-use Rattle.types.specs.declared.Reply.TheVariants as reply
+use Rattle.types.specs.declared.Reply.TheVariants.{Nothing, One}
 use Rattle.vlapic_regs.specs.Register.{priority}
 use Rattle.vlapic.specs.declared.VirtualApicRegs.{VirtualApicRegs}
 use Rattle.vlapic_words.specs.Words.{word, eight, view}
 use Rattle.vlapic_words.specs.Calls.{Stored}
-use Rattle.vlapic_requests.specs.declared.Acceptance.{Acceptance}
-use Rattle.vlapic_requests.specs.declared.Acceptance.TheVariants.{NotAccepted, Accepted}
 use Rattle.vlapic_requests.specs.Requests.{After, after, highest}
 
 -- acceptance in document 01's numbers and values: the vector, or nothing
-abbrev pub acceptance_reply : Acceptance → Reply
-acceptance_reply NotAccepted = reply.Nothing
-acceptance_reply (Accepted v) = reply.One v.0
+abbrev pub acceptance_reply : Option Vector → Reply
+acceptance_reply None = Nothing
+acceptance_reply (Some v) = One v.0
 
 pub record Becomes (l m : List ℕ) (s : VirtualApicRegs) : Type 0 where
   pub registers : view m ≡ s

@@ -1,19 +1,15 @@
 -- The local APIC with its request register (document 02, T-07): how a request comes, is accepted and ends.
 -- Intel SDM volume 3, the APIC chapter: interrupt, task and processor priority (TPR, PPR); interrupt acceptance for fixed interrupts (IRR, ISR, TMR); signaling
 -- interrupt servicing completion (EOI); error handling (ESR: receive illegal vector). Vectors 16 to 255 count, so that D-61 to D-64 and D-85 aren't departures here.
-use Rattle.std.specs.Prelude.{ℕ, Bool, cond, List, eqb, ltb}
+use Rattle.std.specs.Prelude.{ℕ, Bool, cond, List, eqb, ltb, Option, Some, None}
 use Rattle.utils.specs.Set.{with}
 use Rattle.utils.specs.Vectors.{class_of}
 use Rattle.types.specs.declared.Vector.{Vector}
 use Rattle.vlapic_regs.specs.Vectors.{with_vector, without_vector, highest_from}
 use Rattle.vlapic_regs.specs.Register.{low_byte, priority}
 use Rattle.vlapic.specs.declared.VirtualApicRegs.{VirtualApicRegs}
-use Rattle.vlapic.specs.declared.EoiAnswer.{EoiAnswer}
-use Rattle.vlapic.specs.declared.EoiAnswer.TheVariants as eoi
 use Rattle.vlapic.specs.Regs.{with_isr, with_tmr, with_tpr, with_ppr, with_pending}
 use Rattle.vlapic.specs.Priority.{broadcasts}
-use Rattle.vlapic_requests.specs.declared.Acceptance.{Acceptance}
-use Rattle.vlapic_requests.specs.declared.Acceptance.TheVariants.{NotAccepted, Accepted}
 
 -- a local APIC after a call, and the call's answer
 pub record After (A : Type 0) : Type 0 where
@@ -80,21 +76,21 @@ is_acceptable s = ltb (class_of s.ppr) (class_of (highest s.irr))
 abbrev pub taken : VirtualApicRegs → ℕ → VirtualApicRegs
 taken s v = ranked (with_isr (with_irr s (without_vector s.irr v)) (with_vector s.isr v))
 
-unfoldable pub accept : VirtualApicRegs → After Acceptance
+unfoldable pub accept : VirtualApicRegs → After (Option Vector)
 accept s =
     cond (is_acceptable s)
-    (after (taken s (highest s.irr)) (Accepted (record { 0 = highest s.irr })))
-    (after s NotAccepted)
+    (after (taken s (highest s.irr)) (Some (record { 0 = highest s.irr })))
+    (after s None)
 
 -- an EOI ends the highest vector in service, and PPR follows; the vector is broadcast if its TMR bit is set. With none it does nothing
 abbrev pub ended : VirtualApicRegs → ℕ → VirtualApicRegs
 ended s v = ranked (with_isr s (without_vector s.isr v))
 
-abbrev pub ending : VirtualApicRegs → ℕ → After EoiAnswer
-ending s v = after (ended s v) (cond (broadcasts s v) (eoi.Broadcast (record { 0 = v })) eoi.Nothing)
+abbrev pub ending : VirtualApicRegs → ℕ → After (Option Vector)
+ending s v = after (ended s v) (cond (broadcasts s v) (Some (record { 0 = v })) None)
 
-unfoldable pub end_highest : VirtualApicRegs → After EoiAnswer
-end_highest s = cond (eqb (highest s.isr) 0) (after s eoi.Nothing) (ending s (highest s.isr))
+unfoldable pub end_highest : VirtualApicRegs → After (Option Vector)
+end_highest s = cond (eqb (highest s.isr) 0) (after s None) (ending s (highest s.isr))
 
 -- TPR is written, and PPR follows
 unfoldable pub write_tpr : VirtualApicRegs → ℕ → VirtualApicRegs

@@ -3,19 +3,17 @@
 
 #![tactic(auto)]
 
-ghost use Rattle.std.specs.Prelude.{◌+◌, ◌*◌, ◌<◌, ◌≡◌, set};
+ghost use Rattle.types.specs.declared.Vector.{Vector};
+ghost use Rattle.std.specs.Prelude.{◌+◌, ◌*◌, ◌<◌, ◌≡◌, set, Option};
 ghost use Rattle.utils.specs.Set.{marked, last_set32};
 ghost use Rattle.vlapic_regs.specs.Vectors.{in_words};
 ghost use Rattle.vlapic_words.specs.Words.{word, eight, view};
 ghost use Rattle.vlapic_words.specs.Steps.{marked_in};
-ghost use Rattle.vlapic.specs.declared.EoiAnswer.{EoiAnswer};
-ghost use Rattle.vlapic_requests.specs.declared.Acceptance.{Acceptance};
 ghost use Rattle.vlapic_requests.specs.Requests.{highest, received_illegal, request, receive, accept, end_highest, write_tpr};
-ghost use Rattle.vlapic_requests.specs.Promise.{acceptance_reply, Becomes, Answers, ranked_words};
+ghost use Rattle.vlapic_requests.specs.Promise.{Becomes, Answers, ranked_words};
 
-use types::{Reply, Vector};
+use types::Vector;
 use utils::seen;
-use vlapic::EoiAnswer;
 use vlapic_regs::register;
 
 // ---- The words
@@ -40,24 +38,6 @@ const LOWEST: u8 = 16;
 
 // The error status register's bit "receive illegal vector".
 const RECEIVE_ILLEGAL_VECTOR: u32 = 6;
-
-// What the processor did with the highest request.
-#[derive(Clone, Copy)]
-pub enum Acceptance {
-    NotAccepted,
-    Accepted(Vector),
-}
-
-impl Acceptance {
-    pub fn reply(self) -> Reply
-        ensures { result ≡ acceptance_reply self }
-    {
-        match self {
-            Acceptance::NotAccepted => Reply::Nothing,
-            Acceptance::Accepted(vector) => Reply::One(vector.0 as u64),
-        }
-    }
-}
 
 fn word(words: &[u64; 48], k: usize) -> u32
     requires { k < 48 }
@@ -173,8 +153,8 @@ pub fn receive(words: &mut [u64; 48], vector: Vector, level: bool)
 }
 
 // The processor accepts the highest request, if PPR lets it.
-pub fn accept(words: &mut [u64; 48]) -> Acceptance
-    ensures { Answers Acceptance words.old words.new result (accept (view words.old)) }
+pub fn accept(words: &mut [u64; 48]) -> Option<Vector>
+    ensures { Answers (Option Vector) words.old words.new result (accept (view words.old)) }
 {
     seen(&*words);
     let vector = highest(&*words, IRR);
@@ -182,27 +162,27 @@ pub fn accept(words: &mut [u64; 48]) -> Acceptance
         mark(&mut *words, IRR, vector, false);
         mark(&mut *words, ISR, vector, true);
         rank(&mut *words);
-        return Acceptance::Accepted(vector);
+        return Some(vector);
     }
-    Acceptance::NotAccepted
+    None
 }
 
 // A guest's EOI, and the vector that it broadcasts to the I/O APICs.
-pub fn end_highest(words: &mut [u64; 48]) -> EoiAnswer
-    ensures { Answers EoiAnswer words.old words.new result (end_highest (view words.old)) }
+pub fn end_highest(words: &mut [u64; 48]) -> Option<Vector>
+    ensures { Answers (Option Vector) words.old words.new result (end_highest (view words.old)) }
 {
     seen(&*words);
     let vector = highest(&*words, ISR);
     if vector.0 == 0 {
-        return EoiAnswer::Nothing;
+        return None;
     }
     let is_told = register::is_eoi_broadcast(has(&*words, TMR, vector), word(&*words, SVR));
     mark(&mut *words, ISR, vector, false);
     rank(&mut *words);
     if is_told {
-        return EoiAnswer::Broadcast(vector);
+        return Some(vector);
     }
-    EoiAnswer::Nothing
+    None
 }
 
 // A write of TPR.

@@ -3,20 +3,23 @@ use mathlib.Core.Path.{◌≡◌, refl, sym, ap, ◌∙◌, subst}
 use mathlib.Core.Bool.{Bool, true, false, not, cond, ◌&&◌, ◌||◌}
 use mathlib.Core.Logic.{◌↔◌}
 use mathlib.Core.List.{List, [], ◌∷◌}
-use Prim.Native.Nat.{ℕ, ◌+◌, ◌%◌, ◌^◌, ◌≤◌, ◌<◌}
+use Prim.Native.Nat.{ℕ, ◌+◌, ◌%◌, ◌≤◌, ◌<◌}
 use native.Mathlib.Omega.{arith}
 use lib.Dec.{eqb, leb, ltb}
 use borrow.Author.Tests.{eq-eqb, ne_eqb, eqb-true, leb-true, le-leb, ltb-true, ltb-false, lt-ltb}
 use Rattle.utils.specs.Cases.{or_right_yes}
 use Rattle.utils.proofs.Bools.{never, either, and-false, or_false}
 use Rattle.types.specs.declared.VcpuId.{VcpuId}
+use Rattle.std.specs.Prelude.{Result, Ok, Err}
+use Rattle.types.specs.declared.Refusal.{Refusal}
 use Rattle.types.specs.declared.Refusal.TheVariants.{InvalidRegister, OutOfRange}
 use Rattle.types.specs.declared.Reply.{Reply}
 use Rattle.types.specs.declared.Reply.TheVariants.{Refused, One}
 use Rattle.types.specs.Counters.{vcpu_mask, vcpu_of}
 use Rattle.types.specs.Reply.{Outcome, reply_number}
 use Rattle.vlapic_icr.specs.declared.IcrAnswer.{IcrAnswer}
-use Rattle.vlapic_icr.specs.declared.IcrAnswer.TheVariants.{Nothing, SendIllegalVector, Ipi, Refused as Rejected}
+use Rattle.vlapic_icr.specs.declared.IcrAnswer.TheVariants.{Nothing, SendIllegalVector, Ipi}
+use Rattle.vlapic_icr.specs.declared.fields.DeliveryMode.TheVariants.{Fixed}
 use Rattle.vlapic_icr.specs.Icr.{self_ipi}
 use Rattle.vlapic.specs.declared.VirtualApicRegs.{VirtualApicRegs}
 use Rattle.vlapic.specs.Answers.{done, refused}
@@ -24,7 +27,7 @@ use Rattle.vlapic.specs.Regs.{start}
 use Rattle.vlapic.specs.Registers.{readable, word_at, eight_from, handle_read}
 use Rattle.vlapic.specs.Calls.{out_of_range, answered, setup, handle_write}
 use Rattle.vlapic_theorems.specs.Sending.{low_word, destination, is_icr_width, is_storing}
-use Rattle.vlapic_theorems.specs.Numbers.{is_one, read_offsets, is_read, is_written, is_command3, is_command5, is_write0, is_write2, is_write3, is_write5, is_setup5, WritesNumbered, ReadsNumbered, SetupsNumbered, commanded, Leaves, WritesLeave, RefusedWrites, SetupsLeave}
+use Rattle.vlapic_theorems.specs.Numbers.{is_one, read_offsets, is_read, is_written, is_command3, is_command5, is_write2, is_write3, is_write5, is_setup5, WritesNumbered, ReadsNumbered, SetupsNumbered, commanded, Leaves, WritesLeave, RefusedWrites, SetupsLeave}
 use Rattle.vlapic_theorems.proofs.Targets.{is_hit}
 use Rattle.vlapic_theorems.proofs.Sending.{Answers, sends, idles, notes, refuses_kind, refuses_id, Wrote, outside, unlisted, plain, self, commands_it, wrote}
 
@@ -93,11 +96,11 @@ in_range_five : (out : Bool) {five number : Bool} → out ≡ false → five ≡
 in_range_five out e q = rw e q
 
 -- the self-IPI register is never refused in its mode
-itself_done : (s : VirtualApicRegs) (val : ℕ) → reply_number (answered s (self_ipi (record { 0 = s.vapic_id }) (record { 0 = val % 256 }))).reply ≡ 0
+itself_done : (s : VirtualApicRegs) (val : ℕ) → reply_number (answered s (Ok (self_ipi (record { 0 = s.vapic_id }) (record { 0 = val % 256 })))).reply ≡ 0
 unfolding self_ipi
 itself_done s val = go (ltb (val % 256) 16)
   where
-    go : (b : Bool) → reply_number (answered s (cond b SendIllegalVector (Ipi 0 (record { 0 = val % 256 }) (vcpu_mask (vcpu_of s.vapic_id))))).reply ≡ 0
+    go : (b : Bool) → reply_number (answered s (Ok (cond b SendIllegalVector (Ipi (record { kind = Fixed; vector = record { 0 = val % 256 }; mask = vcpu_mask (vcpu_of s.vapic_id) }))))).reply ≡ 0
     go true = refl
     go false = refl
 
@@ -134,7 +137,7 @@ module _ (s : VirtualApicRegs) (offset val width num active : ℕ) where
     two_is : is_write2 s offset width num ≡ false
     two_is = listed e (rw (at, f))
 
-    command_numbered : {a : IcrAnswer}
+    command_numbered : {a : Result IcrAnswer Refusal}
         → Answers (low_word val) num (is_hit s active (destination s val)) (is_command3 s val num active) (is_command5 s val) a
         → Numbered (reply_number (answered (commanded s val) a).reply)
     command_numbered (sends go bits some t v) = is_0 _ _ _ two_is (three_is t) (five_is v)
@@ -174,7 +177,7 @@ module _ (s : VirtualApicRegs) (offset val width num active : ℕ) where
     range = λ e _. absurd (omega (arith, sym z ∙ e));
   }
 
-  command_leaves : out_of_range num s.vapic_id ≡ false → (hit : ℕ → Bool) (three five : Bool) (a : IcrAnswer) → Answers (low_word val) num hit three five a
+  command_leaves : out_of_range num s.vapic_id ≡ false → (hit : ℕ → Bool) (three five : Bool) (a : Result IcrAnswer Refusal) → Answers (low_word val) num hit three five a
       → Leaves s val num (answered (commanded s val) a)
   command_leaves inside hit three five a (sends go bits some t v) = done_leaves _ refl
   command_leaves inside hit three five a (idles n t v) = done_leaves _ refl
@@ -220,11 +223,11 @@ module _ (s : VirtualApicRegs) (offset val width num active : ℕ) where
   not_storing e = rw e
 
   -- a command's outcome has its words in it, if it is refused
-  with_words : (a : IcrAnswer) → (reply_number (answered (commanded s val) a).reply ≡ 0 → ⊥) → (answered (commanded s val) a).state ≡ commanded s val
-  with_words Nothing n = refl
-  with_words SendIllegalVector n = absurd (n refl)
-  with_words (Ipi kind vector mask) n = refl
-  with_words (Rejected why) n = refl
+  with_words : (a : Result IcrAnswer Refusal) → (reply_number (answered (commanded s val) a).reply ≡ 0 → ⊥) → (answered (commanded s val) a).state ≡ commanded s val
+  with_words (Ok Nothing) n = refl
+  with_words (Ok SendIllegalVector) n = absurd (n refl)
+  with_words (Ok (Ipi ipi)) n = refl
+  with_words (Err why) n = refl
 
   left : (o : Outcome VirtualApicRegs) → Wrote s offset val width num active o → (reply_number o.reply ≡ 0 → ⊥) → o.state ≡ cond storing (commanded s val) s
   left o (outside e) n = not_storing (rw e (and-false (eqb offset 0x300)))

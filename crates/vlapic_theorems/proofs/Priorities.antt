@@ -4,16 +4,15 @@ use mathlib.Core.Bool.{Bool, true, false, not, cond, ◌&&◌}
 use mathlib.Core.List.{List}
 use Prim.Native.Nat.{ℕ, ◌*◌, ◌/◌, ◌%◌, ◌≤◌, ◌<◌, max}
 use native.Mathlib.Omega.{arith}
-use lib.Dec.{eqb, leb, ltb}
+use lib.Dec.{eqb, leb}
 use lib.ListN.{get_or, set, length, length-set}
 use lib.Seq.{get_or-set_same, get_or-set_other, ext_get_or}
 use borrow.Author.Tests.{eqb-true, eqb-false, eq-eqb, ne_eqb, leb-true, leb-false, le-leb, lt-leb}
 use Rattle.utils.specs.Set.{bit, with, without}
 use Rattle.utils.specs.Vectors.{class_of}
-use Rattle.utils.proofs.Bools.{never, and-false, and_one}
+use Rattle.utils.proofs.Bools.{and-false, and_one}
 use Rattle.utils.proofs.Laws.{bit_with_same, bit_with_other, bit_without_same, bit_without_other, without_with}
 use Rattle.types.specs.declared.Vector.{Vector}
-use Rattle.types.specs.declared.Reply.{Reply}
 use Rattle.types.specs.declared.Reply.TheVariants.{Nothing, One}
 use Rattle.types.specs.Reply.{Outcome}
 use Rattle.vlapic_regs.specs.Vectors.{in_words, with_vector, without_vector}
@@ -21,7 +20,7 @@ use Rattle.vlapic.specs.declared.VirtualApicRegs.{VirtualApicRegs}
 use Rattle.vlapic_regs.specs.Register.{priority, broadcast}
 use Rattle.vlapic.specs.Priority.{find_isrv, update_ppr, accept_interrupt, handle_eoi}
 use Rattle.vlapic_theorems.specs.Service.{Highest, Idle, SearchFinds}
-use Rattle.vlapic_theorems.specs.Priorities.{Prioritized, Acceptances, Completions, Ends, AcceptThenEoi}
+use Rattle.vlapic_theorems.specs.Priorities.{Prioritized, Acceptances, Completions, AcceptThenEoi}
 use Rattle.vlapic_theorems.proofs.Service.{searches}
 
 in_service_kept : (s : VirtualApicRegs) → SearchFinds 32 s.isr

@@ -8,37 +8,37 @@ use native.Mathlib.Nat.{mod-lt, pow-suc, lt_of_lt_of_le}
 use native.Mathlib.Omega.{arith}
 use lib.Dec.{eqb, leb, ltb, lit<}
 use lib.Pow.{pow_pos, pow_mono}
-use borrow.Author.Tests.{eqb-true, eqb-false, ne_eqb, ltb-true, ltb-false, lt-ltb, le-ltb, leb-true, le-leb, lt-leb}
+use borrow.Author.Tests.{eqb-true, eqb-false, ltb-true, ltb-false, lt-ltb, le-ltb, le-leb, lt-leb}
 use Rattle.utils.specs.Set.{bit, without, below}
 use Rattle.utils.proofs.Bools.{never, either, and_true, not_is}
 use Rattle.utils.proofs.Bits.{bit_power}
 use Rattle.utils.proofs.Laws.{bit_above, bit_none, bit_cut, same_bits}
+use Rattle.std.specs.Prelude.{Result, Ok, Err}
+use Rattle.types.specs.declared.Refusal.{Refusal}
 use Rattle.types.specs.declared.Refusal.TheVariants.{InvalidRegister, InvalidDelivery, OutOfRange, Unsupported, InvalidAddress, BadField, ScriptTooLong, NoPlan, ListFull, BadImage, TooShort}
 use Rattle.types.specs.declared.Reply.{Reply}
 use Rattle.types.specs.declared.Reply.TheVariants as reply
-use Rattle.types.specs.declared.Vector.{Vector}
 use Rattle.types.specs.Counters.{vcpu_mask, vcpu_of}
 use Rattle.types.specs.Reply.{Outcome, reply_number}
 use Rattle.types.proofs.Counters.{mask_is}
 use Rattle.types.proofs.Replies.{refused_not_done}
-use Rattle.vlapic_icr.specs.declared.InterruptCommand.{InterruptCommand}
-use Rattle.vlapic_icr.specs.declared.Dest.{Dest}
-use Rattle.vlapic_icr.specs.declared.Dest.TheVariants.{Mask, NoMask}
 use Rattle.vlapic_icr.specs.declared.IcrAnswer.{IcrAnswer}
-use Rattle.vlapic_icr.specs.declared.IcrAnswer.TheVariants.{Nothing, SendIllegalVector, Ipi, Refused}
-use Rattle.vlapic_icr.specs.Fields.{idle, vector_field, delivery_mode, shorthand, is_logical, is_reserved_mode, is_illegal_vector, is_invalid_shorthand, is_unsent}
+use Rattle.vlapic_icr.specs.declared.IcrAnswer.TheVariants.{Nothing, SendIllegalVector, Ipi}
+use Rattle.vlapic_icr.specs.declared.fields.DeliveryMode.TheVariants.{Fixed}
+use Rattle.vlapic_icr.specs.Fields.{idle, vector_field, delivery_mode, shorthand, is_reserved_mode, is_illegal_vector, is_invalid_shorthand, is_unsent}
+use Rattle.vlapic_icr.specs.Kinds.{mode_number, mode_of}
+use Rattle.vlapic_icr.proofs.Ipis.{number_back}
 use Rattle.vlapic_icr.specs.Icr.{calculate_dest, deliver, command, self_ipi}
 use Rattle.vlapic.specs.declared.VirtualApicRegs.{VirtualApicRegs}
 use Rattle.vlapic.specs.Answers.{done, refused}
 use Rattle.vlapic.specs.Regs.{with_command}
-use Rattle.vlapic.specs.Priority.{handle_eoi}
 use Rattle.vlapic.specs.Registers.{stored, write_stored}
 use Rattle.vlapic.specs.Calls.{out_of_range, answered, write_icr, write_icr_low, write_self_ipi, handle_write}
 use Rattle.vlapic.proofs.Range.{in_range}
-use Rattle.vlapic_theorems.specs.Targets.{any, Destination, Self, AllIncludingSelf, AllExcludingSelf, Broadcast, Physical, Logical, destination_of, is_reached}
-use Rattle.vlapic_theorems.specs.Sending.{low_word, high_word, destination, is_icr_width, is_storing, is_to_self_too, is_sent, Sends, Goes, Commands, GoesToSelf, SelfIpis, Others, Silent}
+use Rattle.vlapic_theorems.specs.Targets.{any, Destination, Self, AllIncludingSelf, destination_of}
+use Rattle.vlapic_theorems.specs.Sending.{low_word, high_word, destination, is_icr_width, is_to_self_too, is_sent, Goes, Commands, GoesToSelf, SelfIpis, Others, Silent}
 use Rattle.vlapic_theorems.specs.Numbers.{is_one, written_offsets, xapic_offsets, is_written, is_reserved, is_noted, is_unmatchable, is_above63, is_command3, is_command5, commanded}
-use Rattle.vlapic_theorems.proofs.Targets.{any_here, any_some, nobody, asked, is_hit, Says, masked, unmatchable, beyond, destination_says}
+use Rattle.vlapic_theorems.proofs.Targets.{any_some, nobody, asked, is_hit, Says, masked, unmatchable, beyond, destination_says}
 
 -- ---- the words
 
@@ -130,13 +130,13 @@ kind_sent lo =
 abbrev NoIpi : ℕ → ℕ → (ℕ → Bool) → Type 0
 NoIpi lo num hit = is_sent lo ≡ true → (i : ℕ) → i < num → hit i ≡ false
 
-pub data Answers (lo num : ℕ) (hit : ℕ → Bool) (three five : Bool) : IcrAnswer → Type 0 where
+pub data Answers (lo num : ℕ) (hit : ℕ → Bool) (three five : Bool) : Result IcrAnswer Refusal → Type 0 where
   sends : {mask : ℕ} → is_sent lo ≡ true → ((i : ℕ) → bit mask i ≡ (ltb i num && hit i)) → (i : ℕ) × ((ltb i num && hit i) ≡ true) → three ≡ false → five ≡ false
-      → Answers lo num hit three five (Ipi (delivery_mode lo) (record { 0 = vector_field lo }) mask)
-  idles : NoIpi lo num hit → three ≡ false → five ≡ false → Answers lo num hit three five Nothing
-  notes : NoIpi lo num hit → three ≡ false → five ≡ false → Answers lo num hit three five SendIllegalVector
-  refuses_kind : NoIpi lo num hit → three ≡ true → five ≡ false → Answers lo num hit three five (Refused InvalidDelivery)
-  refuses_id : NoIpi lo num hit → three ≡ false → five ≡ true → Answers lo num hit three five (Refused OutOfRange)
+      → Answers lo num hit three five (Ok (Ipi (record { kind = mode_of (delivery_mode lo); vector = record { 0 = vector_field lo }; mask = mask })))
+  idles : NoIpi lo num hit → three ≡ false → five ≡ false → Answers lo num hit three five (Ok Nothing)
+  notes : NoIpi lo num hit → three ≡ false → five ≡ false → Answers lo num hit three five (Ok SendIllegalVector)
+  refuses_kind : NoIpi lo num hit → three ≡ true → five ≡ false → Answers lo num hit three five (Err InvalidDelivery)
+  refuses_id : NoIpi lo num hit → three ≡ false → five ≡ true → Answers lo num hit three five (Err OutOfRange)
 
 module _ (lo num : ℕ) (hit : ℕ → Bool) (three five : Bool) where
   -- the mask, cut to the count
@@ -160,22 +160,22 @@ module _ (lo num : ℕ) (hit : ℕ → Bool) (three five : Bool) where
         sym (bits i l) ∙ sym (bit_cut mask num i l) ∙ ap (λ (n : ℕ). bit n i) (eqb-true (below mask num) 0 z) ∙ bit_none i
 
   -- where nothing before it stopped the command
-  delivered : (d : Dest) → Says num hit three five d → is_sent lo ≡ not (is_unsent lo) → Answers lo num hit three five (deliver lo num d)
-  delivered (Mask mask) (masked bits t f) k =
-      either (Answers lo num hit three five) (eqb (below mask num) 0) _ _ (λ z. idles (λ _ i l. cut_none mask bits z i l) t f)
-      (λ n. either (Answers lo num hit three five) (is_unsent lo) _ _ (λ u. idles (λ q. never q (k ∙ ap not u)) t f)
+  delivered : (d : Result ℕ Refusal) → Says num hit three five d → is_sent lo ≡ not (is_unsent lo) → Answers lo num hit three five (deliver lo num d)
+  delivered (Ok mask) (masked bits t f) k =
+      either (λ (x : IcrAnswer). Answers lo num hit three five (Ok x)) (eqb (below mask num) 0) _ _ (λ z. idles (λ _ i l. cut_none mask bits z i l) t f)
+      (λ n. either (λ (x : IcrAnswer). Answers lo num hit three five (Ok x)) (is_unsent lo) _ _ (λ u. idles (λ q. never q (k ∙ ap not u)) t f)
       (λ u. sends (k ∙ ap not u) (λ i. cut_bits mask bits i) (cut_some mask bits n) t f))
-  delivered (NoMask InvalidDelivery) (unmatchable none t f) k = refuses_kind (λ _. none) t f
-  delivered (NoMask OutOfRange) (beyond none t f) k = refuses_id (λ _. none) t f
-  delivered (NoMask Unsupported) x k = elim x [ ]
-  delivered (NoMask InvalidRegister) x k = elim x [ ]
-  delivered (NoMask InvalidAddress) x k = elim x [ ]
-  delivered (NoMask BadField) x k = elim x [ ]
-  delivered (NoMask ScriptTooLong) x k = elim x [ ]
-  delivered (NoMask NoPlan) x k = elim x [ ]
-  delivered (NoMask ListFull) x k = elim x [ ]
-  delivered (NoMask BadImage) x k = elim x [ ]
-  delivered (NoMask TooShort) x k = elim x [ ]
+  delivered (Err InvalidDelivery) (unmatchable none t f) k = refuses_kind (λ _. none) t f
+  delivered (Err OutOfRange) (beyond none t f) k = refuses_id (λ _. none) t f
+  delivered (Err Unsupported) x k = elim x [ ]
+  delivered (Err InvalidRegister) x k = elim x [ ]
+  delivered (Err InvalidAddress) x k = elim x [ ]
+  delivered (Err BadField) x k = elim x [ ]
+  delivered (Err ScriptTooLong) x k = elim x [ ]
+  delivered (Err NoPlan) x k = elim x [ ]
+  delivered (Err ListFull) x k = elim x [ ]
+  delivered (Err BadImage) x k = elim x [ ]
+  delivered (Err TooShort) x k = elim x [ ]
 
 -- the tests of the definition, in words
 reserved_same : (lo : ℕ) → is_reserved_mode lo ≡ is_reserved lo
@@ -196,12 +196,12 @@ short_taken s lo hi e = go (eqb (shorthand lo) 1) (eqb (shorthand lo) 2) _ _ e
     go false false signal d q = never q refl
 
 -- in the order of the definition
-ordered : (lo num : ℕ) (hit : ℕ → Bool) (reserved noted invalid unmatched above : Bool) (d : Dest)
+ordered : (lo num : ℕ) (hit : ℕ → Bool) (reserved noted invalid unmatched above : Bool) (d : Result ℕ Refusal)
     → is_sent lo ≡ (not reserved && (not noted && (not invalid && not (is_unsent lo))))
     → (invalid ≡ true → (unmatched ≡ false) × (above ≡ false))
     → Says num hit unmatched above d
     → Answers lo num hit (reserved || (not noted && unmatched)) (not reserved && (not noted && above))
-    (cond reserved (Refused InvalidDelivery) (cond noted SendIllegalVector (cond invalid Nothing (deliver lo num d))))
+    (cond reserved (Err InvalidDelivery) (cond noted (Ok SendIllegalVector) (cond invalid (Ok Nothing) (deliver lo num d))))
 ordered lo num hit true noted invalid unmatched above d k short says = refuses_kind (λ q. never q k) refl refl
 ordered lo num hit false true invalid unmatched above d k short says = notes (λ q. never q k) refl refl
 ordered lo num hit false false true unmatched above d k short says = idles (λ q. never q k) (short refl).0 (short refl).1
@@ -229,8 +229,8 @@ pub data Wrote (s : VirtualApicRegs) (offset val width num active : ℕ) : Outco
   plain : {t : VirtualApicRegs} → out_of_range num s.vapic_id ≡ false → is_written s.x2apic offset width ≡ true → (offset ≡ 0x300 → ⊥) → (offset ≡ 0x3f0 → ⊥)
       → Wrote s offset val width num active (done t)
   self : out_of_range num s.vapic_id ≡ false → offset ≡ 0x3f0 → s.x2apic ≡ true
-      → Wrote s offset val width num active (answered s (self_ipi (record { 0 = s.vapic_id }) (record { 0 = val % 256 })))
-  commands_it : {a : IcrAnswer} → out_of_range num s.vapic_id ≡ false → offset ≡ 0x300 → is_icr_width s.x2apic width ≡ true
+      → Wrote s offset val width num active (answered s (Ok (self_ipi (record { 0 = s.vapic_id }) (record { 0 = val % 256 }))))
+  commands_it : {a : Result IcrAnswer Refusal} → out_of_range num s.vapic_id ≡ false → offset ≡ 0x300 → is_icr_width s.x2apic width ≡ true
       → Answers (low_word val) num (is_hit s active (destination s val)) (is_command3 s val num active) (is_command5 s val) a
       → Wrote s offset val width num active (answered (commanded s val) a)
 
@@ -368,7 +368,10 @@ module _ (s : VirtualApicRegs) (val width num active kind vector mask : ℕ) whe
   abbrev Sent : Reply → Type 0
   Sent r = r ≡ reply.Three kind vector mask
 
-  forth_command : {a : IcrAnswer} → out_of_range num s.vapic_id ≡ false → is_icr_width s.x2apic width ≡ true
+  kind_number : mode_number (mode_of (delivery_mode (low_word val))) ≡ delivery_mode (low_word val)
+  kind_number = number_back (delivery_mode (low_word val)) (mod-lt (low_word val / 256) (lit< tt))
+
+  forth_command : {a : Result IcrAnswer Refusal} → out_of_range num s.vapic_id ≡ false → is_icr_width s.x2apic width ≡ true
       → Answers (low_word val) num (is_hit s active (destination s val)) (is_command3 s val num active) (is_command5 s val) a
       → Sent (answered (commanded s val) a).reply → Goes s val width num active kind vector mask
   forth_command inside fits (sends {mask = m} go bits some t f) e =
@@ -376,7 +379,7 @@ module _ (s : VirtualApicRegs) (val width num active kind vector mask : ℕ) whe
       record {
         storing = rw (inside, fits);
         sent = go;
-        kind_is = cc;
+        kind_is = (let z : mode_number (mode_of (delivery_mode (low_word val))) ≡ kind = cc in sym z ∙ kind_number);
         vector_is = cc;
         each = λ i. ap (λ (n : ℕ). bit n i) (sym q) ∙ bits i;
         some = some;
@@ -405,12 +408,12 @@ module _ (s : VirtualApicRegs) (val width num active kind vector mask : ℕ) whe
         let t = and_true (ltb i num) (is_hit s active (destination s val) i) g.some.1 in
         never t.1 (none i (ltb-true i num t.0))
 
-    back_command : {a : IcrAnswer}
+    back_command : {a : Result IcrAnswer Refusal}
         → Answers (low_word val) num (is_hit s active (destination s val)) (is_command3 s val num active) (is_command5 s val) a
         → Sent (answered (commanded s val) a).reply
     back_command (sends {mask = m} go bits some t f) =
         let q : m ≡ mask = same_number m mask (λ i. bits i ∙ sym (g.each i)) in
-        let k : kind ≡ delivery_mode (low_word val) = g.kind_is in
+        let k : kind ≡ mode_number (mode_of (delivery_mode (low_word val))) = g.kind_is ∙ sym kind_number in
         let v : vector ≡ vector_field (low_word val) = g.vector_is in
         cc
     back_command (idles n t f) = not_nobody (n g.sent)
@@ -439,7 +442,7 @@ module _ (s : VirtualApicRegs) (val width num active kind vector mask : ℕ) whe
   Own r = r ≡ reply.Three kind vector mask
 
   abbrev itself : Outcome VirtualApicRegs
-  itself = answered s (self_ipi (record { 0 = s.vapic_id }) (record { 0 = val % 256 }))
+  itself = answered s (Ok (self_ipi (record { 0 = s.vapic_id }) (record { 0 = val % 256 })))
 
   own_mask : out_of_range num s.vapic_id ≡ false → vcpu_mask (vcpu_of s.vapic_id) ≡ 2 ^ s.vapic_id
   own_mask inside = let h : s.vapic_id ≤ 63 = (in_range num s.vapic_id inside).1 in mask_is (vcpu_of s.vapic_id) (omega arith)
@@ -449,7 +452,7 @@ module _ (s : VirtualApicRegs) (val width num active kind vector mask : ℕ) whe
   forth_itself inside x e = go (ltb (val % 256) 16) refl e
     where
       go : (b : Bool) → ltb (val % 256) 16 ≡ b
-          → Own (answered s (cond b SendIllegalVector (Ipi 0 (record { 0 = val % 256 }) (vcpu_mask (vcpu_of s.vapic_id))))).reply → GoesToSelf s val num kind vector mask
+          → Own (answered s (Ok (cond b SendIllegalVector (Ipi (record { kind = Fixed; vector = record { 0 = val % 256 }; mask = vcpu_mask (vcpu_of s.vapic_id) }))))).reply → GoesToSelf s val num kind vector mask
       go true l q = let z : ◌≡◌ {A = ℕ} 0 1 = cc in absurd (omega arith)
       go false l q =
           let p : vcpu_mask (vcpu_of s.vapic_id) ≡ mask = cc in
@@ -512,17 +515,17 @@ others s offset val width num active kind vector mask e = go (handle_write s off
 pub silent : Silent
 silent s offset val width num active z n = go (handle_write s offset val width num active) (wrote s offset val width num active) z n
   where
-    quiet : (t : VirtualApicRegs) (a : IcrAnswer) → reply_number (answered t a).reply ≡ 0
+    quiet : (t : VirtualApicRegs) (a : Result IcrAnswer Refusal) → reply_number (answered t a).reply ≡ 0
         → ((kind vector mask : ℕ) → (answered t a).reply ≡ reply.Three kind vector mask → ⊥) → (answered t a).reply ≡ reply.Nothing
-    quiet t Nothing z n = refl
-    quiet t SendIllegalVector z n = refl
-    quiet t (Ipi k v m) z n = absurd (n k v.0 m refl)
-    quiet t (Refused why) z n = absurd (refused_not_done why z)
+    quiet t (Ok Nothing) z n = refl
+    quiet t (Ok SendIllegalVector) z n = refl
+    quiet t (Ok (Ipi ipi)) z n = absurd (n (mode_number ipi.kind) ipi.vector.0 ipi.mask refl)
+    quiet t (Err why) z n = absurd (refused_not_done why z)
 
     go : (o : Outcome VirtualApicRegs) → Wrote s offset val width num active o → reply_number o.reply ≡ 0
         → ((kind vector mask : ℕ) → o.reply ≡ reply.Three kind vector mask → ⊥) → o.reply ≡ reply.Nothing
     go o (outside e) z n = absurd (omega arith)
     go o (unlisted i e) z n = absurd (omega arith)
     go o (plain i e c d) z n = refl
-    go o (self i e x) z n = quiet s (self_ipi (record { 0 = s.vapic_id }) (record { 0 = val % 256 })) z n
+    go o (self i e x) z n = quiet s (Ok (self_ipi (record { 0 = s.vapic_id }) (record { 0 = val % 256 }))) z n
     go o (commands_it {a} i e fits q) z n = quiet (commanded s val) a z n

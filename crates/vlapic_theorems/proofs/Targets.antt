@@ -1,31 +1,30 @@
 -- The destination that a command works out is the one that the SDM's words name, vCPU by vCPU. Assumes nothing.
 use mathlib.Core.Path.{◌≡◌, refl, sym, ap, ◌∙◌}
 use mathlib.Core.Bool.{Bool, true, false, not, cond, ◌&&◌, ◌||◌}
-use Prim.Native.Nat.{ℕ, zero, suc, ◌+◌, ◌/◌, ◌%◌, ◌^◌, ◌≤◌, ◌<◌}
+use Prim.Native.Nat.{ℕ, zero, suc, ◌/◌, ◌%◌, ◌^◌, ◌≤◌, ◌<◌}
 use native.Mathlib.Nat.{mod-lt}
 use native.Mathlib.Omega.{arith}
 use lib.Dec.{eqb, ltb}
 use lib.Pow.{pow_pos}
 use borrow.Author.Tests.{eqb-true, eqb-false, eq-eqb, ne_eqb, ltb-true, ltb-false, lt-ltb, le-ltb}
 use Rattle.utils.specs.Set.{bit, without, below, first}
-use Rattle.utils.proofs.Bools.{never, and-false, and_one, or_false}
+use Rattle.utils.proofs.Bools.{never, and-false, or_false}
 use Rattle.utils.proofs.Bits.{bit_power}
 use Rattle.utils.proofs.Laws.{bit_above, bit_none, bit_cut, bit_without_same, bit_without_other, same_bits}
-use Rattle.utils.proofs.Search.{first_le, first_holds, first_before}
+use Rattle.utils.proofs.Search.{first_holds, first_before}
+use Rattle.std.specs.Prelude.{Result, Ok, Err}
+use Rattle.types.specs.declared.Refusal.{Refusal}
 use Rattle.types.specs.declared.Refusal.TheVariants.{InvalidDelivery, OutOfRange}
 use Rattle.types.specs.Counters.{vcpu_mask, vcpu_of}
 use Rattle.types.proofs.Counters.{mask_bit}
 use Rattle.vlapic_icr.specs.declared.InterruptCommand.{InterruptCommand}
-use Rattle.vlapic_icr.specs.declared.Dest.{Dest}
-use Rattle.vlapic_icr.specs.declared.Dest.TheVariants.{Mask, NoMask}
-use Rattle.vlapic_icr.specs.declared.DestMatch.{DestMatch}
-use Rattle.vlapic_icr.specs.declared.DestMatch.TheVariants.{Matched, Unmatched, ReservedModel}
+use Rattle.vlapic_icr.specs.declared.DestMatch.TheVariants.{Matched, ReservedModel}
 use Rattle.vlapic_icr.specs.Fields.{shorthand, is_logical}
 use Rattle.vlapic_icr.specs.Icr.{is_broadcast, in_cluster, matching, dest_field_matched, logical_dest, physical_dest, dest_no_shorthand, calculate_dest}
 use Rattle.vlapic.specs.declared.VirtualApicRegs.{VirtualApicRegs}
 use Rattle.vlapic.specs.Regs.{with_command}
 use Rattle.vlapic.specs.Calls.{command_of}
-use Rattle.vlapic_theorems.specs.Targets.{any, Destination, Self, AllIncludingSelf, AllExcludingSelf, Broadcast, Physical, Logical, destination_of, flat, cluster, cluster16, is_named, asks_active, is_reached}
+use Rattle.vlapic_theorems.specs.Targets.{any, Destination, Self, AllIncludingSelf, AllExcludingSelf, Broadcast, Physical, Logical, destination_of, flat, cluster, cluster16, is_named, asks_active}
 use Rattle.vlapic_theorems.specs.Numbers.{is_unmatchable, is_above63}
 
 -- ---- somewhere below w
@@ -112,11 +111,11 @@ cluster_same ldr d = go (eqb (ldr / 0x10000000) (d / 16 % 16))
 abbrev pub asked : VirtualApicRegs → ℕ → ℕ → InterruptCommand
 asked s lo hi = command_of (with_command s lo hi)
 
-worked_out : InterruptCommand → ℕ → ℕ → Destination → Dest
-worked_out c num active Self = Mask (vcpu_mask (vcpu_of c.vapic_id))
-worked_out c num active AllIncludingSelf = Mask active
-worked_out c num active AllExcludingSelf = Mask (without active c.vapic_id)
-worked_out c num active Broadcast = Mask active
+worked_out : InterruptCommand → ℕ → ℕ → Destination → Result ℕ Refusal
+worked_out c num active Self = Ok (vcpu_mask (vcpu_of c.vapic_id))
+worked_out c num active AllIncludingSelf = Ok active
+worked_out c num active AllExcludingSelf = Ok (without active c.vapic_id)
+worked_out c num active Broadcast = Ok active
 worked_out c num active (Physical d) = physical_dest d
 worked_out c num active (Logical d) = logical_dest (dest_field_matched c d) num active
 
@@ -128,10 +127,10 @@ calculated c num active = go (eqb (shorthand c.icr_lo) 1) (eqb (shorthand c.icr_
     d = cond c.x2apic c.icr_hi (c.icr_hi / 0x1000000)
 
     go : (b1 b2 b3 all logical : Bool)
-        → cond b1 (Mask (vcpu_mask (vcpu_of c.vapic_id)))
-        (cond b2 (Mask active)
-        (cond b3 (Mask (without active c.vapic_id))
-        (cond all (Mask active) (cond logical (logical_dest (dest_field_matched c d) num active) (physical_dest d)))))
+        → cond b1 (Ok (vcpu_mask (vcpu_of c.vapic_id)))
+        (cond b2 (Ok active)
+        (cond b3 (Ok (without active c.vapic_id))
+        (cond all (Ok active) (cond logical (logical_dest (dest_field_matched c d) num active) (physical_dest d)))))
         ≡ worked_out c num active
         (cond b1 Self (cond b2 AllIncludingSelf (cond b3 AllExcludingSelf (cond all Broadcast (cond logical (Logical d) (Physical d))))))
     go true b2 b3 all logical = refl
@@ -148,10 +147,10 @@ abbrev pub is_hit : VirtualApicRegs → ℕ → Destination → ℕ → Bool
 is_hit s active dest i = is_named s dest i && (bit active i || not (asks_active dest))
 
 -- the mask has those who are hit, below the count; or there is no mask, since nobody can be
-pub data Says (num : ℕ) (hit : ℕ → Bool) (three five : Bool) : Dest → Type 0 where
-  masked : {mask : ℕ} → ((i : ℕ) → i < num → bit mask i ≡ hit i) → three ≡ false → five ≡ false → Says num hit three five (Mask mask)
-  unmatchable : ((i : ℕ) → i < num → hit i ≡ false) → three ≡ true → five ≡ false → Says num hit three five (NoMask InvalidDelivery)
-  beyond : ((i : ℕ) → i < num → hit i ≡ false) → three ≡ false → five ≡ true → Says num hit three five (NoMask OutOfRange)
+pub data Says (num : ℕ) (hit : ℕ → Bool) (three five : Bool) : Result ℕ Refusal → Type 0 where
+  masked : {mask : ℕ} → ((i : ℕ) → i < num → bit mask i ≡ hit i) → three ≡ false → five ≡ false → Says num hit three five (Ok mask)
+  unmatchable : ((i : ℕ) → i < num → hit i ≡ false) → three ≡ true → five ≡ false → Says num hit three five (Err InvalidDelivery)
+  beyond : ((i : ℕ) → i < num → hit i ≡ false) → three ≡ false → five ≡ true → Says num hit three five (Err OutOfRange)
 
 -- whether anybody below the count is active
 somebody : (num active : ℕ) → any num (bit active) ≡ true → eqb (below active num) 0 ≡ false
@@ -201,7 +200,7 @@ module _ (s : VirtualApicRegs) (lo hi num active : ℕ) (inside : num ≤ 64) wh
           one true false = refl
           one false a = refl
 
-      go : (b : Bool) → ltb d 64 ≡ b → Says num (is_hit s active (Physical d)) false (is_above63 (Physical d)) (cond b (Mask (2 ^ d)) (NoMask OutOfRange))
+      go : (b : Bool) → ltb d 64 ≡ b → Says num (is_hit s active (Physical d)) false (is_above63 (Physical d)) (cond b (Ok (2 ^ d)) (Err OutOfRange))
       go true e = let h : d < 64 = ltb-true d 64 e in masked (λ i l. power_hit i) refl (le-ltb 63 d (omega arith))
       go false e =
           let h : 64 ≤ d = ltb-false d 64 e in
@@ -215,7 +214,7 @@ module _ (s : VirtualApicRegs) (lo hi num active : ℕ) (inside : num ≤ 64) wh
   match_says false false n = masked (λ i l. bit_none i) refl refl
   match_says false true n = go (any num (bit active)) refl
     where
-      go : (b : Bool) → any num (bit active) ≡ b → Says num (λ i. false) (any num (bit active)) false (cond (eqb (below active num) 0) (Mask 0) (NoMask InvalidDelivery))
+      go : (b : Bool) → any num (bit active) ≡ b → Says num (λ i. false) (any num (bit active)) false (cond (eqb (below active num) 0) (Ok 0) (Err InvalidDelivery))
       go true e = rw (somebody num active e) (unmatchable (λ i l. refl) e refl)
       go false e = rw (nobody num active e) (masked (λ i l. bit_none i) e refl)
 

@@ -1,5 +1,5 @@
 -- Computed: whom the SDM's definition names, of local APICs that differ; what the definitions of a command's words, kinds and refusals say at their edges.
-use Rattle.std.specs.Prelude.{ℕ, Bool, true, false, ◌≡◌, refl, List, [], ◌∷◌}
+use Rattle.std.specs.Prelude.{ℕ, true, false, ◌≡◌, refl, List, [], ◌∷◌}
 use Rattle.utils.specs.Set.{without}
 use Rattle.types.specs.Reply.{flag}
 use Rattle.vlapic.specs.declared.VirtualApicRegs.{VirtualApicRegs}

@@ -3,7 +3,6 @@
 use Rattle.std.specs.Prelude.{ℕ, ◌%◌, ◌/◌, Bool, true, false, not, cond, ◌&&◌, ◌||◌, ◌≡◌, ◌↔◌, List, [], ◌∷◌, eqb, leb, ltb}
 use Rattle.utils.specs.Set.{bit}
 use Rattle.types.specs.declared.VcpuId.{VcpuId}
-use Rattle.types.specs.declared.Reply.{Reply}
 use Rattle.types.specs.Reply.{Outcome, reply_number}
 use Rattle.vlapic_icr.specs.Fields.{vector_field, delivery_mode}
 use Rattle.vlapic.specs.declared.VirtualApicRegs.{VirtualApicRegs}

@@ -1,7 +1,7 @@
 -- Processor priority, and an interrupt from its acceptance to its EOI.
 -- Intel SDM volume 3, the APIC chapter: task and processor priorities (TPR, PPR); interrupt acceptance for fixed interrupts (ISR, TMR); signaling interrupt
 -- servicing completion (EOI; SVR bit 12, suppress EOI broadcasts).
-use Rattle.std.specs.Prelude.{ℕ, ◌*◌, ◌/◌, ◌≤◌, ◌<◌, max, Bool, true, false, not, cond, ◌&&◌, ◌≡◌, eqb, length}
+use Rattle.std.specs.Prelude.{ℕ, ◌*◌, ◌/◌, ◌≤◌, ◌<◌, max, Bool, false, not, cond, ◌&&◌, ◌≡◌, eqb, length}
 use Rattle.utils.specs.Set.{bit}
 use Rattle.utils.specs.Vectors.{class_of}
 use Rattle.types.specs.declared.Vector.{Vector}

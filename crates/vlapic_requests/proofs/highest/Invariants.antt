@@ -1,4 +1,4 @@
-use Prim.Native.Nat.{◌-◌, ◌≤◌}
+use Prim.Native.Nat.{◌≤◌}
 use Rattle.vlapic_requests.proofs.Search.{Above}
 use Rattle.vlapic_requests.proofs.highest.Given as goal
 
