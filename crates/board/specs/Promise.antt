@@ -1,15 +1,15 @@
 -- What a call in place promises of the words of both chips.
-use Rattle.std.specs.Prelude.{ℕ, List, ◌≡◌}
+use Rattle.types.specs.declared.Vector.{Vector}
+use Rattle.std.specs.Prelude.{ℕ, List, ◌≡◌, Option}
 use Rattle.types.specs.declared.Reply.{Reply}
 use Rattle.types.specs.Reply.{Kept}
 use Rattle.vioapic.specs.State.{spare, new_words}
 use Rattle.vlapic_words.specs.Calls.{Stored, IsNew}
-use Rattle.vlapic_requests.specs.declared.Acceptance.{Acceptance}
 use Rattle.vlapic_requests.specs.Promise as requests
 use Rattle.board.specs.Board.{Board, board_in, new_board, After}
 
 -- acceptance in document 01's numbers and values
-abbrev pub acceptance_reply : Acceptance → Reply
+abbrev pub acceptance_reply : Option Vector → Reply
 acceptance_reply r = requests.acceptance_reply r
 
 -- a call that leaves the words io' and l' of the words io and l, with its answer, and that as a reply: the board that they stand for and the answer are those that the

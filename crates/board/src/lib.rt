@@ -3,10 +3,12 @@
 
 #![tactic(auto)]
 
-ghost use Rattle.std.specs.Prelude.{List, ℕ};
+ghost use Rattle.types.specs.declared.Vector.{Vector};
+ghost use Rattle.std.specs.Prelude.{List, ℕ, Option, Result};
 ghost use Rattle.types.specs.Reply.{outcome_of};
+ghost use Rattle.types.specs.declared.Refusal.{Refusal};
 ghost use Rattle.vioapic_entry.specs.Answers.{routed_reply};
-ghost use Rattle.vioapic_entry.specs.declared.Routed.{Routed};
+ghost use Rattle.vioapic_entry.specs.declared.IoApicInterrupt.{IoApicInterrupt};
 ghost use Rattle.vioapic.specs.Answers.{eoi_reply, written_reply};
 ghost use Rattle.vioapic.specs.State as io-words;
 ghost use Rattle.vioapic.specs.Table.{end_of};
@@ -14,16 +16,13 @@ ghost use Rattle.vioapic.specs.declared.Eoi.{Eoi};
 ghost use Rattle.vioapic.specs.declared.Written.{Written};
 ghost use Rattle.vlapic_words.specs.Words as apic-words;
 ghost use Rattle.vlapic_words.specs.Calls.{Leaves};
-ghost use Rattle.vlapic_requests.specs.declared.Acceptance.{Acceptance};
 ghost use Rattle.vlapic_requests.specs.Promise as registers;
 ghost use Rattle.board.specs.Board.{board_in, requested, resent, requested_by_eoi, requested_by_write, ended_to, set_gsi_level, accept_interrupt, handle_eoi, write_tpr, handle_write, receive};
 ghost use Rattle.board.specs.Promise.{acceptance_reply, Gives, Becomes, Makes};
 
-use types::{Gsi, Vector};
+use types::{Gsi, Refusal, Vector};
 use vioapic::{Eoi, IOAPIC_BASE, IOAPIC_SIZE, IoApicVersion, Written};
-use vioapic_entry::Routed;
-use vlapic::EoiAnswer;
-use vlapic_requests::Acceptance;
+use vioapic_entry::IoApicInterrupt;
 
 // A new board in these words.
 pub fn new(ioapic: &mut [u64; 32], apic: &mut [u64; 48])
@@ -35,12 +34,12 @@ pub fn new(ioapic: &mut [u64; 32], apic: &mut [u64; 48])
 
 // ---- What the I/O APIC sends becomes a request
 
-fn request_routed(apic: &mut [u64; 48], routed: Routed)
+fn request_routed(apic: &mut [u64; 48], routed: Option<IoApicInterrupt>)
     ensures { registers.Becomes apic.old apic.new (requested (apic-words.view apic.old) routed) }
 {
     match routed {
-        Routed::NotRouted => {}
-        Routed::Interrupt(i) => vlapic_requests::request(apic, i.vector, i.level_triggered),
+        None => {}
+        Some(i) => vlapic_requests::request(apic, i.vector, i.level_triggered),
     }
 }
 
@@ -54,24 +53,24 @@ fn request_resent(apic: &mut [u64; 48], vector: Vector, sent: u32)
     vlapic_requests::request(apic, vector, true);
 }
 
-fn request_ended(apic: &mut [u64; 48], vector: Vector, eoi: Eoi)
+fn request_ended(apic: &mut [u64; 48], vector: Vector, eoi: Option<Eoi>)
     ensures { registers.Becomes apic.old apic.new (requested_by_eoi (apic-words.view apic.old) vector eoi) }
 {
     match eoi {
-        Eoi::NotEnded => {}
-        Eoi::Ended(ended) => request_routed(apic, ended.pending),
-        Eoi::EndedAll(ended) => request_resent(apic, vector, ended.sent),
+        None => {}
+        Some(Eoi::Ended(ended)) => request_routed(apic, ended.pending),
+        Some(Eoi::EndedAll(ended)) => request_resent(apic, vector, ended.sent),
     }
 }
 
-fn request_written(apic: &mut [u64; 48], value: u64, written: Written)
+fn request_written(apic: &mut [u64; 48], value: u64, written: Result<Written, Refusal>)
     ensures { Leaves apic.old apic.old apic.new (written_reply written) (outcome_of (requested_by_write (apic-words.view apic.old) value written) (written_reply written)) }
 {
     match written {
-        Written::Done => {}
-        Written::Sent(i) => vlapic_requests::request(apic, i.vector, i.level_triggered),
-        Written::EndedAll(ended) => request_resent(apic, Vector((value % 0x100) as u8), ended.sent),
-        Written::NotWritten(_) => {}
+        Ok(Written::Done) => {}
+        Ok(Written::Sent(i)) => vlapic_requests::request(apic, i.vector, i.level_triggered),
+        Ok(Written::EndedAll(ended)) => request_resent(apic, Vector((value % 0x100) as u8), ended.sent),
+        Err(_) => {}
     }
 }
 
@@ -85,8 +84,8 @@ pub fn set_gsi_level(
     apic: &mut [u64; 48],
     gsi: Gsi,
     asserted: bool,
-) -> Routed
-    ensures { Gives Routed routed_reply ioapic.old ioapic.new apic.old apic.new result (set_gsi_level (board_in ioapic.old apic.old) gsi asserted) }
+) -> Option<IoApicInterrupt>
+    ensures { Gives (Option IoApicInterrupt) routed_reply ioapic.old ioapic.new apic.old apic.new result (set_gsi_level (board_in ioapic.old apic.old) gsi asserted) }
 {
     let routed = vioapic::set_gsi_level(ioapic, gsi, asserted);
     request_routed(apic, routed);
@@ -94,16 +93,16 @@ pub fn set_gsi_level(
 }
 
 // The guest accepts an interrupt, whatever the I/O APIC holds.
-pub fn accept_interrupt(apic: &mut [u64; 48]) -> Acceptance
-    ensures { (io : List ℕ) → Gives Acceptance acceptance_reply io io apic.old apic.new result (accept_interrupt (board_in io apic.old)) }
+pub fn accept_interrupt(apic: &mut [u64; 48]) -> Option<Vector>
+    ensures { (io : List ℕ) → Gives (Option Vector) acceptance_reply io io apic.old apic.new result (accept_interrupt (board_in io apic.old)) }
 {
     vlapic_requests::accept(apic)
 }
 
 // The EOI message goes to the I/O APIC.
 #[tactic(auto, using(crate::proofs::Ways::broadcast_way))]
-fn broadcast(ioapic: &mut [u64; 32], apic: &mut [u64; 48], vector: Vector) -> Eoi
-    ensures { Gives Eoi eoi_reply ioapic.old ioapic.new apic.old apic.new result (ended_to (apic-words.view apic.old) vector (end_of (io-words.view ioapic.old) vector)) }
+fn broadcast(ioapic: &mut [u64; 32], apic: &mut [u64; 48], vector: Vector) -> Option<Eoi>
+    ensures { Gives (Option Eoi) eoi_reply ioapic.old ioapic.new apic.old apic.new result (ended_to (apic-words.view apic.old) vector (end_of (io-words.view ioapic.old) vector)) }
 {
     let eoi = vioapic::end_of_interrupt(ioapic, vector);
     request_ended(apic, vector, eoi);
@@ -112,12 +111,12 @@ fn broadcast(ioapic: &mut [u64; 32], apic: &mut [u64; 48], vector: Vector) -> Eo
 
 // The guest's EOI.
 #[tactic(auto, using(crate::proofs::Ways::eoi_told, crate::proofs::Ways::eoi_silent))]
-pub fn handle_eoi(ioapic: &mut [u64; 32], apic: &mut [u64; 48]) -> Eoi
-    ensures { Gives Eoi eoi_reply ioapic.old ioapic.new apic.old apic.new result (handle_eoi (board_in ioapic.old apic.old)) }
+pub fn handle_eoi(ioapic: &mut [u64; 32], apic: &mut [u64; 48]) -> Option<Eoi>
+    ensures { Gives (Option Eoi) eoi_reply ioapic.old ioapic.new apic.old apic.new result (handle_eoi (board_in ioapic.old apic.old)) }
 {
     match vlapic_requests::end_highest(apic) {
-        EoiAnswer::Broadcast(vector) => broadcast(ioapic, apic, vector),
-        EoiAnswer::Nothing => Eoi::NotEnded,
+        Some(vector) => broadcast(ioapic, apic, vector),
+        None => None,
     }
 }
 
@@ -137,8 +136,8 @@ pub fn handle_write(
     addr: u64,
     width: u64,
     value: u64,
-) -> Written
-    ensures { Gives Written written_reply ioapic.old ioapic.new apic.old apic.new result (handle_write (board_in ioapic.old apic.old) addr width value) }
+) -> Result<Written, Refusal>
+    ensures { Gives (Result Written Refusal) written_reply ioapic.old ioapic.new apic.old apic.new result (handle_write (board_in ioapic.old apic.old) addr width value) }
 {
     let written = vioapic::handle_write(ioapic, addr, width, value);
     request_written(apic, value, written);
@@ -173,24 +172,24 @@ impl VirtualBoard {
     }
 
     // Updates one input line of the I/O APIC.
-    pub fn set_gsi_level(mut self, gsi: Gsi, asserted: bool) -> (VirtualBoard, Routed)
-        ensures { Gives Routed routed_reply self.ioapic result.0.ioapic self.apic result.0.apic result.1 (set_gsi_level (board_in self.ioapic self.apic) gsi asserted) }
+    pub fn set_gsi_level(mut self, gsi: Gsi, asserted: bool) -> (VirtualBoard, Option<IoApicInterrupt>)
+        ensures { Gives (Option IoApicInterrupt) routed_reply self.ioapic result.0.ioapic self.apic result.0.apic result.1 (set_gsi_level (board_in self.ioapic self.apic) gsi asserted) }
     {
         let answer = set_gsi_level(&mut self.ioapic, &mut self.apic, gsi, asserted);
         (self, answer)
     }
 
     // The guest accepts an interrupt.
-    pub fn accept_interrupt(mut self) -> (VirtualBoard, Acceptance)
-        ensures { Gives Acceptance acceptance_reply self.ioapic result.0.ioapic self.apic result.0.apic result.1 (accept_interrupt (board_in self.ioapic self.apic)) }
+    pub fn accept_interrupt(mut self) -> (VirtualBoard, Option<Vector>)
+        ensures { Gives (Option Vector) acceptance_reply self.ioapic result.0.ioapic self.apic result.0.apic result.1 (accept_interrupt (board_in self.ioapic self.apic)) }
     {
         let answer = accept_interrupt(&mut self.apic);
         (self, answer)
     }
 
     // The guest's EOI.
-    pub fn handle_eoi(mut self) -> (VirtualBoard, Eoi)
-        ensures { Gives Eoi eoi_reply self.ioapic result.0.ioapic self.apic result.0.apic result.1 (handle_eoi (board_in self.ioapic self.apic)) }
+    pub fn handle_eoi(mut self) -> (VirtualBoard, Option<Eoi>)
+        ensures { Gives (Option Eoi) eoi_reply self.ioapic result.0.ioapic self.apic result.0.apic result.1 (handle_eoi (board_in self.ioapic self.apic)) }
     {
         let answer = handle_eoi(&mut self.ioapic, &mut self.apic);
         (self, answer)
@@ -205,8 +204,8 @@ impl VirtualBoard {
     }
 
     // Handles an I/O APIC MMIO write.
-    pub fn handle_write(mut self, addr: u64, width: u64, value: u64) -> (VirtualBoard, Written)
-        ensures { Gives Written written_reply self.ioapic result.0.ioapic self.apic result.0.apic result.1 (handle_write (board_in self.ioapic self.apic) addr width value) }
+    pub fn handle_write(mut self, addr: u64, width: u64, value: u64) -> (VirtualBoard, Result<Written, Refusal>)
+        ensures { Gives (Result Written Refusal) written_reply self.ioapic result.0.ioapic self.apic result.0.apic result.1 (handle_write (board_in self.ioapic self.apic) addr width value) }
     {
         let answer = handle_write(&mut self.ioapic, &mut self.apic, addr, width, value);
         (self, answer)

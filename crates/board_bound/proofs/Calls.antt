@@ -1,4 +1,5 @@
 -- What each call leaves of the registers of requests and of vectors in service. Assumes nothing.
+use Rattle.std.specs.Prelude.{None}
 use Prim.Native.Nat.{ℕ, ◌/◌, ◌%◌, ◌≤◌, ◌<◌}
 use native.Mathlib.Omega.{arith}
 use mathlib.Core.Bool.{Bool, true, false, not, cond}
@@ -14,7 +15,6 @@ use Rattle.planner.proofs.Laws.{none_at}
 use Rattle.vioapic.specs.Table.{set_level}
 use Rattle.vioapic.specs.IoApic.{handle_writing}
 use Rattle.vlapic.specs.declared.VirtualApicRegs.{VirtualApicRegs}
-use Rattle.vlapic.specs.declared.EoiAnswer.TheVariants as local
 use Rattle.vlapic_regs.specs.Vectors.{in_words}
 use Rattle.vlapic_requests.specs.Requests.{highest, ranked, received_illegal, ended}
 use Rattle.vlapic_requests.specs.Requests as apic
@@ -78,7 +78,7 @@ end_irr : (s : VirtualApicRegs) → (apic.end_highest s).state.irr ≡ s.irr
 unfolding apic.end_highest ranked
 end_irr s = go (eqb (highest s.isr) 0)
   where
-    go : (b : Bool) → (cond b (apic.after s local.Nothing) (apic.ending s (highest s.isr))).state.irr ≡ s.irr
+    go : (b : Bool) → (cond b (apic.after s None) (apic.ending s (highest s.isr))).state.irr ≡ s.irr
     go true = refl
     go false = refl
 

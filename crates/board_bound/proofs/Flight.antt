@@ -1,4 +1,5 @@
 -- A held line's entry stays in flight, and its vector keeps its trace. Assumes nothing.
+use Rattle.std.specs.Prelude.{Option, Some, None}
 use Prim.Native.Nat.{ℕ, ◌%◌, ◌^◌, ◌<◌}
 use native.Mathlib.Decide.{ℕ_discrete}
 use mathlib.Core.Bool.{Bool, true, false, not, cond, ◌&&◌}
@@ -20,8 +21,6 @@ use Rattle.vioapic_theorems.proofs.Steps.{awaits_yes}
 use Rattle.vioapic_theorems.proofs.Tables.{put_same, put_other, every_at}
 use Rattle.vioapic_theorems.proofs.Views.{Sent, Over, over_view20, Stored, level_view}
 use Rattle.vlapic.specs.declared.VirtualApicRegs.{VirtualApicRegs}
-use Rattle.vlapic.specs.declared.EoiAnswer.{EoiAnswer}
-use Rattle.vlapic.specs.declared.EoiAnswer.TheVariants as local
 use Rattle.vlapic_requests.specs.Requests as apic
 use Rattle.board.specs.Board.{Board, told_to, set_gsi_level, accept_interrupt, handle_eoi, write_tpr, handle_write, receive}
 use Rattle.board.specs.Calls.{Call, SetGsiLevel, AcceptInterrupt, HandleEoi, WriteTpr, HandleWrite, Receive, outcome, next}
@@ -89,9 +88,9 @@ flight_stays v b (SetGsiLevel gsi up) g k w n = line_stays v b.ioapic gsi up (se
 flight_stays v b AcceptInterrupt g k w n = w
 flight_stays v b HandleEoi g k w n = told (apic.end_highest b.apic).state (apic.end_highest b.apic).answer n
   where
-    told : (s : VirtualApicRegs) (a : EoiAnswer) → held_entry v (entry_at (told_to b.ioapic s a).board.ioapic g) ≡ true → awaits v (entry_at (told_to b.ioapic s a).board.ioapic g) ≡ true
-    told s local.Nothing n = w
-    told s (local.Broadcast u) n =
+    told : (s : VirtualApicRegs) (a : Option Vector) → held_entry v (entry_at (told_to b.ioapic s a).board.ioapic g) ≡ true → awaits v (entry_at (told_to b.ioapic s a).board.ioapic g) ≡ true
+    told s None n = w
+    told s (Some u) n =
         let same = end_of_new b.ioapic u k.version in
         ap (λ (o : Ending). awaits v (entry_at o.state g)) same
         ∙ every_flies v u b.ioapic g k.chip.agrees w (sym (ap (λ (o : Ending). held_entry v (entry_at o.state g)) same) ∙ n)

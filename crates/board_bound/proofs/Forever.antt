@@ -1,8 +1,8 @@
 -- Who waits for ever: the board comes back to where it was. Assumes nothing.
+use Rattle.std.specs.Prelude.{None}
 use Prim.Native.Nat.{ℕ, zero, suc}
 use mathlib.Core.Bool.{Bool, true, false}
 use mathlib.Core.Path.{◌≡◌, refl, ap, ◌∙◌}
-use Rattle.vioapic_entry.specs.declared.Routed.TheVariants.{NotRouted}
 use Rattle.board.specs.Board.{Board, set_gsi_level}
 use Rattle.board.specs.Calls.{Call, AcceptInterrupt, HandleEoi, next, run}
 use Rattle.board_theorems.specs.CounterExamples.{line, write_eoi_of}
@@ -130,7 +130,7 @@ unfolding accepted_at accepts eois
 eois_none zero = refl
 eois_none (suc n) = rw (ended, eois_none n)
 
-unsent : ((set_gsi_level forgotten (record { 0 = 0 }) true).answer ≡ NotRouted) × (steps_before v31 (next forgotten (line 0 true)) ≡ 0)
+unsent : ((set_gsi_level forgotten (record { 0 = 0 }) true).answer ≡ None) × (steps_before v31 (next forgotten (line 0 true)) ≡ 0)
 unfolding computed forgotten
 unsent = (refl, refl)
 

@@ -1,4 +1,5 @@
 -- From the line: a raise that sends, a line that is held, and the whole way from a new board. Assumes nothing.
+use Rattle.std.specs.Prelude.{Option, Some}
 use Prim.Native.Nat.{ℕ, zero, suc, ◌%◌, ◌≤◌, ◌<◌}
 use native.Mathlib.Omega.{arith}
 use mathlib.Core.Bool.{Bool, true, false, not, cond, ◌&&◌, ◌||◌}
@@ -14,13 +15,10 @@ use Rattle.types.specs.declared.Vector.{Vector}
 use Rattle.vioapic_entry.specs.Redirection.{vector_of, remote_irr, is_level, awaits}
 use Rattle.vioapic_entry.specs.declared.Entry.{Entry}
 use Rattle.vioapic_entry.specs.declared.IoApicInterrupt.{IoApicInterrupt}
-use Rattle.vioapic_entry.specs.declared.Routed.{Routed}
-use Rattle.vioapic_entry.specs.declared.Routed.TheVariants as routed
 use Rattle.vioapic.specs.Table.{no_entry, entry_at, set_level}
 use Rattle.vioapic_theorems.proofs.Steps.{awaits_yes, awaiting}
 use Rattle.vioapic_theorems.proofs.Views.{level_view}
 use Rattle.vlapic_regs.specs.Vectors.{in_words}
-use Rattle.vlapic_requests.specs.declared.Acceptance.{Acceptance}
 use Rattle.vlapic_requests.specs.Requests.{highest}
 use Rattle.vlapic_requests.specs.Requests as apic
 use Rattle.board.specs.Board.{Board, After, new_board, requested, set_gsi_level, accept_interrupt}
@@ -44,14 +42,14 @@ use Rattle.board_bound.proofs.Flight.{holding, flight_stays, trace_stays}
 
 -- ---- a raise that sends
 
-raise_requests : (b : Board) (g : Gsi) (i : IoApicInterrupt) → BoardRules b → (set_gsi_level b g true).answer ≡ routed.Interrupt i → is_requested i.vector (next b (SetGsiLevel g true)) ≡ true
+raise_requests : (b : Board) (g : Gsi) (i : IoApicInterrupt) → BoardRules b → (set_gsi_level b g true).answer ≡ Some i → is_requested i.vector (next b (SetGsiLevel g true)) ≡ true
 unfolding outcome set_gsi_level apic.request
 raise_requests b g i k e =
-    let l : Legal (routed.Interrupt i) = rw e at (line_legal b.ioapic g true (set_level b.ioapic g true) (level_view b.ioapic g true)) in
-    ap (λ (r : Routed). in_words (requested b.apic r).irr i.vector.0) e ∙ put_same b.apic.irr i.vector.0 k.local.eight.0 l.1
+    let l : Legal (Some i) = rw e at (line_legal b.ioapic g true (set_level b.ioapic g true) (level_view b.ioapic g true)) in
+    ap (λ (r : Option IoApicInterrupt). in_words (requested b.apic r).irr i.vector.0) e ∙ put_same b.apic.irr i.vector.0 k.local.eight.0 l.1
 
 -- nothing else changes, so that r and s are as before it
-raise_quiet : (b : Board) (g : Gsi) (i : IoApicInterrupt) → BoardRules b → (set_gsi_level b g true).answer ≡ routed.Interrupt i → is_quiet i.vector b (SetGsiLevel g true) ≡ true
+raise_quiet : (b : Board) (g : Gsi) (i : IoApicInterrupt) → BoardRules b → (set_gsi_level b g true).answer ≡ Some i → is_quiet i.vector b (SetGsiLevel g true) ≡ true
 unfolding outcome set_gsi_level apic.request
 raise_quiet b g i k e = ap not (some_no (is_new i.vector b (SetGsiLevel g true)) 256 (λ u l. at u l (ltb i.vector.0 u) refl))
   where
@@ -60,7 +58,7 @@ raise_quiet b g i k e = ap not (some_no (is_new i.vector b (SetGsiLevel g true))
     at u l true q =
         let n : i.vector.0 < u = ltb-true i.vector.0 u q in
         let same : in_words (requested b.apic (set_level b.ioapic g true).answer).irr u ≡ in_words b.apic.irr u =
-        ap (λ (r : Routed). in_words (requested b.apic r).irr u) e ∙ put_other b.apic.irr i.vector.0 k.local.eight.0 u l (λ z. omega arith) in
+        ap (λ (r : Option IoApicInterrupt). in_words (requested b.apic r).irr u) e ∙ put_other b.apic.irr i.vector.0 k.local.eight.0 u l (λ z. omega arith) in
         rw (q, same) (neither (in_words b.apic.irr u))
       where
         neither : (d : Bool) → (not d && d) ≡ false
@@ -167,8 +165,8 @@ passes_over u v g b AcceptInterrupt k m s = go (can_accept b) refl
     go : (d : Bool) → can_accept b ≡ d → is_of v (accept_interrupt b).answer ≡ false
     go true a =
         let n : u.0 ≤ highest b.apic.irr = at_least u b k (flies_small u g b s.flies) (stands_waits u g b s) a in
-        ap (λ (o : After Acceptance). is_of v o.answer) (accept_is u b k (flies_small u g b s.flies) (stands_waits u g b s) a) ∙ ne_eqb (highest b.apic.irr) v.0 (λ z. omega arith)
-    go false a = ap (λ (o : After Acceptance). is_of v o.answer) (accepts_none b (λ w l. none_at (can_pass b.apic) 256 w a l))
+        ap (λ (o : After (Option Vector)). is_of v o.answer) (accept_is u b k (flies_small u g b s.flies) (stands_waits u g b s) a) ∙ ne_eqb (highest b.apic.irr) v.0 (λ z. omega arith)
+    go false a = ap (λ (o : After (Option Vector)). is_of v o.answer) (accepts_none b (λ w l. none_at (can_pass b.apic) 256 w a l))
 passes_over u v g b HandleEoi k m s = refl
 passes_over u v g b (WriteTpr x) k m s = refl
 passes_over u v g b (HandleWrite addr width x) k m s = refl

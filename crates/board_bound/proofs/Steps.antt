@@ -1,4 +1,5 @@
 -- One call: while v waits, 2r + s falls by one at a step and stays at any other call, and v is accepted where a step finds it 0. Assumes nothing.
+use Rattle.std.specs.Prelude.{Option, Some}
 use Prim.Native.Nat.{ℕ, ◌+◌, ◌*◌, ◌≤◌, ◌<◌}
 use native.Mathlib.Omega.{arith}
 use mathlib.Core.Bool.{Bool, true, false, cond, ◌&&◌, ◌||◌}
@@ -16,8 +17,6 @@ use Rattle.planner_theorems.proofs.Counting.{count_same}
 use Rattle.vlapic.specs.declared.VirtualApicRegs.{VirtualApicRegs}
 use Rattle.vlapic_regs.specs.Vectors.{in_words, without_vector}
 use Rattle.vlapic_regs.specs.Register.{priority}
-use Rattle.vlapic_requests.specs.declared.Acceptance.{Acceptance}
-use Rattle.vlapic_requests.specs.declared.Acceptance.TheVariants.{Accepted}
 use Rattle.vlapic_requests.specs.Requests.{highest, ranked, is_acceptable, taken, ended}
 use Rattle.vlapic_requests.specs.Requests as apic
 use Rattle.board.specs.Board.{Board, After, after, accept_interrupt}
@@ -139,7 +138,7 @@ module _ (v : Vector) (b : Board) (k : BoardRules b) (l : v.0 < 256) (w : waits 
     small : highest b.apic.irr < 256
     small = highest_small b.apic.irr
 
-    pub accept_is : accept_interrupt b ≡ after b.ioapic (taken b.apic (highest b.apic.irr)) (Accepted (record { 0 = highest b.apic.irr }))
+    pub accept_is : accept_interrupt b ≡ after b.ioapic (taken b.apic (highest b.apic.irr)) (Some (record { 0 = highest b.apic.irr }))
     unfolding accept_interrupt apic.accept
     accept_is = rw (sym (acceptable b.apic) ∙ a)
 
@@ -180,7 +179,7 @@ module _ (v : Vector) (b : Board) (k : BoardRules b) (l : v.0 < 256) (w : waits 
 
     pub accepted_is : next b AcceptInterrupt ≡ record { ioapic = b.ioapic; apic = taken b.apic (highest b.apic.irr) }
     unfolding outcome
-    accepted_is = ap (λ (o : After Acceptance). o.board) accept_is
+    accepted_is = ap (λ (o : After (Option Vector)). o.board) accept_is
 
     fewer_requests : v.0 < highest b.apic.irr → requests_above v b ≡ requests_above v left_by + 1
     unfolding requests_above ranked
@@ -274,7 +273,7 @@ module _ (v : Vector) (b : Board) (k : BoardRules b) (l : v.0 < 256) (w : waits 
   accept_call a = go (eqb (highest b.apic.irr) v.0) refl
     where
       is : is_of v (accept_interrupt b).answer ≡ eqb (highest b.apic.irr) v.0
-      is = ap (λ (o : After Acceptance). is_of v o.answer) (accept_is v b k l w a)
+      is = ap (λ (o : After (Option Vector)). is_of v o.answer) (accept_is v b k l w a)
 
       go : (c : Bool) → eqb (highest b.apic.irr) v.0 ≡ c → One v b AcceptInterrupt
       go true e =
@@ -306,7 +305,7 @@ module _ (v : Vector) (b : Board) (k : BoardRules b) (l : v.0 < 256) (w : waits 
   request_stays AcceptInterrupt o a h = left
     where
       other : v.0 ≡ highest b.apic.irr → ⊥
-      other e = never (eq-eqb (highest b.apic.irr) v.0 (sym e)) (sym (ap (λ (r : After Acceptance). is_of v r.answer) (accept_is v b k l w o)) ∙ a)
+      other e = never (eq-eqb (highest b.apic.irr) v.0 (sym e)) (sym (ap (λ (r : After (Option Vector)). is_of v r.answer) (accept_is v b k l w o)) ∙ a)
 
       left : is_requested v (next b AcceptInterrupt) ≡ true
       left = ap (is_requested v) (accepted_is v b k l w o) ∙ taken_irr b.apic (highest b.apic.irr) v.0 ∙ take_other b.apic.irr (highest b.apic.irr) k.local.eight.0 v.0 l other ∙ h

@@ -1,12 +1,11 @@
 -- How long a request can wait (document 02, T-09): exactly 2r + s steps, and who waits for ever.
-use Rattle.std.specs.Prelude.{ℕ, suc, ◌+◌, ◌<◌, Bool, true, false, cond, ◌&&◌, ◌||◌, List, ◌∷◌, ◌≡◌, eqb, ltb}
+use Rattle.std.specs.Prelude.{ℕ, suc, ◌+◌, ◌<◌, Bool, true, false, cond, ◌&&◌, ◌||◌, List, ◌∷◌, ◌≡◌, eqb, ltb, Some}
 use Rattle.types.specs.declared.Gsi.{Gsi}
 use Rattle.types.specs.declared.Vector.{Vector}
 use Rattle.types.specs.Reply.{flag}
 use Rattle.vioapic_entry.specs.Redirection.{is_level, is_fit, has_vector, awaits}
 use Rattle.vioapic_entry.specs.declared.IoApicInterrupt.{IoApicInterrupt}
 use Rattle.vioapic_entry.specs.declared.Entry.{Entry}
-use Rattle.vioapic_entry.specs.declared.Routed.TheVariants as routed
 use Rattle.vioapic.specs.Table.{entry_at}
 use Rattle.board.specs.Board.{Board, new_board, set_gsi_level}
 use Rattle.board.specs.Calls.{Call, SetGsiLevel, next, run}
@@ -50,7 +49,7 @@ abbrev pub FromRaise : Type 0
 FromRaise =
     (b : Board) (g : Gsi) (i : IoApicInterrupt) (cs : List Call)
     → BoardRules b
-    → (set_gsi_level b g true).answer ≡ routed.Interrupt i
+    → (set_gsi_level b g true).answer ≡ Some i
     → Fair i.vector (next b (SetGsiLevel g true)) cs
     → AcceptedAfter (steps_before i.vector b) i.vector b (SetGsiLevel g true ∷ cs)
 

@@ -1,9 +1,8 @@
 -- Who waits for ever (document 02, T-09): below a held line; where the guest ends its interrupts at the I/O APIC's EOI register alone; and behind a raise that sends nothing.
 -- Theorems over the length of a trace.
-use Rattle.std.specs.Prelude.{ℕ, zero, suc, ◌<◌, true, false, not, List, [], ◌∷◌, ◌≡◌}
+use Rattle.std.specs.Prelude.{ℕ, zero, suc, ◌<◌, true, false, not, List, [], ◌∷◌, ◌≡◌, None}
 use Rattle.types.specs.declared.Vector.{Vector}
 use Rattle.vioapic_entry.specs.Redirection.{awaits}
-use Rattle.vioapic_entry.specs.declared.Routed.TheVariants.{NotRouted}
 use Rattle.vioapic.specs.Table.{entry_at}
 use Rattle.board.specs.Board.{Board, new_board, set_gsi_level}
 use Rattle.board.specs.Calls.{Call, AcceptInterrupt, HandleEoi, next, run}
@@ -89,7 +88,7 @@ eois (suc n) = HandleEoi ∷ eois n
 -- line is held
 abbrev pub SendsNothing : Type 0
 SendsNothing =
-    ((set_gsi_level forgotten (record { 0 = 0 }) true).answer ≡ NotRouted)
+    ((set_gsi_level forgotten (record { 0 = 0 }) true).answer ≡ None)
     × (steps_before v31 (next forgotten (line 0 true)) ≡ 0)
     × ((n : ℕ)
     → (steps (eois n) ≡ n)

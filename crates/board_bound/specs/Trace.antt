@@ -1,12 +1,10 @@
 -- Traces of a board's calls (document 02, T-09): steps, the guest's rule, and the step at which a vector is accepted.
 -- Intel SDM volume 3, the APIC chapter: interrupt, task and processor priority; interrupt acceptance for fixed interrupts; signaling interrupt servicing completion.
-use Rattle.std.specs.Prelude.{ℕ, zero, suc, ◌+◌, ◌*◌, Bool, true, false, not, cond, ◌&&◌, ◌||◌, List, [], ◌∷◌, eqb, leb, ltb}
+use Rattle.std.specs.Prelude.{ℕ, zero, suc, ◌+◌, ◌*◌, Bool, true, false, not, cond, ◌&&◌, ◌||◌, List, [], ◌∷◌, eqb, leb, ltb, Option, Some, None}
 use Rattle.utils.specs.Vectors.{class_of}
 use Rattle.types.specs.declared.Vector.{Vector}
 use Rattle.planner.specs.Lines.{some, count}
 use Rattle.vlapic_regs.specs.Vectors.{in_words}
-use Rattle.vlapic_requests.specs.declared.Acceptance.{Acceptance}
-use Rattle.vlapic_requests.specs.declared.Acceptance.TheVariants.{NotAccepted, Accepted}
 use Rattle.board.specs.Board.{Board, accept_interrupt}
 use Rattle.board.specs.Calls.{Call, SetGsiLevel, AcceptInterrupt, HandleEoi, WriteTpr, HandleWrite, Receive, next}
 use Rattle.board_theorems.specs.Highest.{can_pass}
@@ -53,9 +51,9 @@ steps [] = 0
 steps (c ∷ cs) = cond (is_step c) (suc (steps cs)) (steps cs)
 
 -- the call accepts v
-abbrev pub is_of : Vector → Acceptance → Bool
-is_of v NotAccepted = false
-is_of v (Accepted u) = eqb u.0 v.0
+abbrev pub is_of : Vector → Option Vector → Bool
+is_of v None = false
+is_of v (Some u) = eqb u.0 v.0
 
 unfoldable pub accepts : Vector → Board → Call → Bool
 accepts v b AcceptInterrupt = is_of v (accept_interrupt b).answer

@@ -1,4 +1,6 @@
 -- Equal words and codes come from equal outcomes: the board's replies fit their codes. Assumes nothing.
+use Rattle.types.specs.declared.Vector.{Vector}
+use Rattle.std.specs.Prelude.{Option, Some, None}
 use Prim.Native.Nat.{ℕ, ◌<◌, ◌^◌}
 use mathlib.Core.Bool.{Bool, true, false, cond}
 use mathlib.Core.List.{List}
@@ -16,8 +18,6 @@ use Rattle.vioapic.specs.IoApic as chip
 use Rattle.vioapic.specs.Answers.{eoi_reply}
 use Rattle.vioapic_fit.proofs.Fit.{level_fits, end_fits, write_fits}
 use Rattle.vlapic.specs.declared.VirtualApicRegs.{VirtualApicRegs}
-use Rattle.vlapic.specs.declared.EoiAnswer.{EoiAnswer}
-use Rattle.vlapic.specs.declared.EoiAnswer.TheVariants as local
 use Rattle.vlapic_regs.specs.Vectors.{highest_from}
 use Rattle.vlapic_regs.proofs.Highest.{served}
 use Rattle.vlapic_requests.specs.Requests as apic
@@ -38,10 +38,10 @@ accept_fits s = go (apic.is_acceptable s) refl
     go true e = rw e (highest_fits s.irr)
     go false e = rw e tt
 
-told_fits : (io : IoApicState) (s : VirtualApicRegs) (a : EoiAnswer) → Fits (eoi_reply (told_to io s a).answer)
+told_fits : (io : IoApicState) (s : VirtualApicRegs) (a : Option Vector) → Fits (eoi_reply (told_to io s a).answer)
 unfolding chip.end_of_interrupt
-told_fits io s local.Nothing = tt
-told_fits io s (local.Broadcast v) = end_fits io v
+told_fits io s None = tt
+told_fits io s (Some v) = end_fits io v
 
 pub replies_fit : (b : Board) (c : Call) → Fits (outcome b c).reply
 unfolding outcome set_gsi_level accept_interrupt handle_eoi handle_write chip.set_gsi_level chip.handle_write

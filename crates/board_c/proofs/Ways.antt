@@ -1,4 +1,6 @@
 -- A call's answer, its reply and the reply's code: io and l are the words before, io' and l' those after. Assumes nothing.
+use Rattle.types.specs.declared.Vector.{Vector}
+use Rattle.std.specs.Prelude.{Option, Result}
 use Prim.Native.Nat.{ℕ, ◌%◌, ◌<◌, ◌≤◌}
 use mathlib.Core.Bool.{Bool}
 use mathlib.Core.List.{List}
@@ -13,16 +15,16 @@ use Rattle.types.specs.declared.Reply.{Reply}
 use Rattle.types.specs.declared.Reply.TheVariants.{Refused, Nothing}
 use Rattle.reply_code.specs.Lent.{reply_code, is_up}
 use Rattle.vioapic_entry.specs.Answers.{routed_reply}
-use Rattle.vioapic_entry.specs.declared.Routed.{Routed}
+use Rattle.vioapic_entry.specs.declared.IoApicInterrupt.{IoApicInterrupt}
 use Rattle.vioapic.specs.Answers.{eoi_reply, written_reply}
 use Rattle.vioapic.specs.declared.Eoi.{Eoi}
 use Rattle.vioapic.specs.declared.Written.{Written}
-use Rattle.vlapic_requests.specs.declared.Acceptance.{Acceptance}
 use Rattle.vlapic_requests.specs.Requests as apic
 use Rattle.board.specs.Board.{Board, board_in, After, set_gsi_level, accept_interrupt, handle_eoi, write_tpr, handle_write, receive}
 use Rattle.board.specs.Promise.{acceptance_reply, Gives, Becomes}
 use Rattle.board.specs.Calls.{replied, outcome, SetGsiLevel, AcceptInterrupt, HandleEoi, WriteTpr, HandleWrite}
 use Rattle.board_c.specs.Calls.{Coded, receive_number}
+use Rattle.types.specs.declared.Refusal.{Refusal}
 
 module _ (io io' l l' : List ℕ) where
   coded : {A : Type 0} (reply : A → Reply) (a : A) (x : Reply) (n : ℕ) (o : After A) → Gives A reply io io' l l' a o → x ≡ reply a → n ≡ reply_code x
@@ -41,24 +43,24 @@ module _ (io io' l l' : List ℕ) where
   silent b h = record { board = h.board; answer = refl; untouched = (tt, tt); kept = h.kept; stored = h.stored }
 
   module _ (x : Reply) (n : ℕ) where
-    pub level_coded : (gsi : Gsi) (b up : Bool) (a : Routed) → b ≡ up → Gives Routed routed_reply io io' l l' a (set_gsi_level (board_in io l) gsi b) → x ≡ routed_reply a → n ≡ reply_code x
+    pub level_coded : (gsi : Gsi) (b up : Bool) (a : Option IoApicInterrupt) → b ≡ up → Gives (Option IoApicInterrupt) routed_reply io io' l l' a (set_gsi_level (board_in io l) gsi b) → x ≡ routed_reply a → n ≡ reply_code x
         → Coded io io' l l' n (outcome (board_in io l) (SetGsiLevel gsi up))
     unfolding outcome
     level_coded gsi b up a e h p q = rw (← e) (coded routed_reply a x n _ h p q)
 
-    pub eoi_coded : (a : Eoi) → Gives Eoi eoi_reply io io' l l' a (handle_eoi (board_in io l)) → x ≡ eoi_reply a → n ≡ reply_code x
+    pub eoi_coded : (a : Option Eoi) → Gives (Option Eoi) eoi_reply io io' l l' a (handle_eoi (board_in io l)) → x ≡ eoi_reply a → n ≡ reply_code x
         → Coded io io' l l' n (outcome (board_in io l) HandleEoi)
     unfolding outcome
     eoi_coded a h p q = coded eoi_reply a x n _ h p q
 
-    pub write_coded : (addr width value : ℕ) (a : Written) → Gives Written written_reply io io' l l' a (handle_write (board_in io l) addr width value) → x ≡ written_reply a → n ≡ reply_code x
+    pub write_coded : (addr width value : ℕ) (a : Result Written Refusal) → Gives (Result Written Refusal) written_reply io io' l l' a (handle_write (board_in io l) addr width value) → x ≡ written_reply a → n ≡ reply_code x
         → Coded io io' l l' n (outcome (board_in io l) (HandleWrite addr width value))
     unfolding outcome
     write_coded addr width value a h p q = coded written_reply a x n _ h p q
 
 -- the calls of the local APIC alone: whatever the I/O APIC holds
 module _ (l l' : List ℕ) where
-  pub acceptance_coded : (x : Reply) (n : ℕ) (a : Acceptance) → ((io : List ℕ) → Gives Acceptance acceptance_reply io io l l' a (accept_interrupt (board_in io l))) → x ≡ acceptance_reply a → n ≡ reply_code x
+  pub acceptance_coded : (x : Reply) (n : ℕ) (a : Option Vector) → ((io : List ℕ) → Gives (Option Vector) acceptance_reply io io l l' a (accept_interrupt (board_in io l))) → x ≡ acceptance_reply a → n ≡ reply_code x
       → (io : List ℕ) → Coded io io l l' n (outcome (board_in io l) AcceptInterrupt)
   unfolding outcome
   acceptance_coded x n a h p q io = coded io io l l' acceptance_reply a x n _ (h io) p q

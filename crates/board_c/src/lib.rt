@@ -11,7 +11,7 @@ ghost use Rattle.board.specs.Calls.{outcome, SetGsiLevel, AcceptInterrupt, Handl
 ghost use Rattle.board_c.specs.Calls.{Coded, receive_number};
 
 use reply_code::{code, is_up};
-use types::{Gsi, Refusal, Reply, Vector};
+use types::{Gsi, Refusal, Reply, ToReply, Vector};
 
 #[unsafe(no_mangle)]
 pub extern "C" fn sillwander_board_new(ioapic: &mut [u64; 32], apic: &mut [u64; 48]) -> u64

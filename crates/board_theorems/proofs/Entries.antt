@@ -1,4 +1,5 @@
 -- An entry in flight with v after a call was so before it, unless a level request of v went with it or the word of another was put there. Assumes nothing.
+use Rattle.std.specs.Prelude.{Option, Some, None}
 use Prim.Native.Nat.{ℕ, ◌%◌, ◌<◌}
 use native.Mathlib.Decide.{ℕ_discrete}
 use mathlib.Core.Bool.{Bool, true, false, not, cond, ◌&&◌}
@@ -14,8 +15,7 @@ use Rattle.types.specs.declared.Vector.{Vector}
 use Rattle.vioapic_entry.specs.Answers.{routed_reply, is_routed}
 use Rattle.vioapic_entry.specs.Redirection.{EntryStep, is_level, remote_irr, has_vector, awaits, move_line, end_entry20, write_high, replace_high, with_word, store_low20}
 use Rattle.vioapic_entry.specs.declared.Entry.{Entry}
-use Rattle.vioapic_entry.specs.declared.Routed.{Routed}
-use Rattle.vioapic_entry.specs.declared.Routed.TheVariants.{NotRouted, Interrupt}
+use Rattle.vioapic_entry.specs.declared.IoApicInterrupt.{IoApicInterrupt}
 use Rattle.vioapic_entry.proofs.Fields.{Alike, same_vector, alike_high, irr_high, irr_without}
 use Rattle.vioapic.specs.State.{IoApicState}
 use Rattle.vioapic.specs.Table.{Routing, is_version20, entry_at, put, ends, sent_by, end_of_every, end_of}
@@ -33,9 +33,9 @@ flag_is : (b : Bool) → eqb (flag b) 1 ≡ b
 flag_is true = refl
 flag_is false = refl
 
-pub not_level : (v : Vector) (r : Routed) → is_level_of v (asked_by r) ≡ false → level_sent v (routed_reply r) ≡ false
-not_level v NotRouted h = refl
-not_level v (Interrupt i) h = rw (flag_is i.level_triggered) h
+pub not_level : (v : Vector) (r : Option IoApicInterrupt) → is_level_of v (asked_by r) ≡ false → level_sent v (routed_reply r) ≡ false
+not_level v None h = refl
+not_level v (Some i) h = rw (flag_is i.level_triggered) h
 
 -- ---- an entry of the state
 

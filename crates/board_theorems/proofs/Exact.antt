@@ -1,4 +1,5 @@
 -- What is lost is exact, and a held line is never forgotten. Assumes nothing.
+use Rattle.std.specs.Prelude.{Option, Some, None, Result, Ok, Err}
 use Prim.Native.Nat.{ℕ, zero, suc, ◌%◌, ◌^◌, ◌<◌}
 use native.Mathlib.Omega.{arith}
 use mathlib.Core.Bool.{Bool, true, false, not, cond, ◌&&◌}
@@ -13,8 +14,7 @@ use Rattle.utils.proofs.Bools.{never, and_true, not_is}
 use Rattle.types.specs.declared.Vector.{Vector}
 use Rattle.vioapic_entry.specs.Redirection.{vector_of, remote_irr, is_level, is_fit, awaits}
 use Rattle.vioapic_entry.specs.declared.Entry.{Entry}
-use Rattle.vioapic_entry.specs.declared.Routed.{Routed}
-use Rattle.vioapic_entry.specs.declared.Routed.TheVariants.{NotRouted, Interrupt}
+use Rattle.vioapic_entry.specs.declared.IoApicInterrupt.{IoApicInterrupt}
 use Rattle.vioapic.specs.State.{IoApicState}
 use Rattle.vioapic.specs.Table.{Ending, new_entry, no_entry, is_version20, entry_at, set_level, ends, sent_by, end_of_every, end_of}
 use Rattle.vioapic.specs.Registers.{Writing, written_send, written_by, entry_of, eoi_written}
@@ -29,11 +29,8 @@ use Rattle.vioapic_theorems.proofs.Masking.{calls_hear, new_hears}
 use Rattle.vioapic_theorems.proofs.Steps.{implied, awaiting, awaits_yes, grounded}
 use Rattle.vioapic_theorems.proofs.Views.{level_view}
 use Rattle.vlapic.specs.declared.VirtualApicRegs.{VirtualApicRegs}
-use Rattle.vlapic.specs.declared.EoiAnswer.{EoiAnswer}
-use Rattle.vlapic.specs.declared.EoiAnswer.TheVariants as local
 use Rattle.vlapic.specs.Priority.{broadcasts}
 use Rattle.vlapic_regs.specs.Vectors.{in_words}
-use Rattle.vlapic_requests.specs.declared.Acceptance.TheVariants.{NotAccepted, Accepted}
 use Rattle.vlapic_requests.specs.Requests.{highest, ranked, received_illegal, is_acceptable, taken, ended}
 use Rattle.vlapic_requests.specs.Requests as apic
 use Rattle.board.specs.Board.{Board, new_board, requested, resent, requested_by_eoi, requested_by_write, told_to, set_gsi_level, accept_interrupt, handle_eoi, write_tpr, handle_write, receive}
@@ -44,12 +41,13 @@ use Rattle.board_theorems.proofs.Sent.{Serves, serves_view}
 use Rattle.board_theorems.proofs.Rules.{highest_in, highest_legal, ended_keeps, chip_keeps_lem, calls_keep_rules, new_keeps_rules, calls_keep_svr}
 use Rattle.board_theorems.proofs.Trace.{applied, taken_trace, ended_other, ended_edge, asked_trace}
 use Rattle.board_theorems.proofs.Entries.{line_awaits, every_awaits, low_awaits, high_awaits}
+use Rattle.types.specs.declared.Refusal.{Refusal}
 
 -- ---- what a call requests, as `asked` says
 
-pub requested_is : (s : VirtualApicRegs) (r : Routed) → requested s r ≡ applied s (asked_by r)
-requested_is s NotRouted = refl
-requested_is s (Interrupt i) = refl
+pub requested_is : (s : VirtualApicRegs) (r : Option IoApicInterrupt) → requested s r ≡ applied s (asked_by r)
+requested_is s None = refl
+requested_is s (Some i) = refl
 
 resent_is : (s : VirtualApicRegs) (v : Vector) (sent : ℕ) → resent s v sent ≡ applied s (asked_again v sent)
 resent_is s v sent = go (eqb sent 0)
@@ -58,20 +56,20 @@ resent_is s v sent = go (eqb sent 0)
     go true = refl
     go false = refl
 
-eoi_is : (s : VirtualApicRegs) (v : Vector) (a : Eoi) → requested_by_eoi s v a ≡ applied s (asked_by_eoi v a)
-eoi_is s v eoi.NotEnded = refl
-eoi_is s v (eoi.Ended e) = requested_is s e.pending
-eoi_is s v (eoi.EndedAll e) = resent_is s v e.sent
+eoi_is : (s : VirtualApicRegs) (v : Vector) (a : Option Eoi) → requested_by_eoi s v a ≡ applied s (asked_by_eoi v a)
+eoi_is s v None = refl
+eoi_is s v (Some (eoi.Ended e)) = requested_is s e.pending
+eoi_is s v (Some (eoi.EndedAll e)) = resent_is s v e.sent
 
-pub write_is : (s : VirtualApicRegs) (x : ℕ) (a : Written) → requested_by_write s x a ≡ applied s (asked_by_write x a)
-write_is s x written.Done = refl
-write_is s x (written.Sent i) = refl
-write_is s x (written.EndedAll e) = resent_is s (record { 0 = x % 2 ^ 8 }) e.sent
-write_is s x (written.NotWritten why) = refl
+pub write_is : (s : VirtualApicRegs) (x : ℕ) (a : Result Written Refusal) → requested_by_write s x a ≡ applied s (asked_by_write x a)
+write_is s x (Ok written.Done) = refl
+write_is s x (Ok (written.Sent i)) = refl
+write_is s x (Ok (written.EndedAll e)) = resent_is s (record { 0 = x % 2 ^ 8 }) e.sent
+write_is s x (Err why) = refl
 
-pub told_is : (m : IoApicState) (s : VirtualApicRegs) (a : EoiAnswer) → (told_to m s a).board.apic ≡ applied s (asked_by_told m a)
-told_is m s local.Nothing = refl
-told_is m s (local.Broadcast v) = eoi_is s v (end_of m v).answer
+pub told_is : (m : IoApicState) (s : VirtualApicRegs) (a : Option Vector) → (told_to m s a).board.apic ≡ applied s (asked_by_told m a)
+told_is m s None = refl
+told_is m s (Some v) = eoi_is s v (end_of m v).answer
 
 -- what a write of the EOI register asks for is what that EOI does
 pub eoi_asked : (v : Vector) (m : IoApicState) (y : ℕ) → is_level_of v (asked_by_write y (eoi_written (end_of_every m (record { 0 = y % 2 ^ 32 % 2 ^ 8 }))).answer)
@@ -82,10 +80,10 @@ eoi_asked v m y = same (eqb (set_of 24 (ends (record { 0 = y % 2 ^ 32 % 2 ^ 8 })
     vector : ◌≡◌ {A = Vector} (record { 0 = y % 2 ^ 8 }) (record { 0 = y % 2 ^ 32 % 2 ^ 8 })
     vector = let e : y % 2 ^ 8 ≡ y % 2 ^ 32 % 2 ^ 8 = omega arith in ap (λ (z : ℕ). record { 0 = z }) e
 
-    answer : Bool → Eoi
-    answer c = cond c eoi.NotEnded (eoi.EndedAll (record { cleared = set_of 24 (ends (record { 0 = y % 2 ^ 32 % 2 ^ 8 }) m); sent = set_of 24 (sent_by (record { 0 = y % 2 ^ 32 % 2 ^ 8 }) m) }))
+    answer : Bool → Option Eoi
+    answer c = cond c None (Some (eoi.EndedAll (record { cleared = set_of 24 (ends (record { 0 = y % 2 ^ 32 % 2 ^ 8 }) m); sent = set_of 24 (sent_by (record { 0 = y % 2 ^ 32 % 2 ^ 8 }) m) })))
 
-    same : (c : Bool) → is_level_of v (asked_by_write y (written_by (answer c))) ≡ is_level_of v (asked_by_eoi (record { 0 = y % 2 ^ 32 % 2 ^ 8 }) (answer c))
+    same : (c : Bool) → is_level_of v (asked_by_write y (Ok (written_by (answer c)))) ≡ is_level_of v (asked_by_eoi (record { 0 = y % 2 ^ 32 % 2 ^ 8 }) (answer c))
     same true = refl
     same false = ap (λ (z : Vector). is_level_of v (asked_again z (set_of 24 (sent_by (record { 0 = y % 2 ^ 32 % 2 ^ 8 }) m)))) vector
 
@@ -108,7 +106,7 @@ accept_trace s k v l = go (is_acceptable s) refl
         let q : class_of s.ppr < class_of (highest s.irr) = ltb-true (class_of s.ppr) (class_of (highest s.irr)) e in
         omega arith
 
-    go : (b : Bool) → is_acceptable s ≡ b → trace v (cond b (apic.after (taken s (highest s.irr)) (Accepted (record { 0 = highest s.irr }))) (apic.after s NotAccepted)).state ≡ trace v s
+    go : (b : Bool) → is_acceptable s ≡ b → trace v (cond b (apic.after (taken s (highest s.irr)) (Some (record { 0 = highest s.irr }))) (apic.after s None)).state ≡ trace v s
     go true e = taken_trace s k v l (highest s.irr) (highest_in s.irr (some e))
     go false e = refl
 
@@ -141,7 +139,7 @@ module _ (v : Vector) (b : Board) (lost : Bool) (k : BoardRules b) (x : Exact v 
       (λ n q. let p = every_awaits b.ioapic k.chip.agrees u v g l (rw e at n) (rw e at w) in tr p.1 ∙ x g l p.0)
 
   -- the guest's EOI
-  abbrev Told : VirtualApicRegs → EoiAnswer → Type 0
+  abbrev Told : VirtualApicRegs → Option Vector → Type 0
   Told s a = awaits v (entry_at (told_to b.ioapic s a).board.ioapic g) ≡ true → trace v (told_to b.ioapic s a).board.apic ≡ not (lost_by (asked_by_told b.ioapic a) lost)
 
   every_is : (u : Vector) → end_of b.ioapic u ≡ end_of_every b.ioapic u
@@ -156,14 +154,14 @@ module _ (v : Vector) (b : Board) (lost : Bool) (k : BoardRules b) (x : Exact v 
       rules e = ended_keeps b.apic k.local (highest b.apic.isr) (highest_legal b.apic.isr (eqb-false (highest b.apic.isr) 0 e))
 
       told : (eqb (highest b.apic.isr) 0 ≡ false) → (c : Bool) → broadcasts b.apic (highest b.apic.isr) ≡ c
-          → Told (ended b.apic (highest b.apic.isr)) (cond c (local.Broadcast (record { 0 = highest b.apic.isr })) local.Nothing)
+          → Told (ended b.apic (highest b.apic.isr)) (cond c (Some (record { 0 = highest b.apic.isr })) None)
       told e true q w =
           every_exact (ended b.apic (highest b.apic.isr)) (rules e) (record { 0 = highest b.apic.isr }) (end_of b.ioapic (record { 0 = highest b.apic.isr })) (every_is (record { 0 = highest b.apic.isr }))
           (λ n. ended_other b.apic k.local v (byte v (entry_at (end_of b.ioapic (record { 0 = highest b.apic.isr })).state g) w) (highest b.apic.isr) (λ i. n (sym i))) w
       told e false q w = silent_trace b.apic k.local t v (byte v (entry_at b.ioapic g) w) (highest b.apic.isr) q ∙ x g l w
 
       go : (c : Bool) → eqb (highest b.apic.isr) 0 ≡ c
-          → Told (cond c (apic.after b.apic local.Nothing) (apic.ending b.apic (highest b.apic.isr))).state (cond c (apic.after b.apic local.Nothing) (apic.ending b.apic (highest b.apic.isr))).answer
+          → Told (cond c (apic.after b.apic None) (apic.ending b.apic (highest b.apic.isr))).state (cond c (apic.after b.apic None) (apic.ending b.apic (highest b.apic.isr))).answer
       go true e w = x g l w
       go false e w = told e (broadcasts b.apic (highest b.apic.isr)) refl w
 
@@ -189,9 +187,9 @@ module _ (v : Vector) (b : Board) (lost : Bool) (k : BoardRules b) (x : Exact v 
     write_awaits w (Serves.low h r j i f o s) n p q =
         low_awaits v b.ioapic h (y % 2 ^ 32) r g k.chip j s (sym (same r.answer) ∙ n) (rw i (rw f at p)) q
       where
-        same : (a : Routed) → is_level_of v (asked_by_write y (written_send a)) ≡ is_level_of v (asked_by a)
-        same NotRouted = refl
-        same (Interrupt a) = refl
+        same : (a : Option IoApicInterrupt) → is_level_of v (asked_by_write y (Ok (written_send a))) ≡ is_level_of v (asked_by a)
+        same None = refl
+        same (Some a) = refl
     write_awaits w (Serves.high h j f o) n p q = high_awaits v b.ioapic h (y % 2 ^ 32) g k.chip.agrees j q
     write_awaits w (Serves.eoi f o) n p q =
         (every_awaits b.ioapic k.chip.agrees (record { 0 = y % 2 ^ 32 % 2 ^ 8 }) v g l (sym (eoi_asked v b.ioapic y) ∙ n) q).0

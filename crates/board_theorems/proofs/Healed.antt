@@ -1,4 +1,5 @@
 -- What heals a lost line, exactly. Assumes nothing.
+use Rattle.std.specs.Prelude.{Ok, Option, Some, None}
 use Prim.Native.Nat.{ℕ, ◌%◌, ◌^◌, ◌<◌}
 use native.Mathlib.Decide.{ℕ_discrete}
 use native.Mathlib.Omega.{arith}
@@ -22,8 +23,6 @@ use Rattle.vioapic_theorems.proofs.Steps.{awaiting, awaits_yes, end_alike, store
 use Rattle.vioapic_theorems.proofs.Tables.{put_same, put_other, every_at}
 use Rattle.vioapic_theorems.proofs.Views.{level_view, over_view20, Stored}
 use Rattle.vlapic.specs.declared.VirtualApicRegs.{VirtualApicRegs}
-use Rattle.vlapic.specs.declared.EoiAnswer.{EoiAnswer}
-use Rattle.vlapic.specs.declared.EoiAnswer.TheVariants as local
 use Rattle.vlapic.specs.Priority.{broadcasts}
 use Rattle.vlapic_regs.specs.Vectors.{in_words}
 use Rattle.vlapic_requests.specs.Requests.{highest, ended}
@@ -52,7 +51,7 @@ told_traced s v h q e =
     either_true false = refl
 
 module _ (v : Vector) (b : Board) (k : BoardRules b) (e : trace v b.apic ≡ false) (g : ℕ) (l : g < 24) (w : awaits v (entry_at b.ioapic g) ≡ true) where
-  abbrev Stays : VirtualApicRegs → EoiAnswer → Type 0
+  abbrev Stays : VirtualApicRegs → Option Vector → Type 0
   Stays s a = awaits v (entry_at (told_to b.ioapic s a).board.ioapic g) ≡ true
 
   eoi_stays : Stays (apic.end_highest b.apic).state (apic.end_highest b.apic).answer
@@ -66,12 +65,12 @@ module _ (v : Vector) (b : Board) (k : BoardRules b) (e : trace v b.apic ≡ fal
           is_every z = end_of_new b.ioapic z k.version
 
       told : (highest b.apic.isr ≡ 0 → ⊥) → (c : Bool) → broadcasts b.apic (highest b.apic.isr) ≡ c
-          → Stays (ended b.apic (highest b.apic.isr)) (cond c (local.Broadcast (record { 0 = highest b.apic.isr })) local.Nothing)
+          → Stays (ended b.apic (highest b.apic.isr)) (cond c (Some (record { 0 = highest b.apic.isr })) None)
       told h true q = other (record { 0 = highest b.apic.isr }) (λ i. never (told_traced b.apic v h q i) e)
       told h false q = w
 
       go : (c : Bool) → eqb (highest b.apic.isr) 0 ≡ c
-          → Stays (cond c (apic.after b.apic local.Nothing) (apic.ending b.apic (highest b.apic.isr))).state (cond c (apic.after b.apic local.Nothing) (apic.ending b.apic (highest b.apic.isr))).answer
+          → Stays (cond c (apic.after b.apic None) (apic.ending b.apic (highest b.apic.isr))).state (cond c (apic.after b.apic None) (apic.ending b.apic (highest b.apic.isr))).answer
       go true q = w
       go false q = told (eqb-false (highest b.apic.isr) 0 q) (broadcasts b.apic (highest b.apic.isr)) refl
 
@@ -138,7 +137,7 @@ module _ (b : Board) (k : BoardRules b) (t : Tells b) (g : ℕ) (l : g < 24) (q 
     -- of the entry's low word
     own : (r : EntryStep) → is_eoi_word b.ioapic addr width ≡ false → is_low_word b.ioapic addr width ≡ true → entry_of b.ioapic.selector ≡ g
         → Stored (entry_at b.ioapic g) (x % 2 ^ 32) r
-        → lost_entry r.entry (requested_by_write b.apic x (written_send r.answer)) ≡ not (is_level_of v (asked_by_write x (written_send r.answer)) || mending)
+        → lost_entry r.entry (requested_by_write b.apic x (Ok (written_send r.answer))) ≡ not (is_level_of v (asked_by_write x (Ok (written_send r.answer))) || mending)
     unfolding mends
     own r p f i (Stored.owed o s) = never flight (owed_grounded stored o)
       where
@@ -199,7 +198,7 @@ module _ (b : Board) (k : BoardRules b) (t : Tells b) (g : ℕ) (l : g < 24) (q 
         go : Dec (g ≡ h) → Goal (entry_written b.ioapic h r)
         go (yes e) =
             let at : entry_at (put b.ioapic h r.entry) g ≡ r.entry = rw e (put_same b.ioapic h r.entry k.chip.agrees.table j) in
-            ap (λ (n : Entry). lost_entry n (requested_by_write b.apic x (written_send r.answer))) at ∙ own r o f (sym i ∙ sym e) (rw e z)
+            ap (λ (n : Entry). lost_entry n (requested_by_write b.apic x (Ok (written_send r.answer)))) at ∙ own r o f (sym i ∙ sym e) (rw e z)
         go (no e) =
             s (ap (awaits v) (put_other b.ioapic h r.entry g e) ∙ flies)
             (λ m. never m (passed o (rw (f, ne_eqb (entry_of b.ioapic.selector) g (λ n. e (sym n ∙ sym i))))))

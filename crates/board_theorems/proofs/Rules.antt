@@ -1,4 +1,5 @@
 -- The board's rules are kept by every call. Assumes nothing.
+use Rattle.std.specs.Prelude.{Option, Some, None, Result, Ok, Err}
 use Prim.Native.Nat.{ℕ, zero, suc, ◌/◌, ◌%◌, ◌^◌, ◌≤◌, ◌<◌}
 use native.Mathlib.Omega.{arith}
 use mathlib.Core.Bool.{Bool, true, false, cond}
@@ -13,8 +14,7 @@ use Rattle.utils.proofs.Laws.{bit_none}
 use Rattle.utils.proofs.Search.{last_holds, last_lt, last_none}
 use Rattle.types.specs.Reply.{reply_number}
 use Rattle.types.specs.declared.Vector.{Vector}
-use Rattle.vioapic_entry.specs.declared.Routed.{Routed}
-use Rattle.vioapic_entry.specs.declared.Routed.TheVariants.{NotRouted, Interrupt}
+use Rattle.vioapic_entry.specs.declared.IoApicInterrupt.{IoApicInterrupt}
 use Rattle.vioapic_entry.specs.Answers.{routed_reply}
 use Rattle.vioapic.specs.Answers.{pending_reply, eoi_reply, written_reply}
 use Rattle.vioapic.specs.State.{IoApicState}
@@ -32,14 +32,10 @@ use Rattle.vioapic_theorems.proofs.Keeps.{call_is_version20}
 use Rattle.vioapic_theorems.proofs.Keeps as chip
 use Rattle.vioapic_theorems.proofs.Views.{level_view}
 use Rattle.vlapic.specs.declared.VirtualApicRegs.{VirtualApicRegs}
-use Rattle.vlapic.specs.declared.EoiAnswer.{EoiAnswer}
-use Rattle.vlapic.specs.declared.EoiAnswer.TheVariants as local
 use Rattle.vlapic_regs.specs.Vectors.{in_words, highest_from}
 use Rattle.vlapic_regs.specs.Register.{priority}
 use Rattle.vlapic_regs.proofs.Highest.{served}
 use Rattle.utils.specs.Vectors.{class_of}
-use Rattle.vlapic_requests.specs.declared.Acceptance.{Acceptance}
-use Rattle.vlapic_requests.specs.declared.Acceptance.TheVariants.{NotAccepted, Accepted}
 use Rattle.vlapic_requests.specs.Requests.{highest, ranked, received_illegal, is_acceptable, taken, ended}
 use Rattle.vlapic_requests.specs.Requests as apic
 use Rattle.board.specs.Board.{Board, new_board, requested, resent, requested_by_eoi, requested_by_write, told_to, set_gsi_level, accept_interrupt, handle_eoi, write_tpr, handle_write, receive}
@@ -48,6 +44,7 @@ use Rattle.board.specs.Calls.{Call, SetGsiLevel, AcceptInterrupt, HandleEoi, Wri
 use Rattle.board_theorems.specs.Rules.{LocalRules, BoardRules, NewKeepsRules, CallsKeepRules, RunsKeepRules, CallsKeepSvr, RefusedKeeps}
 use Rattle.board_theorems.proofs.Vectors.{put_other, take_other, put_length, take-length, mark_length}
 use Rattle.board_theorems.proofs.Sent.{Legal, line_legal, resent_legal, Serves, serves_view, stored_legal}
+use Rattle.types.specs.declared.Refusal.{Refusal}
 
 -- ---- the highest vector
 
@@ -137,7 +134,7 @@ module _ (s : VirtualApicRegs) (k : LocalRules s) where
           let l : class_of s.ppr < class_of (highest s.irr) = ltb-true (class_of s.ppr) (class_of (highest s.irr)) e in
           omega arith
 
-      go : (b : Bool) → is_acceptable s ≡ b → LocalRules (cond b (apic.after (taken s (highest s.irr)) (Accepted (record { 0 = highest s.irr }))) (apic.after s NotAccepted)).state
+      go : (b : Bool) → is_acceptable s ≡ b → LocalRules (cond b (apic.after (taken s (highest s.irr)) (Some (record { 0 = highest s.irr }))) (apic.after s None)).state
       go true e = taken_keeps (highest s.irr) (highest_legal s.irr (some e))
       go false e = k
 
@@ -146,14 +143,14 @@ module _ (s : VirtualApicRegs) (k : LocalRules s) where
   unfolding apic.end_highest
   end_keeps = go (eqb (highest s.isr) 0) refl
     where
-      go : (b : Bool) → eqb (highest s.isr) 0 ≡ b → LocalRules (cond b (apic.after s local.Nothing) (apic.ending s (highest s.isr))).state
+      go : (b : Bool) → eqb (highest s.isr) 0 ≡ b → LocalRules (cond b (apic.after s None) (apic.ending s (highest s.isr))).state
       go true e = k
       go false e = ended_keeps (highest s.isr) (highest_legal s.isr (eqb-false (highest s.isr) 0 e))
 
   -- what the I/O APIC sends becomes a request
-  requested_keeps : (r : Routed) → Legal r → LocalRules (requested s r)
-  requested_keeps NotRouted h = k
-  requested_keeps (Interrupt i) h = request_keeps i.vector i.level_triggered h.0
+  requested_keeps : (r : Option IoApicInterrupt) → Legal r → LocalRules (requested s r)
+  requested_keeps None h = k
+  requested_keeps (Some i) h = request_keeps i.vector i.level_triggered h.0
 
   resent_keeps : (v : Vector) (sent : ℕ) → ((sent ≡ 0 → ⊥) → 16 ≤ v.0) → LocalRules (resent s v sent)
   resent_keeps v sent h = go (eqb sent 0) refl
@@ -167,7 +164,7 @@ module _ (s : VirtualApicRegs) (k : LocalRules s) where
   unfolding end_of_every
   every_keeps m v = go (eqb (set_of 24 (ends v m)) 0)
     where
-      go : (b : Bool) → LocalRules (requested_by_eoi s v (cond b eoi.NotEnded (eoi.EndedAll (record { cleared = set_of 24 (ends v m); sent = set_of 24 (sent_by v m) }))))
+      go : (b : Bool) → LocalRules (requested_by_eoi s v (cond b None (Some (eoi.EndedAll (record { cleared = set_of 24 (ends v m); sent = set_of 24 (sent_by v m) })))))
       go true = k
       go false = resent_keeps v (set_of 24 (sent_by v m)) (resent_legal m v)
 
@@ -181,16 +178,16 @@ module _ (s : VirtualApicRegs) (k : LocalRules s) where
   write_keeps m addr width x w n (Serves.selected y p q) = k
   write_keeps m addr width x w n (Serves.low g r l e f q v) = sent r.answer (stored_legal (entry_at m g) (x % 2 ^ 32) r v)
     where
-      sent : (a : Routed) → Legal a → LocalRules (requested_by_write s x (written_send a))
-      sent NotRouted h = k
-      sent (Interrupt i) h = request_keeps i.vector i.level_triggered h.0
+      sent : (a : Option IoApicInterrupt) → Legal a → LocalRules (requested_by_write s x (Ok (written_send a)))
+      sent None h = k
+      sent (Some i) h = request_keeps i.vector i.level_triggered h.0
   write_keeps m addr width x w n (Serves.high g l f q) = k
   write_keeps m addr width x w n (Serves.eoi f q) = every (eqb (set_of 24 (ends u m)) 0)
     where
       u : Vector
       u = record { 0 = x % 2 ^ 32 % 2 ^ 8 }
 
-      every : (b : Bool) → LocalRules (requested_by_write s x (written_by (cond b eoi.NotEnded (eoi.EndedAll (record { cleared = set_of 24 (ends u m); sent = set_of 24 (sent_by u m) })))))
+      every : (b : Bool) → LocalRules (requested_by_write s x (Ok (written_by (cond b None (Some (eoi.EndedAll (record { cleared = set_of 24 (ends u m); sent = set_of 24 (sent_by u m) })))))))
       every true = k
       every false =
           let e : x % 2 ^ 32 % 2 ^ 8 ≡ x % 2 ^ 8 = omega arith in
@@ -198,9 +195,9 @@ module _ (s : VirtualApicRegs) (k : LocalRules s) where
 
 -- ---- the board
 
-told_keeps : (m : IoApicState) (s : VirtualApicRegs) (a : EoiAnswer) → is_version20 m ≡ true → LocalRules s → LocalRules (told_to m s a).board.apic
-told_keeps m s local.Nothing n k = k
-told_keeps m s (local.Broadcast v) n k = eoi_keeps s k m v n
+told_keeps : (m : IoApicState) (s : VirtualApicRegs) (a : Option Vector) → is_version20 m ≡ true → LocalRules s → LocalRules (told_to m s a).board.apic
+told_keeps m s None n k = k
+told_keeps m s (Some v) n k = eoi_keeps s k m v n
 
 local_keeps : (b : Board) (c : Call) → BoardRules b → LocalRules (next b c).apic
 unfolding outcome set_gsi_level accept_interrupt handle_eoi write_tpr handle_write receive
@@ -213,10 +210,10 @@ local_keeps b (HandleWrite addr width x) k =
 local_keeps b (Receive v level) k = receive_keeps b.apic k.local v level
 
 -- of the I/O APIC a call is one of its own calls, or none
-told_chip : (P : IoApicState → Type 0) → ((m : IoApicState) (c : ioapic.Call) → P m → P (ioapic.next m c)) → (m : IoApicState) (s : VirtualApicRegs) (a : EoiAnswer) → P m → P (told_to m s a).board.ioapic
+told_chip : (P : IoApicState → Type 0) → ((m : IoApicState) (c : ioapic.Call) → P m → P (ioapic.next m c)) → (m : IoApicState) (s : VirtualApicRegs) (a : Option Vector) → P m → P (told_to m s a).board.ioapic
 unfolding ioapic.outcome io.end_of_interrupt
-told_chip P f m s local.Nothing p = p
-told_chip P f m s (local.Broadcast v) p = f m (ioapic.EndOfInterrupt v) p
+told_chip P f m s None p = p
+told_chip P f m s (Some v) p = f m (ioapic.EndOfInterrupt v) p
 
 pub chip_keeps_lem : (P : IoApicState → Type 0) → ((m : IoApicState) (c : ioapic.Call) → P m → P (ioapic.next m c)) → (b : Board) (c : Call) → P b.ioapic → P (next b c).ioapic
 unfolding outcome set_gsi_level accept_interrupt handle_eoi write_tpr handle_write receive ioapic.outcome io.set_gsi_level io.handle_write
@@ -264,28 +261,28 @@ new_keeps_rules =
 
 -- ---- refusals: only a write is refused
 
-routed_done : (r : Routed) → reply_number (routed_reply r) ≡ 0
-routed_done NotRouted = refl
-routed_done (Interrupt i) = refl
+routed_done : (r : Option IoApicInterrupt) → reply_number (routed_reply r) ≡ 0
+routed_done None = refl
+routed_done (Some i) = refl
 
-eoi_done : (r : Eoi) → reply_number (eoi_reply r) ≡ 0
-eoi_done eoi.NotEnded = refl
-eoi_done (eoi.Ended e) = go e.pending
+eoi_done : (r : Option Eoi) → reply_number (eoi_reply r) ≡ 0
+eoi_done None = refl
+eoi_done (Some (eoi.Ended e)) = go e.pending
   where
-    go : (r : Routed) → reply_number (pending_reply e.gsi.0 r) ≡ 0
-    go NotRouted = refl
-    go (Interrupt i) = refl
-eoi_done (eoi.EndedAll e) = refl
+    go : (r : Option IoApicInterrupt) → reply_number (pending_reply e.gsi.0 r) ≡ 0
+    go None = refl
+    go (Some i) = refl
+eoi_done (Some (eoi.EndedAll e)) = refl
 
-acceptance_done : (r : Acceptance) → reply_number (acceptance_reply r) ≡ 0
-acceptance_done NotAccepted = refl
-acceptance_done (Accepted v) = refl
+acceptance_done : (r : Option Vector) → reply_number (acceptance_reply r) ≡ 0
+acceptance_done None = refl
+acceptance_done (Some v) = refl
 
-write_refused : (s : VirtualApicRegs) (x : ℕ) (a : Written) → (reply_number (written_reply a) ≡ 0 → ⊥) → requested_by_write s x a ≡ s
-write_refused s x written.Done n = refl
-write_refused s x (written.Sent i) n = absurd (n refl)
-write_refused s x (written.EndedAll e) n = absurd (n refl)
-write_refused s x (written.NotWritten why) n = refl
+write_refused : (s : VirtualApicRegs) (x : ℕ) (a : Result Written Refusal) → (reply_number (written_reply a) ≡ 0 → ⊥) → requested_by_write s x a ≡ s
+write_refused s x (Ok written.Done) n = refl
+write_refused s x (Ok (written.Sent i)) n = absurd (n refl)
+write_refused s x (Ok (written.EndedAll e)) n = absurd (n refl)
+write_refused s x (Err why) n = refl
 
 pub refused_keeps : RefusedKeeps
 unfolding outcome set_gsi_level accept_interrupt handle_eoi write_tpr handle_write receive ioapic.outcome io.handle_write
@@ -299,10 +296,10 @@ refused_keeps b (Receive v level) n = absurd (n refl)
 
 -- ---- SVR
 
-requested_svr : (s : VirtualApicRegs) (r : Routed) → (requested s r).svr ≡ s.svr
+requested_svr : (s : VirtualApicRegs) (r : Option IoApicInterrupt) → (requested s r).svr ≡ s.svr
 unfolding apic.request
-requested_svr s NotRouted = refl
-requested_svr s (Interrupt i) = refl
+requested_svr s None = refl
+requested_svr s (Some i) = refl
 
 resent_svr : (s : VirtualApicRegs) (v : Vector) (sent : ℕ) → (resent s v sent).svr ≡ s.svr
 unfolding apic.request
@@ -312,26 +309,26 @@ resent_svr s v sent = go (eqb sent 0)
     go true = refl
     go false = refl
 
-eoi_svr : (s : VirtualApicRegs) (v : Vector) (a : Eoi) → (requested_by_eoi s v a).svr ≡ s.svr
-eoi_svr s v eoi.NotEnded = refl
-eoi_svr s v (eoi.Ended e) = requested_svr s e.pending
-eoi_svr s v (eoi.EndedAll e) = resent_svr s v e.sent
+eoi_svr : (s : VirtualApicRegs) (v : Vector) (a : Option Eoi) → (requested_by_eoi s v a).svr ≡ s.svr
+eoi_svr s v None = refl
+eoi_svr s v (Some (eoi.Ended e)) = requested_svr s e.pending
+eoi_svr s v (Some (eoi.EndedAll e)) = resent_svr s v e.sent
 
-write_svr : (s : VirtualApicRegs) (x : ℕ) (a : Written) → (requested_by_write s x a).svr ≡ s.svr
-write_svr s x written.Done = refl
-write_svr s x (written.Sent i) = requested_svr s (Interrupt i)
-write_svr s x (written.EndedAll e) = resent_svr s (record { 0 = x % 2 ^ 8 }) e.sent
-write_svr s x (written.NotWritten why) = refl
+write_svr : (s : VirtualApicRegs) (x : ℕ) (a : Result Written Refusal) → (requested_by_write s x a).svr ≡ s.svr
+write_svr s x (Ok written.Done) = refl
+write_svr s x (Ok (written.Sent i)) = requested_svr s (Some i)
+write_svr s x (Ok (written.EndedAll e)) = resent_svr s (record { 0 = x % 2 ^ 8 }) e.sent
+write_svr s x (Err why) = refl
 
-told_svr : (m : IoApicState) (s : VirtualApicRegs) (a : EoiAnswer) → (told_to m s a).board.apic.svr ≡ s.svr
-told_svr m s local.Nothing = refl
-told_svr m s (local.Broadcast v) = eoi_svr s v (end_of m v).answer
+told_svr : (m : IoApicState) (s : VirtualApicRegs) (a : Option Vector) → (told_to m s a).board.apic.svr ≡ s.svr
+told_svr m s None = refl
+told_svr m s (Some v) = eoi_svr s v (end_of m v).answer
 
 accept_svr : (s : VirtualApicRegs) → (apic.accept s).state.svr ≡ s.svr
 unfolding apic.accept ranked
 accept_svr s = go (is_acceptable s)
   where
-    go : (b : Bool) → (cond b (apic.after (taken s (highest s.irr)) (Accepted (record { 0 = highest s.irr }))) (apic.after s NotAccepted)).state.svr ≡ s.svr
+    go : (b : Bool) → (cond b (apic.after (taken s (highest s.irr)) (Some (record { 0 = highest s.irr }))) (apic.after s None)).state.svr ≡ s.svr
     go true = refl
     go false = refl
 
@@ -339,7 +336,7 @@ pub end_svr : (s : VirtualApicRegs) → (apic.end_highest s).state.svr ≡ s.svr
 unfolding apic.end_highest ranked
 end_svr s = go (eqb (highest s.isr) 0)
   where
-    go : (b : Bool) → (cond b (apic.after s local.Nothing) (apic.ending s (highest s.isr))).state.svr ≡ s.svr
+    go : (b : Bool) → (cond b (apic.after s None) (apic.ending s (highest s.isr))).state.svr ≡ s.svr
     go true = refl
     go false = refl
 

@@ -1,4 +1,5 @@
 -- What the I/O APIC sends is legal, and what an EOI sends again is of its vector. Assumes nothing.
+use Rattle.std.specs.Prelude.{Option, Some, None, Err}
 use Prim.Native.Nat.{ℕ, zero, suc, ◌+◌, ◌-◌, ◌%◌, ◌^◌, ◌≤◌, ◌<◌}
 use native.Mathlib.Omega.{arith}
 use mathlib.Core.Bool.{Bool, true, false, not, cond, ◌&&◌}
@@ -13,14 +14,12 @@ use Rattle.types.specs.declared.Vector.{Vector}
 use Rattle.vioapic_entry.specs.Answers.{is_routed}
 use Rattle.vioapic_entry.specs.Redirection.{EntryStep, vector_of, is_level, is_masked, is_fixed, is_deliverable, is_fit, has_vector, with_word, with_input, with_deferred, with_remote_irr, without_remote_irr, move_line, awaits, end_entry20, quietly, write_low, write_high, store_low20, write_low20}
 use Rattle.vioapic_entry.specs.declared.Entry.{Entry}
-use Rattle.vioapic_entry.specs.declared.Routed.{Routed}
-use Rattle.vioapic_entry.specs.declared.Routed.TheVariants.{NotRouted, Interrupt}
+use Rattle.vioapic_entry.specs.declared.IoApicInterrupt.{IoApicInterrupt}
 use Rattle.vioapic_entry.proofs.Fields.{Alike, same_level, same_fit, alike_with, alike_without, alike_then}
 use Rattle.vioapic.specs.State.{IoApicState}
 use Rattle.vioapic.specs.Table.{Routing, is_version20, entry_at, ends, sent_by, end_of_every}
 use Rattle.vioapic.specs.Registers.{Writing, writing, done, is_entry_word, entry_of, is_low, write_word, entry_written, write_selected, eoi_written, write_eoi, with_selector, write_at}
 use Rattle.vioapic.specs.IoApic.{good_width, handle_writing}
-use Rattle.vioapic.specs.declared.Written.TheVariants.{NotWritten}
 use Rattle.vioapic.proofs.Ways.{entry_word_range}
 use Rattle.types.specs.declared.Refusal.{Refusal}
 use Rattle.types.specs.declared.Refusal.TheVariants.{Unsupported, InvalidAddress}
@@ -31,9 +30,9 @@ use Rattle.board_theorems.specs.Traced.{is_low_word, is_eoi_word}
 
 -- ---- legal: from 16 to 255
 
-abbrev pub Legal : Routed → Type 0
-Legal NotRouted = Unit
-Legal (Interrupt i) = (16 ≤ i.vector.0) × (i.vector.0 < 256)
+abbrev pub Legal : Option IoApicInterrupt → Type 0
+Legal None = Unit
+Legal (Some i) = (16 ≤ i.vector.0) × (i.vector.0 < 256)
 
 pub fit_legal : (w : ℕ) → is_fit w ≡ true → (16 ≤ w % 256) × (w % 256 < 256)
 fit_legal w h = (leb-true 16 (w % 256) (and_true (not (is_masked w) && is_fixed w) (is_deliverable w) h).1, omega arith)
@@ -60,7 +59,7 @@ vector_is w v h = ap (λ (n : ℕ). record { 0 = n }) (eqb-true (w % 256) v.0 h)
 
 -- an entry that awaits v, ended and sent
 again_is : (v : Vector) (e : Entry) (r : EntryStep) → Over e r → awaits v e ≡ true → is_routed r.answer ≡ true
-    → r.answer ≡ Interrupt (record { vector = v; level_triggered = true })
+    → r.answer ≡ Some (record { vector = v; level_triggered = true })
 again_is v e r (Over.resent b a c (Sent.unfit p)) w h = never h refl
 again_is v e r (Over.resent b a c (Sent.edge p q)) w h = never (same_level (alike_without e.word) ∙ (awaiting v e w).level) q
 again_is v e r (Over.resent b a c (Sent.later p q i)) w h = never h refl
@@ -68,7 +67,7 @@ again_is v e r (Over.resent b a c (Sent.fresh p q i)) w h =
     let k : Alike (with_remote_irr (without_remote_irr e.word)) e.word = alike_then (alike_with (without_remote_irr e.word)) (alike_without e.word) in
     let t : is_level (with_remote_irr (without_remote_irr e.word)) ≡ true = same_level k ∙ (awaiting v e w).level in
     let u : vector_of (with_remote_irr (without_remote_irr e.word)) ≡ v = ap (λ (n : ℕ). record { 0 = n }) k.vector ∙ vector_is e.word v (awaiting v e w).vector in
-    ap Interrupt (λ i. record { vector = u i; level_triggered = t i })
+    ap Some (λ i. record { vector = u i; level_triggered = t i })
 again_is v e r (Over.rested a) w h = never h refl
 
 again_legal : (v : Vector) (e : Entry) (r : EntryStep) → Over e r → awaits v e ≡ true → is_routed r.answer ≡ true → 16 ≤ v.0
@@ -115,7 +114,7 @@ stored_legal e x r (Stored.unowed h) = tt
 
 -- the cases of a write in version 0x20, with what is known of the call in each
 pub data Serves (m : IoApicState) (addr width x : ℕ) : Writing → Type 0 where
-  refused : (why : Refusal) → is_low_word m addr width ≡ false → is_eoi_word m addr width ≡ false → Serves m addr width x (writing m (NotWritten why))
+  refused : (why : Refusal) → is_low_word m addr width ≡ false → is_eoi_word m addr width ≡ false → Serves m addr width x (writing m (Err why))
   selected : (y : ℕ) → is_low_word m addr width ≡ false → is_eoi_word m addr width ≡ false → Serves m addr width x (done (with_selector m y))
   low : (g : ℕ) (r : EntryStep) → g < 24 → g ≡ entry_of m.selector → is_low_word m addr width ≡ true → is_eoi_word m addr width ≡ false → Stored (entry_at m g) (x % 2 ^ 32) r
       → Serves m addr width x (entry_written m g r)
@@ -166,7 +165,7 @@ serves_view m addr width x n = go (good_width width) (leb m.base addr) refl refl
         rw n (eoi (no_low (λ i. omega arith)) (rw (g, eq-eqb addr (m.base + 0x40) (omega arith))))
 
     go : (a b : Bool) → good_width width ≡ a → leb m.base addr ≡ b
-        → Serves m addr width x (cond a (cond b (write_at m (addr - m.base) y) (writing m (NotWritten InvalidAddress))) (writing m (NotWritten Unsupported)))
+        → Serves m addr width x (cond a (cond b (write_at m (addr - m.base) y) (writing m (Err InvalidAddress))) (writing m (Err Unsupported)))
     go false b p q = refused Unsupported (rw p) (rw p)
     go true false p q =
         let l : addr < m.base = leb-false m.base addr q in

@@ -1,14 +1,13 @@
 -- Which vector is accepted, and which is ended (document 02, T-07): on any board, whether it keeps the rules or not.
 -- Intel SDM volume 3, the APIC chapter: interrupt, task and processor priority; interrupt acceptance for fixed interrupts; signaling interrupt servicing completion.
+use Rattle.core.specs.declared.option.Option.TheVariants as option
 use Rattle.std.specs.Prelude.{ℕ, ◌<◌, Bool, true, false, cond, ◌&&◌, ◌≡◌, leb, ltb}
 use Rattle.utils.specs.Vectors.{class_of}
 use Rattle.types.specs.declared.Vector.{Vector}
 use Rattle.vioapic.specs.declared.Eoi.TheVariants as ioapic
 use Rattle.vlapic.specs.declared.VirtualApicRegs.{VirtualApicRegs}
-use Rattle.vlapic.specs.declared.EoiAnswer.TheVariants as local
 use Rattle.vlapic.specs.Priority.{broadcasts}
 use Rattle.vlapic_regs.specs.Vectors.{in_words}
-use Rattle.vlapic_requests.specs.declared.Acceptance.TheVariants.{NotAccepted, Accepted}
 use Rattle.vlapic_requests.specs.Requests.{taken, ended}
 use Rattle.board.specs.Board.{Board, after, told_to, accept_interrupt, handle_eoi}
 
@@ -31,17 +30,17 @@ None p = (u : ℕ) → u < 256 → p u ≡ false
 
 -- acceptance takes the highest request that can be accepted; with none it leaves the board as it is
 abbrev pub AcceptsHighest : Type 0
-AcceptsHighest = (b : Board) (v : Vector) → Highest (can_pass b.apic) v.0 → accept_interrupt b ≡ after b.ioapic (taken b.apic v.0) (Accepted v)
+AcceptsHighest = (b : Board) (v : Vector) → Highest (can_pass b.apic) v.0 → accept_interrupt b ≡ after b.ioapic (taken b.apic v.0) (option.Some v)
 
 abbrev pub AcceptsNone : Type 0
-AcceptsNone = (b : Board) → None (can_pass b.apic) → accept_interrupt b ≡ after b.ioapic b.apic NotAccepted
+AcceptsNone = (b : Board) → None (can_pass b.apic) → accept_interrupt b ≡ after b.ioapic b.apic option.None
 
 -- an EOI ends the highest vector in service, and tells it to the I/O APIC if it was level-triggered; with none it leaves the board as it is
 abbrev pub EndsHighest : Type 0
 EndsHighest =
     (b : Board) (v : Vector)
     → Highest (is_served b.apic) v.0
-    → handle_eoi b ≡ told_to b.ioapic (ended b.apic v.0) (cond (broadcasts b.apic v.0) (local.Broadcast v) local.Nothing)
+    → handle_eoi b ≡ told_to b.ioapic (ended b.apic v.0) (cond (broadcasts b.apic v.0) (option.Some v) option.None)
 
 abbrev pub EndsNone : Type 0
-EndsNone = (b : Board) → None (is_served b.apic) → handle_eoi b ≡ after b.ioapic b.apic ioapic.NotEnded
+EndsNone = (b : Board) → None (is_served b.apic) → handle_eoi b ≡ after b.ioapic b.apic option.None

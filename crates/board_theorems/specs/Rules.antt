@@ -1,11 +1,10 @@
 -- The rules that a board keeps (document 02, T-07).
 -- Intel SDM volume 3, the APIC chapter: interrupt, task and processor priority (PPR by TPR and the highest vector in service); valid interrupt vectors (16 to 255).
-use Rattle.std.specs.Prelude.{ℕ, ◌<◌, true, false, List, ◌≡◌, length}
+use Rattle.std.specs.Prelude.{ℕ, ◌<◌, true, false, List, ◌≡◌, length, Some}
 use Rattle.utils.specs.Set.{bit}
 use Rattle.types.specs.Reply.{reply_number}
 use Rattle.types.specs.declared.Vector.{Vector}
 use Rattle.vioapic_entry.specs.Redirection.{end_entry20}
-use Rattle.vioapic_entry.specs.declared.Routed.TheVariants.{Interrupt}
 use Rattle.vioapic.specs.State.{IoApicState}
 use Rattle.vioapic.specs.Table.{is_version20, entry_at, sent_by}
 use Rattle.vioapic_theorems.specs.Rules.{ChipRules}
@@ -58,4 +57,4 @@ abbrev pub ResentAre : Type 0
 ResentAre =
     (m : IoApicState) (v : Vector) (g : ℕ)
     → sent_by v m g ≡ true
-    → (end_entry20 (entry_at m g)).answer ≡ Interrupt (record { vector = v; level_triggered = true })
+    → (end_entry20 (entry_at m g)).answer ≡ Some (record { vector = v; level_triggered = true })

@@ -1,12 +1,11 @@
 -- Nothing is lost on the way (document 02, T-07): every level entry in flight has its vector requested or in service, with the trigger bit set. Beside the board's rules
 -- and not one of them: two kinds of calls break it, and what is lost then is said exactly.
 -- 82093AA: IOREDTBL, Remote IRR. Intel SDM volume 3, the APIC chapter: interrupt acceptance for fixed interrupts (IRR, ISR, TMR).
-use Rattle.std.specs.Prelude.{ℕ, ◌+◌, ◌%◌, ◌^◌, ◌<◌, Bool, true, false, not, cond, ◌&&◌, ◌||◌, List, [], ◌∷◌, ◌≡◌, eqb, ltb}
+use Rattle.std.specs.Prelude.{ℕ, ◌+◌, ◌%◌, ◌^◌, ◌<◌, Bool, true, false, not, cond, ◌&&◌, ◌||◌, List, [], ◌∷◌, ◌≡◌, eqb, ltb, Option, Some, None, Result, Ok, Err}
 use Rattle.types.specs.declared.Vector.{Vector}
 use Rattle.vioapic_entry.specs.Redirection.{vector_of, remote_irr, is_level, is_fit, has_vector, awaits}
 use Rattle.vioapic_entry.specs.declared.Entry.{Entry}
-use Rattle.vioapic_entry.specs.declared.Routed.{Routed}
-use Rattle.vioapic_entry.specs.declared.Routed.TheVariants.{NotRouted, Interrupt}
+use Rattle.vioapic_entry.specs.declared.IoApicInterrupt.{IoApicInterrupt}
 use Rattle.vioapic.specs.State.{IoApicState}
 use Rattle.vioapic.specs.Table.{entry_at, set_level, end_of}
 use Rattle.vioapic.specs.Registers.{is_entry_word, entry_of, is_low}
@@ -16,13 +15,12 @@ use Rattle.vioapic.specs.declared.Eoi.TheVariants as ioapic
 use Rattle.vioapic.specs.declared.Written.{Written}
 use Rattle.vioapic.specs.declared.Written.TheVariants as written
 use Rattle.vlapic.specs.declared.VirtualApicRegs.{VirtualApicRegs}
-use Rattle.vlapic.specs.declared.EoiAnswer.{EoiAnswer}
-use Rattle.vlapic.specs.declared.EoiAnswer.TheVariants as local
 use Rattle.vlapic_regs.specs.Vectors.{in_words}
 use Rattle.vlapic_requests.specs.Requests.{end_highest}
 use Rattle.board.specs.Board.{Board, new_board}
 use Rattle.board.specs.Calls.{Call, SetGsiLevel, AcceptInterrupt, HandleEoi, WriteTpr, HandleWrite, Receive, next, run}
 use Rattle.board_theorems.specs.Rules.{BoardRules, Tells}
+use Rattle.types.specs.declared.Refusal.{Refusal}
 
 -- ---- the trace of a vector
 
@@ -40,27 +38,27 @@ pub data Asked : Type 0 where
   Nobody : Asked
   Asks : Vector → Bool → Asked  -- a request of the vector, level-triggered or not
 
-abbrev pub asked_by : Routed → Asked
-asked_by NotRouted = Nobody
-asked_by (Interrupt i) = Asks i.vector i.level_triggered
+abbrev pub asked_by : Option IoApicInterrupt → Asked
+asked_by None = Nobody
+asked_by (Some i) = Asks i.vector i.level_triggered
 
 abbrev pub asked_again : Vector → ℕ → Asked
 asked_again v sent = cond (eqb sent 0) Nobody (Asks v true)
 
-abbrev pub asked_by_eoi : Vector → Eoi → Asked
-asked_by_eoi v ioapic.NotEnded = Nobody
-asked_by_eoi v (ioapic.Ended e) = asked_by e.pending
-asked_by_eoi v (ioapic.EndedAll e) = asked_again v e.sent
+abbrev pub asked_by_eoi : Vector → Option Eoi → Asked
+asked_by_eoi v None = Nobody
+asked_by_eoi v (Some (ioapic.Ended e)) = asked_by e.pending
+asked_by_eoi v (Some (ioapic.EndedAll e)) = asked_again v e.sent
 
-abbrev pub asked_by_write : ℕ → Written → Asked
-asked_by_write x written.Done = Nobody
-asked_by_write x (written.Sent i) = Asks i.vector i.level_triggered
-asked_by_write x (written.EndedAll e) = asked_again (record { 0 = x % 2 ^ 8 }) e.sent
-asked_by_write x (written.NotWritten why) = Nobody
+abbrev pub asked_by_write : ℕ → Result Written Refusal → Asked
+asked_by_write x (Ok written.Done) = Nobody
+asked_by_write x (Ok (written.Sent i)) = Asks i.vector i.level_triggered
+asked_by_write x (Ok (written.EndedAll e)) = asked_again (record { 0 = x % 2 ^ 8 }) e.sent
+asked_by_write x (Err why) = Nobody
 
-abbrev pub asked_by_told : IoApicState → EoiAnswer → Asked
-asked_by_told io local.Nothing = Nobody
-asked_by_told io (local.Broadcast v) = asked_by_eoi v (end_of io v).answer
+abbrev pub asked_by_told : IoApicState → Option Vector → Asked
+asked_by_told io None = Nobody
+asked_by_told io (Some v) = asked_by_eoi v (end_of io v).answer
 
 unfoldable pub asked : Board → Call → Asked
 asked b (SetGsiLevel gsi up) = asked_by (set_level b.ioapic gsi up).answer

@@ -1,4 +1,5 @@
 -- Every call of the board keeps its rules. Assumes nothing.
+use Rattle.std.specs.Prelude.{Option, Some, None, Result, Ok, Err}
 use mathlib.Core.Path.{◌≡◌, refl, sym, ◌∙◌, ap}
 use mathlib.Core.Bool.{Bool, true, cond}
 use Prim.Native.Nat.{ℕ, ◌+◌, ◌*◌, ◌/◌, ◌%◌, ◌<◌}
@@ -8,8 +9,7 @@ use borrow.Author.Tests.{eqb-false}
 use Rattle.utils.specs.Set.{bit, with}
 use Rattle.utils.proofs.Bools.{both, either}
 use Rattle.types.specs.declared.Vector.{Vector}
-use Rattle.vioapic_entry.specs.declared.Routed.{Routed}
-use Rattle.vioapic_entry.specs.declared.Routed.TheVariants.{NotRouted, Interrupt}
+use Rattle.vioapic_entry.specs.declared.IoApicInterrupt.{IoApicInterrupt}
 use Rattle.vioapic.specs.State.{IoApicState}
 use Rattle.vioapic.specs.Table.{is_version20, set_level, end_of}
 use Rattle.vioapic.specs.IoApic.{is_version, handle_writing}
@@ -20,12 +20,9 @@ use Rattle.vioapic.specs.declared.Written.TheVariants as written
 use Rattle.vioapic_theorems.proofs.Keeps.{calls_keep_rules, new_keeps_rules, calls_keep_version, call_is_version20}
 use Rattle.vioapic_theorems.proofs.Each.{calls_keep_clear, new_clear}
 use Rattle.vlapic.specs.declared.VirtualApicRegs.{VirtualApicRegs}
-use Rattle.vlapic.specs.declared.EoiAnswer.{EoiAnswer}
-use Rattle.vlapic.specs.declared.EoiAnswer.TheVariants as local
 use Rattle.vlapic_regs.specs.Lvt.{lvt_timer, lvt_error, lvt_pin, lvt_monitor}
 use Rattle.vlapic_regs.specs.Register.{low_byte, top_byte, model_bits}
 use Rattle.vlapic_icr.specs.Fields.{idle}
-use Rattle.vlapic_requests.specs.declared.Acceptance.{Acceptance}
 use Rattle.vlapic_requests.specs.Requests.{ranked, is_acceptable}
 use Rattle.vlapic_requests.specs.Requests as apic
 use Rattle.board.specs.Board.{Board, new_board, requested, resent, requested_by_eoi, requested_by_write, told_to, set_gsi_level, accept_interrupt, handle_eoi, write_tpr, handle_write, receive}
@@ -35,6 +32,7 @@ use Rattle.board_theorems.proofs.Rules as board
 use Rattle.image_rules.specs.Rules.{id_kept, errors}
 use Rattle.image_state_theorems.specs.Rules.{IoRules, ApicRules}
 use Rattle.image_state_theorems.specs.Made.{NewIoKeeps, IoCallsKeep, BoardKeeps, NewBoardKeeps, BoardCallsKeep}
+use Rattle.types.specs.declared.Refusal.{Refusal}
 
 -- ---- the I/O APIC
 
@@ -98,35 +96,35 @@ module _ (s : VirtualApicRegs) (k : Masks s) where
   unfolding apic.request
   request_masks v level = k
 
-  requested_masks : (r : Routed) → Masks (requested s r)
-  requested_masks NotRouted = k
-  requested_masks (Interrupt i) = request_masks i.vector i.level_triggered
+  requested_masks : (r : Option IoApicInterrupt) → Masks (requested s r)
+  requested_masks None = k
+  requested_masks (Some i) = request_masks i.vector i.level_triggered
 
   resent_masks : (v : Vector) (sent : ℕ) → Masks (resent s v sent)
   resent_masks v sent = both Masks (eqb sent 0) s (apic.request s v true) k (request_masks v true)
 
-  eoi_masks : (v : Vector) (a : Eoi) → Masks (requested_by_eoi s v a)
-  eoi_masks v eoi.NotEnded = k
-  eoi_masks v (eoi.Ended e) = requested_masks e.pending
-  eoi_masks v (eoi.EndedAll e) = resent_masks v e.sent
+  eoi_masks : (v : Vector) (a : Option Eoi) → Masks (requested_by_eoi s v a)
+  eoi_masks v None = k
+  eoi_masks v (Some (eoi.Ended e)) = requested_masks e.pending
+  eoi_masks v (Some (eoi.EndedAll e)) = resent_masks v e.sent
 
-  write_masks : (x : ℕ) (a : Written) → Masks (requested_by_write s x a)
-  write_masks x written.Done = k
-  write_masks x (written.Sent i) = request_masks i.vector i.level_triggered
-  write_masks x (written.EndedAll e) = resent_masks (record { 0 = x % 256 }) e.sent
-  write_masks x (written.NotWritten why) = k
+  write_masks : (x : ℕ) (a : Result Written Refusal) → Masks (requested_by_write s x a)
+  write_masks x (Ok written.Done) = k
+  write_masks x (Ok (written.Sent i)) = request_masks i.vector i.level_triggered
+  write_masks x (Ok (written.EndedAll e)) = resent_masks (record { 0 = x % 256 }) e.sent
+  write_masks x (Err why) = k
 
-  told_masks : (m : IoApicState) (a : EoiAnswer) → Masks (told_to m s a).board.apic
-  told_masks m local.Nothing = k
-  told_masks m (local.Broadcast v) = eoi_masks v (end_of m v).answer
+  told_masks : (m : IoApicState) (a : Option Vector) → Masks (told_to m s a).board.apic
+  told_masks m None = k
+  told_masks m (Some v) = eoi_masks v (end_of m v).answer
 
   accept_masks : Masks (apic.accept s).state
   unfolding apic.accept ranked
-  accept_masks = both (λ (r : apic.After Acceptance). Masks r.state) (is_acceptable s) _ _ k k
+  accept_masks = both (λ (r : apic.After (Option Vector)). Masks r.state) (is_acceptable s) _ _ k k
 
   end_masks : Masks (apic.end_highest s).state
   unfolding apic.end_highest ranked
-  end_masks = both (λ (r : apic.After EoiAnswer). Masks r.state) (eqb (apic.highest s.isr) 0) _ _ k k
+  end_masks = both (λ (r : apic.After (Option Vector)). Masks r.state) (eqb (apic.highest s.isr) 0) _ _ k k
 
   tpr_masks : (x : ℕ) → Masks (apic.write_tpr s x)
   unfolding apic.write_tpr ranked

@@ -1,4 +1,5 @@
 -- Every call of the pair keeps its rules. Assumes nothing.
+use Rattle.std.proofs.Common.{Option, Some, None}
 use mathlib.Core.Path.{◌≡◌, refl, sym, ◌∙◌, ap}
 use mathlib.Core.Bool.{Bool, true, false, cond, ◌&&◌, true≢false}
 use Prim.Native.Nat.{ℕ, ◌%◌, ◌<◌}
@@ -9,11 +10,9 @@ use Rattle.utils.specs.Set.{bit, without, with}
 use Rattle.utils.proofs.Bools.{both, either}
 use Rattle.types.specs.declared.PicLine.{PicLine}
 use Rattle.types.specs.declared.PicPlace.{PicPlace}
-use Rattle.types.specs.declared.PicPlace.TheVariants.{Master, Slave, Nowhere}
+use Rattle.types.specs.declared.PicPlace.TheVariants.{Master, Slave}
 use Rattle.types.specs.Counters.{place_of}
 use Rattle.types.specs.Reply.{Outcome}
-use Rattle.vpic_chip.specs.declared.PendingIrq.{PendingIrq}
-use Rattle.vpic_chip.specs.declared.PendingIrq.TheVariants.{Irq, Nothing}
 use Rattle.vpic_chip.specs.Registers.{Chip, with_request, with_in_service}
 use Rattle.vpic_chip.specs.Chip.{turned, cascade_irq, first_of, blocks, icw1, full_ocw3, ocw3, specific_eoi, non_specific_eoi, auto_rotated, ocw2, commanded, icw2, icw3, icw4, fed, pulsed, pending_line, pending_irq, asks, driven, acknowledged, unacknowledged, is_polled, polled, opened}
 use Rattle.vpic.specs.declared.PicRule.{PicRule}
@@ -107,40 +106,40 @@ settled_both : (p : PicState) → Both p → Both (settled p)
 unfolding settled driven
 settled_both p k = both Both (is_cascade p) _ _ k k
 
-latched_both : (p : PicState) (a : PicPlace) → Both p → Both (latched_at p a)
-latched_both p (Master j) k = (pulsed_ruled p.master j k.0, k.1)
-latched_both p (Slave j) k = (pulsed_ruled p.master cascade_irq k.0, pulsed_ruled p.slave j k.1)
-latched_both p Nowhere k = k
+latched_both : (p : PicState) (a : Option PicPlace) → Both p → Both (latched_at p a)
+latched_both p (Some (Master j)) k = (pulsed_ruled p.master j k.0, k.1)
+latched_both p (Some (Slave j)) k = (pulsed_ruled p.master cascade_irq k.0, pulsed_ruled p.slave j k.1)
+latched_both p None k = k
 
 -- what answers is a line of its chip
-LowIrq : PendingIrq → Type 0
-LowIrq (Irq l) = l.0 < 8
-LowIrq Nothing = Unit
+LowIrq : Option PicLine → Type 0
+LowIrq (Some l) = l.0 < 8
+LowIrq None = Unit
 
-Low : PicPlace → Type 0
-Low (Master l) = l.0 < 8
-Low (Slave l) = l.0 < 8
-Low Nowhere = Unit
+Low : Option PicPlace → Type 0
+Low (Some (Master l)) = l.0 < 8
+Low (Some (Slave l)) = l.0 < 8
+Low None = Unit
 
 pending_low : (c : Chip) → LowIrq (pending_irq c)
 unfolding pending_irq LowIrq
-pending_low c = either LowIrq (ltb (pending_line c) 8) (Irq (record { 0 = pending_line c })) Nothing (λ t. ltb-true (pending_line c) 8 t) (λ t. tt)
+pending_low c = either LowIrq (ltb (pending_line c) 8) (Some (record { 0 = pending_line c })) None (λ t. ltb-true (pending_line c) 8 t) (λ t. tt)
 
-cascade_low : (i : PendingIrq) → LowIrq i → Low (cascade_place i)
+cascade_low : (i : Option PicLine) → LowIrq i → Low (cascade_place i)
 unfolding LowIrq Low
-cascade_low (Irq l) h = h
-cascade_low Nothing h = omega arith
+cascade_low (Some l) h = h
+cascade_low None h = omega arith
 
-from_low : (p : PicState) (i : PendingIrq) → LowIrq i → Low (place_from p i)
+from_low : (p : PicState) (i : Option PicLine) → LowIrq i → Low (place_from p i)
 unfolding LowIrq Low
-from_low p (Irq l) h = both Low (eqb l.0 2) (cascade_place (pending_irq p.slave)) (Master l) (cascade_low (pending_irq p.slave) (pending_low p.slave)) h
-from_low p Nothing h = tt
+from_low p (Some l) h = both Low (eqb l.0 2) (cascade_place (pending_irq p.slave)) (Some (Master l)) (cascade_low (pending_irq p.slave) (pending_low p.slave)) h
+from_low p None h = tt
 
-claim_both : (p : PicState) (a : PicPlace) → Low a → Both p → Both (claim_at p a).state
+claim_both : (p : PicState) (a : Option PicPlace) → Low a → Both p → Both (claim_at p a).state
 unfolding master_claim slave_claim Low
-claim_both p (Master l) h k = settled_both _ (acknowledged_ruled p.master l.0 h k.0, k.1)
-claim_both p (Slave l) h k = settled_both _ (acknowledged_ruled p.master 2 (omega arith) k.0, acknowledged_ruled p.slave l.0 h k.1)
-claim_both p Nowhere h k = settled_both p k
+claim_both p (Some (Master l)) h k = settled_both _ (acknowledged_ruled p.master l.0 h k.0, k.1)
+claim_both p (Some (Slave l)) h k = settled_both _ (acknowledged_ruled p.master 2 (omega arith) k.0, acknowledged_ruled p.slave l.0 h k.1)
+claim_both p None h k = settled_both p k
 
 pending_both : (p : PicState) → Both p → Both (claim_pending p).state
 unfolding claim_pending
@@ -150,10 +149,10 @@ raise_both : (p : PicState) (l : PicLine) → Both p → Both (claim_irq p l).st
 unfolding claim_irq latched
 raise_both p l k = both (λ (r : StateClaim). Both r.state) (ltb l.0 16) _ _ (pending_both (latched p l) (settled_both _ (latched_both p (place_of l) k))) k
 
-restored_both : (p : PicState) (a : PicPlace) (m s : Bool) → Both p → Both (restored_at p a m s)
-restored_both p (Master j) m s k = (unacknowledged_ruled p.master j m k.0, k.1)
-restored_both p (Slave j) m s k = (unacknowledged_ruled p.master cascade_irq m k.0, unacknowledged_ruled p.slave j s k.1)
-restored_both p Nowhere m s k = k
+restored_both : (p : PicState) (a : Option PicPlace) (m s : Bool) → Both p → Both (restored_at p a m s)
+restored_both p (Some (Master j)) m s k = (unacknowledged_ruled p.master j m k.0, k.1)
+restored_both p (Some (Slave j)) m s k = (unacknowledged_ruled p.master cascade_irq m k.0, unacknowledged_ruled p.slave j s k.1)
+restored_both p None m s k = k
 
 written_both : (p : PicState) (port byte : ℕ) → Both p → Both (written_at p port byte)
 unfolding written_at

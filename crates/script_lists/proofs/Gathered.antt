@@ -1,4 +1,5 @@
 -- The vectors that wait for a vCPU, gathered one by one. Assumes nothing.
+use Rattle.std.proofs.Common.{Option, Some, None, Result, Ok, Err}
 use mathlib.Core.Path.{◌≡◌, refl, sym, ap, ◌∙◌}
 use mathlib.Core.Bool.{Bool, true, false, cond}
 use mathlib.Core.List.{List, [], ◌∷◌, ◌++◌}
@@ -18,8 +19,6 @@ use Rattle.types.specs.declared.VcpuId.{VcpuId}
 use Rattle.types.specs.declared.Vector.{Vector}
 use Rattle.types.specs.Reply.{Outcome, outcome_of, reply_number, reply_values}
 use Rattle.types.proofs.Replies.{refused_not_done}
-use Rattle.waiting.specs.declared.Waited.{Waited}
-use Rattle.waiting.specs.declared.Waited.TheVariants.{Given, Nothing as NoVector, Refused as NotGiven}
 use Rattle.waiting.specs.Answers.{waited_reply}
 use Rattle.waiting.specs.Waiting as one
 use Rattle.waiting.specs.Waiting.{view, list_of, size_of, around, new_list, oldest}
@@ -61,7 +60,7 @@ oldest_done (v ∷ l) = refl
 replied_by : Lists → VcpuId → ℕ → Bool → Reply
 replied_by s id k b = cond b (oldest (drop k (list_at s id).waiting)) (Refused OutOfRange)
 
-module _ (s : Lists) (id : VcpuId) (k : ℕ) (r : Waited) (e : outcome_of s (waited_reply r) ≡ peek s id k) where
+module _ (s : Lists) (id : VcpuId) (k : ℕ) (r : Result (Option Vector) Refusal) (e : outcome_of s (waited_reply r) ≡ peek s id k) where
   said : waited_reply r ≡ replied_by s id k (known_in s id)
   unfolding on_list replied_by
   said = ap (λ (o : Outcome Lists). o.reply) e ∙ go (known_in s id)
@@ -71,7 +70,7 @@ module _ (s : Lists) (id : VcpuId) (k : ℕ) (r : Waited) (e : outcome_of s (wai
       go true = refl
       go false = refl
 
-  pub gave : (v : Vector) → r ≡ Given v → (k < length (list_at s id).waiting) × (v.0 ≡ get_or (list_at s id).waiting k 0)
+  pub gave : (v : Vector) → r ≡ Ok (Some v) → (k < length (list_at s id).waiting) × (v.0 ≡ get_or (list_at s id).waiting k 0)
   unfolding replied_by
   gave v er = go (known_in s id) (ap waited_reply (sym er) ∙ said)
     where
@@ -79,7 +78,7 @@ module _ (s : Lists) (id : VcpuId) (k : ℕ) (r : Waited) (e : outcome_of s (wai
       go true p = at_oldest (list_at s id).waiting k v.0 (sym p)
       go false p = let z : ◌≡◌ {A = ℕ} 0 5 = ap reply_number p in absurd (omega arith)
 
-  pub gave_none : r ≡ NoVector → length (list_at s id).waiting ≤ k
+  pub gave_none : r ≡ Ok None → length (list_at s id).waiting ≤ k
   unfolding replied_by
   gave_none er = go (known_in s id) (ap waited_reply (sym er) ∙ said)
     where
@@ -87,7 +86,7 @@ module _ (s : Lists) (id : VcpuId) (k : ℕ) (r : Waited) (e : outcome_of s (wai
       go true p = behind_last (list_at s id).waiting k (sym p)
       go false p = let z : ◌≡◌ {A = ℕ} 0 5 = ap reply_number p in absurd (omega arith)
 
-  pub refused : (why : Refusal) → r ≡ NotGiven why → length (list_at s id).waiting ≤ k
+  pub refused : (why : Refusal) → r ≡ Err why → length (list_at s id).waiting ≤ k
   unfolding replied_by new_list
   refused why er = go (known_in s id) refl (ap waited_reply (sym er) ∙ said)
     where

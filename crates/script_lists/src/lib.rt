@@ -17,8 +17,7 @@ ghost use Rattle.script_lists.specs.Steps.{list_outcome, host_step, host_step_in
 
 use script_format::{BadField, Cursor, Field, byte, field_of};
 use script_machine::{Did, Machine, Stop};
-use types::{PicLine, Reply, VcpuId, Vector};
-use waiting::Waited;
+use types::{PicLine, Reply, ToReply, VcpuId, Vector};
 
 // The bytes of four lists.
 pub const BYTES: usize = 264;
@@ -207,9 +206,9 @@ fn gather(vectors: &mut [u64], lists: &[u8], vcpu: VcpuId) -> usize
 {
     for n in 0..64 {
         match waiting::peek(lists, vcpu, n) {
-            Waited::Given(vector) => vectors[n] = u64::from(vector.0),
-            Waited::Nothing => return n,
-            Waited::Refused(_) => return n,
+            Ok(Some(vector)) => vectors[n] = u64::from(vector.0),
+            Ok(None) => return n,
+            Err(_) => return n,
         }
     }
     64

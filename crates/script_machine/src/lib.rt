@@ -15,7 +15,7 @@ ghost use Rattle.script_machine.specs.Late.{was_used, now_used, is_late, taken, 
 ghost use Rattle.script_machine.specs.Run.{step_of, step_in, stop_reply, run_outcome, ended, run_in};
 
 use script_format::{ApicCall, BadField, BoardCall, Call, Chip, Cursor, Field, IoCall, PicCall};
-use types::{Refusal, Reply, VcpuId};
+use types::{Refusal, Reply, ToReply, VcpuId};
 use vioapic::{IOAPIC_BASE, IOAPIC_SIZE};
 
 // Whether a field of the I/O APIC, or of the pair, was performed.

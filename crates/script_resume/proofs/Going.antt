@@ -1,4 +1,6 @@
 -- A run from where it starts, and its image. Assumes nothing.
+use Rattle.types.specs.declared.Refusal.{Refusal}
+use Rattle.std.specs.Prelude.{Result}
 use Prim.Native.Nat.{ℕ, zero, suc, ◌<◌, ◌≤◌}
 use mathlib.Core.Bool.{Bool, true, false, cond}
 use mathlib.Core.List.{List, [], ◌∷◌, ◌++◌, append-nil}
@@ -13,7 +15,6 @@ use Rattle.io.proofs.Counting.{prefix_len_of_le}
 use Rattle.types.specs.Reply.{Outcome, outcome_of}
 use Rattle.image_format.proofs.Rounds.{image_length}
 use Rattle.image_format.specs.Image.{image_of}
-use Rattle.image.specs.declared.SaveAnswer.{SaveAnswer}
 use Rattle.image.specs.Words.{gathered}
 use Rattle.image.specs.Save.{save_reply, saved}
 use Rattle.reply_text.specs.Text.{Puts}
@@ -31,7 +32,7 @@ pub left_from_start : (image script : List ℕ) (m last : Machine) → m ≡ sta
 left_from_start image script m last e p = rw (← e) p
 
 -- an image that fills its buffer
-pub saved_all : (io apic pair buf after : List ℕ) (a : SaveAnswer) → length buf ≡ 628 → outcome_of after (save_reply a) ≡ saved io apic pair buf → after ≡ image_of (gathered io apic pair)
+pub saved_all : (io apic pair buf after : List ℕ) (a : Result ℕ Refusal) → length buf ≡ 628 → outcome_of after (save_reply a) ≡ saved io apic pair buf → after ≡ image_of (gathered io apic pair)
 unfolding saved
 saved_all io apic pair buf after a n h =
     let z : drop 628 buf ≡ [] = rw (← n) (drop-length buf) in

@@ -8,7 +8,6 @@ ghost use Rattle.image.specs.Restore.{chips};
 ghost use Rattle.script_machine.specs.Machine.{machine_in};
 ghost use Rattle.script_resume.specs.Resumed.{is_start, start_of, Goes, head_size};
 
-use image::RestoreAnswer;
 use script_machine::{Used, Vm};
 use script_print::SPACE;
 
@@ -57,7 +56,7 @@ pub fn start(
         return Started { ok: true, vm };
     }
     match image::restore(image, &mut *board_ioapic, &mut *board_apic, &mut *pic) {
-        RestoreAnswer::Restored => Started {
+        Ok(()) => Started {
             ok: true,
             vm: Vm {
                 vcpu_num: vm.vcpu_num,
@@ -68,7 +67,7 @@ pub fn start(
                 },
             },
         },
-        RestoreAnswer::NotRestored(_) => Started { ok: false, vm },
+        Err(_) => Started { ok: false, vm },
     }
 }
 

@@ -7,6 +7,7 @@ use native.Mathlib.Omega.{arith}
 use lib.ListN.{set}
 use lib.Seq.{set-get_or}
 use borrow.Author.Tests.{not-true, not-false}
+use Rattle.std.proofs.Common.{Option, Some, None, Result}
 use Rattle.types.specs.declared.Refusal.{Refusal}
 use Rattle.types.specs.declared.Refusal.TheVariants.{OutOfRange, ListFull}
 use Rattle.types.specs.declared.Reply.{Reply}
@@ -16,9 +17,6 @@ use Rattle.types.specs.declared.Vector.{Vector}
 use Rattle.types.specs.Reply.{Outcome, outcome_of, reply_number}
 use Rattle.types.proofs.Replies.{refused_not_done}
 use Rattle.vpic.specs.declared.PicInterruptClaim.{PicInterruptClaim}
-use Rattle.vpic.specs.declared.PicClaim.{PicClaim}
-use Rattle.vpic.specs.declared.PicClaim.TheVariants.{Claimed, Nothing}
-use Rattle.vpic.specs.declared.PicDone.{PicDone}
 use Rattle.vpic.specs.Words.{PicState}
 use Rattle.vpic.specs.Pair.{StateClaim, claim_reply, claim_outcome, with_claim, done_outcome, restore_interrupt}
 use Rattle.vpic.proofs.Codes.{claim_same}
@@ -41,14 +39,14 @@ took_full s id v e f = took s id v e ∙ rw f (λ i. outcome_of (record { lists 
 took_room : (s : Lists) (id : VcpuId) (v : Vector) → known_in s id ≡ true → is_full (list_at s id) ≡ false → (take s id v).reply ≡ reply.Nothing
 took_room s id v e f = ap (λ (o : Outcome Lists). o.reply) (took s id v e) ∙ rw f refl
 
-pub hand_nothing : (s : Lists) (p : PicState) (id : VcpuId) (claim : PicClaim) → claim ≡ Nothing → outcome_of (host s p) (claim_reply Nothing) ≡ handed s p id claim
+pub hand_nothing : (s : Lists) (p : PicState) (id : VcpuId) (claim : Option PicInterruptClaim) → claim ≡ None → outcome_of (host s p) (claim_reply None) ≡ handed s p id claim
 hand_nothing s p id claim e = rw e refl
 
 part : Lists → PicState → VcpuId → PicInterruptClaim → Bool → Outcome Host
 part s p id c b =
-    cond b (outcome_of (host s (restore_interrupt p c).state) (reply.Refused ListFull)) (outcome_of (host (take s id c.vector).state p) (claim_reply (Claimed c)))
+    cond b (outcome_of (host s (restore_interrupt p c).state) (reply.Refused ListFull)) (outcome_of (host (take s id c.vector).state p) (claim_reply (Some c)))
 
-module _ (s s' : Lists) (p : PicState) (id : VcpuId) (claim : PicClaim) (c : PicInterruptClaim) (t : Taken) (ec : claim ≡ Claimed c) (known : known_in s id ≡ true)
+module _ (s s' : Lists) (p : PicState) (id : VcpuId) (claim : Option PicInterruptClaim) (c : PicInterruptClaim) (t : Taken) (ec : claim ≡ Some c) (known : known_in s id ≡ true)
     (e : outcome_of s' (taken_reply t) ≡ take s id c.vector) where
   said : taken_reply t ≡ (take s id c.vector).reply
   said = ap (λ (o : Outcome Lists). o.reply) e
@@ -56,19 +54,19 @@ module _ (s s' : Lists) (p : PicState) (id : VcpuId) (claim : PicClaim) (c : Pic
   left : s' ≡ (take s id c.vector).state
   left = ap (λ (o : Outcome Lists). o.state) e
 
-  pub hand_done : t ≡ Done → outcome_of (host s' p) (claim_reply (Claimed c)) ≡ handed s p id claim
+  pub hand_done : t ≡ Done → outcome_of (host s' p) (claim_reply (Some c)) ≡ handed s p id claim
   unfolding part said left
   hand_done et = rw ec (go (is_full (list_at s id)) refl)
     where
-      go : (b : Bool) → is_full (list_at s id) ≡ b → outcome_of (host s' p) (claim_reply (Claimed c)) ≡ part s p id c b
-      go false f = ap (λ (x : Lists). outcome_of (host x p) (claim_reply (Claimed c))) left
+      go : (b : Bool) → is_full (list_at s id) ≡ b → outcome_of (host s' p) (claim_reply (Some c)) ≡ part s p id c b
+      go false f = ap (λ (x : Lists). outcome_of (host x p) (claim_reply (Some c))) left
       go true f =
           absurd
           (let z : ◌≡◌ {A = ℕ} 0 9 =
           ap (λ (x : Taken). reply_number (taken_reply x)) (sym et) ∙ ap reply_number said ∙ ap (λ (o : Outcome Lists). reply_number o.reply) (took_full s id c.vector known f) in
           omega arith)
 
-  pub hand_back : (why : Refusal) (p' : PicState) (d : PicDone) → t ≡ NotTaken why → done_outcome p' d ≡ restore_interrupt p c → outcome_of (host s' p') (reply.Refused why) ≡ handed s p id claim
+  pub hand_back : (why : Refusal) (p' : PicState) (d : Result (Unit {0}) Refusal) → t ≡ NotTaken why → done_outcome p' d ≡ restore_interrupt p c → outcome_of (host s' p') (reply.Refused why) ≡ handed s p id claim
   unfolding part said left
   hand_back why p' d et r = rw ec (go (is_full (list_at s id)) refl)
     where
@@ -90,7 +88,7 @@ pub for_unknown : (s : Lists) (p : PicState) (id : VcpuId) (claim : PicState →
 unfolding claim_for
 for_unknown s p id claim b e n = let f : known_in s id ≡ false = sym e ∙ not-true b n in rw f refl
 
-pub for_known : (s : Lists) (p p' : PicState) (id : VcpuId) (claim : PicState → StateClaim) (b : Bool) (c : PicClaim) (o : Outcome Host) → b ≡ known_in s id → not b ≡ false
+pub for_known : (s : Lists) (p p' : PicState) (id : VcpuId) (claim : PicState → StateClaim) (b : Bool) (c : Option PicInterruptClaim) (o : Outcome Host) → b ≡ known_in s id → not b ≡ false
     → claim_outcome p' c ≡ with_claim (claim p) → o ≡ handed s p' id c → o ≡ claim_for (host s p) id claim
 unfolding claim_for
 for_known s p p' id claim b c o e n r h =

@@ -1,6 +1,6 @@
 -- The pair's claims for a vCPU that is stopped (document 02, T-13): what the pair claims goes into the vCPU's waiting list, and what the list refuses goes back to the pair
 -- by the same call.
-use Rattle.std.specs.Prelude.{cond}
+use Rattle.std.specs.Prelude.{cond, Option, Some, None}
 use Rattle.types.specs.declared.PicLine.{PicLine}
 use Rattle.types.specs.declared.Refusal.{Refusal}
 use Rattle.types.specs.declared.Refusal.TheVariants.{OutOfRange, ListFull}
@@ -9,8 +9,6 @@ use Rattle.types.specs.declared.Reply.TheVariants as reply
 use Rattle.types.specs.declared.VcpuId.{VcpuId}
 use Rattle.types.specs.Reply.{Outcome, outcome_of}
 use Rattle.vpic.specs.declared.PicInterruptClaim.{PicInterruptClaim}
-use Rattle.vpic.specs.declared.PicClaim.{PicClaim}
-use Rattle.vpic.specs.declared.PicClaim.TheVariants.{Claimed, Nothing}
 use Rattle.vpic.specs.Words.{PicState}
 use Rattle.vpic.specs.Pair.{StateClaim, claim_reply, claim_irq, claim_pending, restore_interrupt}
 use Rattle.waiting.specs.Waiting.{is_full}
@@ -28,17 +26,17 @@ host s p = record { lists = s; pair = p }
 
 -- vector, line and flags, as the pair answers
 abbrev pub waiting_reply : WaitingClaim → Reply
-waiting_reply (Waits c) = claim_reply (Claimed c)
-waiting_reply NoClaim = claim_reply Nothing
+waiting_reply (Waits c) = claim_reply (Some c)
+waiting_reply NoClaim = claim_reply None
 waiting_reply (Refused why) = reply.Refused why
 
 -- a claim that the pair p has made, for a known vCPU: nothing claimed is nothing, whatever the list; a claim whose vector finds no place is refused with 9 and restored
-abbrev pub handed : Lists → PicState → VcpuId → PicClaim → Outcome Host
-handed s p id Nothing = outcome_of (host s p) (claim_reply Nothing)
-handed s p id (Claimed c) =
+abbrev pub handed : Lists → PicState → VcpuId → Option PicInterruptClaim → Outcome Host
+handed s p id None = outcome_of (host s p) (claim_reply None)
+handed s p id (Some c) =
     cond (is_full (list_at s id))
     (outcome_of (host s (restore_interrupt p c).state) (reply.Refused ListFull))
-    (outcome_of (host (take s id c.vector).state p) (claim_reply (Claimed c)))
+    (outcome_of (host (take s id c.vector).state p) (claim_reply (Some c)))
 
 -- an unknown vCPU is refused with 5, before the pair is touched
 unfoldable pub claim_for : Host → VcpuId → (PicState → StateClaim) → Outcome Host

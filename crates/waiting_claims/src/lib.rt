@@ -9,8 +9,8 @@ ghost use Rattle.vpic.specs.Words.{view};
 ghost use Rattle.waiting.specs.Lists.{lists_in, known_in};
 ghost use Rattle.waiting_claims.specs.Claims.{host, waiting_reply, handed, claim_irq_for, claim_pending_for};
 
-use types::{PicLine, Refusal, Reply, VcpuId};
-use vpic::{PicClaim, PicInterruptClaim};
+use types::{PicLine, Refusal, Reply, ToReply, VcpuId};
+use vpic::PicInterruptClaim;
 use waiting::Taken;
 
 // A claim whose vector waits now, or why it doesn't.
@@ -26,7 +26,7 @@ impl WaitingClaim {
         ensures { result ≡ waiting_reply self }
     {
         match self {
-            WaitingClaim::Claimed(c) => PicClaim::Claimed(c).reply(),
+            WaitingClaim::Claimed(c) => Some(c).reply(),
             WaitingClaim::Nothing => Reply::Nothing,
             WaitingClaim::Refused(why) => Reply::Refused(why),
         }
@@ -34,13 +34,13 @@ impl WaitingClaim {
 }
 
 // A claim goes into the list of a vCPU that has one, or back to the pair.
-fn hand(lists: &mut [u8], pic: &mut [u64; 4], vcpu: VcpuId, claim: PicClaim) -> WaitingClaim
+fn hand(lists: &mut [u8], pic: &mut [u64; 4], vcpu: VcpuId, claim: Option<PicInterruptClaim>) -> WaitingClaim
     requires { known_in (lists_in lists.old) vcpu ≡ true }
     ensures { outcome_of (host (lists_in lists.new) (view pic.new)) (waiting_reply result) ≡ handed (lists_in lists.old) (view pic.old) vcpu claim }
 {
     match claim {
-        PicClaim::Nothing => WaitingClaim::Nothing,
-        PicClaim::Claimed(c) => {
+        None => WaitingClaim::Nothing,
+        Some(c) => {
             match waiting::take(&mut *lists, vcpu, c.vector) {
                 Taken::Done => WaitingClaim::Claimed(c),
                 Taken::Refused(why) => {

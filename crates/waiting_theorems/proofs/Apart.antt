@@ -6,14 +6,13 @@ use mathlib.Core.Path.{◌≡◌, refl, sym, ap, ◌∙◌}
 use native.Mathlib.Omega.{arith}
 use lib.Dec.{eqb, ltb}
 use lib.ListN.{length, set, length-set}
+use Rattle.std.proofs.Common.{Option, Some, None}
 use Rattle.types.specs.declared.Refusal.TheVariants.{OutOfRange, ListFull}
 use Rattle.types.specs.declared.Reply.{Reply}
 use Rattle.types.specs.declared.Reply.TheVariants.{Refused}
 use Rattle.types.specs.declared.VcpuId.{VcpuId}
 use Rattle.types.specs.Reply.{Outcome, outcome_of}
 use Rattle.vpic.specs.Words.{PicState}
-use Rattle.vpic.specs.declared.PicClaim.{PicClaim}
-use Rattle.vpic.specs.declared.PicClaim.TheVariants.{Claimed, Nothing as NoClaim}
 use Rattle.vpic.specs.declared.PicInterruptClaim.{PicInterruptClaim}
 use Rattle.vpic.specs.Pair.{StateClaim, claim_reply, claim_irq, claim_pending, restore_interrupt}
 use Rattle.waiting.specs.Waiting as one
@@ -67,12 +66,12 @@ on_own s t k f m = go (known_in s k) refl
 
 -- ---- claims
 
-handed_other : (s : Lists) (p : PicState) (id k : VcpuId) (c : PicClaim) → eqb id.0 k.0 ≡ false → Same k (handed s p id c).state.lists s
-handed_other s p id k NoClaim e = record { known = refl; list = refl }
-handed_other s p id k (Claimed c) e = go (is_full (list_at s id))
+handed_other : (s : Lists) (p : PicState) (id k : VcpuId) (c : Option PicInterruptClaim) → eqb id.0 k.0 ≡ false → Same k (handed s p id c).state.lists s
+handed_other s p id k None e = record { known = refl; list = refl }
+handed_other s p id k (Some c) e = go (is_full (list_at s id))
   where
     go : (b : Bool)
-        → Same k (cond b (outcome_of (host s (restore_interrupt p c).state) (Refused ListFull)) (outcome_of (host (lists.take s id c.vector).state p) (claim_reply (Claimed c)))).state.lists s
+        → Same k (cond b (outcome_of (host s (restore_interrupt p c).state) (Refused ListFull)) (outcome_of (host (lists.take s id c.vector).state p) (claim_reply (Some c)))).state.lists s
     go true = record { known = refl; list = refl }
     go false = on_other s id k (λ q. one.take q c.vector) e
 
@@ -89,12 +88,12 @@ record Claims (k : VcpuId) (a b : Outcome Host) : Type 0 where
   list : list_at a.state.lists k ≡ list_at b.state.lists k
   pair : a.state.pair ≡ b.state.pair
 
-handed_own : (s t : Lists) (p : PicState) (k : VcpuId) (c : PicClaim) → Same k s t → Claims k (handed s p k c) (handed t p k c)
-handed_own s t p k NoClaim m = record { reply = refl; list = m.list; pair = refl }
-handed_own s t p k (Claimed c) m = go (is_full (list_at s k)) (is_full (list_at t k)) (ap is_full m.list)
+handed_own : (s t : Lists) (p : PicState) (k : VcpuId) (c : Option PicInterruptClaim) → Same k s t → Claims k (handed s p k c) (handed t p k c)
+handed_own s t p k None m = record { reply = refl; list = m.list; pair = refl }
+handed_own s t p k (Some c) m = go (is_full (list_at s k)) (is_full (list_at t k)) (ap is_full m.list)
   where
     part : Lists → Bool → Outcome Host
-    part u b = cond b (outcome_of (host u (restore_interrupt p c).state) (Refused ListFull)) (outcome_of (host (lists.take u k c.vector).state p) (claim_reply (Claimed c)))
+    part u b = cond b (outcome_of (host u (restore_interrupt p c).state) (Refused ListFull)) (outcome_of (host (lists.take u k c.vector).state p) (claim_reply (Some c)))
 
     go : (a b : Bool) → a ≡ b → Claims k (part s a) (part t b)
     go true true e = record { reply = refl; list = m.list; pair = refl }

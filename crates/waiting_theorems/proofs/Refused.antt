@@ -8,6 +8,7 @@ use lib.Dec.{leb, ltb}
 use lib.ListN.{length, get_or, set, drop}
 use lib.ListN as listN
 use lib.Seq.{set-get_or}
+use Rattle.std.proofs.Common.{Option, Some, None}
 use Rattle.types.specs.declared.PicLine.{PicLine}
 use Rattle.types.specs.declared.Refusal.TheVariants.{OutOfRange, ListFull}
 use Rattle.types.specs.declared.Reply.{Reply}
@@ -17,8 +18,6 @@ use Rattle.types.specs.declared.Vector.{Vector}
 use Rattle.types.specs.Reply.{Outcome, outcome_of, reply_number}
 use Rattle.vpic.specs.Words.{PicState}
 use Rattle.vpic.specs.declared.PicInterruptClaim.{PicInterruptClaim}
-use Rattle.vpic.specs.declared.PicClaim.{PicClaim}
-use Rattle.vpic.specs.declared.PicClaim.TheVariants.{Claimed, Nothing as NoClaim}
 use Rattle.vpic.specs.Pair.{StateClaim, claim_reply, claim_irq, claim_pending, restore_interrupt}
 use Rattle.vpic_theorems.proofs.Restore.{restored_at_once, restored_after_raise}
 use Rattle.vpic_theorems.proofs.Turned.{restored_but_priorities, restored_after_raise_but_priorities}
@@ -67,16 +66,16 @@ on_number s id f n e = go (known_in s id)
     go true = e
     go false = refl
 
-handed_number : (s : Lists) (p : PicState) (id : VcpuId) (c : PicClaim) → reply_number (handed s p id c).reply ≡ cond (is_full (list_at s id) && finds c) 9 0
-handed_number s p id NoClaim = go (is_full (list_at s id))
+handed_number : (s : Lists) (p : PicState) (id : VcpuId) (c : Option PicInterruptClaim) → reply_number (handed s p id c).reply ≡ cond (is_full (list_at s id) && finds c) 9 0
+handed_number s p id None = go (is_full (list_at s id))
   where
     go : (b : Bool) → ◌≡◌ {A = ℕ} 0 (cond (b && false) 9 0)
     go true = refl
     go false = refl
-handed_number s p id (Claimed c) = go (is_full (list_at s id))
+handed_number s p id (Some c) = go (is_full (list_at s id))
   where
     go : (b : Bool)
-        → reply_number (cond b (outcome_of (host s (restore_interrupt p c).state) (Refused ListFull)) (outcome_of (host (lists.take s id c.vector).state p) (claim_reply (Claimed c)))).reply
+        → reply_number (cond b (outcome_of (host s (restore_interrupt p c).state) (Refused ListFull)) (outcome_of (host (lists.take s id c.vector).state p) (claim_reply (Some c)))).reply
         ≡ cond (b && true) 9 0
     go true = refl
     go false = refl
@@ -136,14 +135,14 @@ take_kept q v = go (is_full q)
     go true r = refl
     go false r = absurd (r refl)
 
-handed_kept : (s : Lists) (p : PicState) (id : VcpuId) (c : PicClaim) → (reply_number (handed s p id c).reply ≡ 0 → ⊥) → (handed s p id c).state.lists ≡ s
-handed_kept s p id NoClaim r = refl
-handed_kept s p id (Claimed c) r = go (is_full (list_at s id)) r
+handed_kept : (s : Lists) (p : PicState) (id : VcpuId) (c : Option PicInterruptClaim) → (reply_number (handed s p id c).reply ≡ 0 → ⊥) → (handed s p id c).state.lists ≡ s
+handed_kept s p id None r = refl
+handed_kept s p id (Some c) r = go (is_full (list_at s id)) r
   where
     go : (b : Bool)
-        → (reply_number (cond b (outcome_of (host s (restore_interrupt p c).state) (Refused ListFull)) (outcome_of (host (lists.take s id c.vector).state p) (claim_reply (Claimed c)))).reply
+        → (reply_number (cond b (outcome_of (host s (restore_interrupt p c).state) (Refused ListFull)) (outcome_of (host (lists.take s id c.vector).state p) (claim_reply (Some c)))).reply
         ≡ 0 → ⊥)
-        → (cond b (outcome_of (host s (restore_interrupt p c).state) (Refused ListFull)) (outcome_of (host (lists.take s id c.vector).state p) (claim_reply (Claimed c)))).state.lists ≡ s
+        → (cond b (outcome_of (host s (restore_interrupt p c).state) (Refused ListFull)) (outcome_of (host (lists.take s id c.vector).state p) (claim_reply (Some c)))).state.lists ≡ s
     go true q = refl
     go false q = absurd (q refl)
 
@@ -199,19 +198,19 @@ unknown_keeps h (meanwhile p) e = absurd (let z : ◌≡◌ {A = ℕ} 0 5 = ap r
 
 record Gone (h : Host) (id : VcpuId) (claim : PicState → StateClaim) : Type 0 where
   found : PicInterruptClaim
-  is : (claim h.pair).claim ≡ Claimed found
+  is : (claim h.pair).claim ≡ Some found
   leaves : (claim_for h id claim).state ≡ host h.lists (restore_interrupt (claim h.pair).state found).state
 
-handed_back : (h : Host) (id : VcpuId) (claim : PicState → StateClaim) (c : PicClaim) → (claim h.pair).claim ≡ c → (handed h.lists (claim h.pair).state id c).reply ≡ Refused ListFull
+handed_back : (h : Host) (id : VcpuId) (claim : PicState → StateClaim) (c : Option PicInterruptClaim) → (claim h.pair).claim ≡ c → (handed h.lists (claim h.pair).state id c).reply ≡ Refused ListFull
     → (claim_for h id claim).state ≡ (handed h.lists (claim h.pair).state id c).state → Gone h id claim
-handed_back h id claim NoClaim d e s = absurd (let z : ◌≡◌ {A = ℕ} 0 9 = ap reply_number e in omega arith)
-handed_back h id claim (Claimed c) d e s = record { found = c; is = d; leaves = s ∙ go (is_full (list_at h.lists id)) e }
+handed_back h id claim None d e s = absurd (let z : ◌≡◌ {A = ℕ} 0 9 = ap reply_number e in omega arith)
+handed_back h id claim (Some c) d e s = record { found = c; is = d; leaves = s ∙ go (is_full (list_at h.lists id)) e }
   where
     go : (b : Bool)
         → (cond b (outcome_of (host h.lists (restore_interrupt (claim h.pair).state c).state) (Refused ListFull))
-        (outcome_of (host (lists.take h.lists id c.vector).state (claim h.pair).state) (claim_reply (Claimed c)))).reply ≡ Refused ListFull
+        (outcome_of (host (lists.take h.lists id c.vector).state (claim h.pair).state) (claim_reply (Some c)))).reply ≡ Refused ListFull
         → (cond b (outcome_of (host h.lists (restore_interrupt (claim h.pair).state c).state) (Refused ListFull))
-        (outcome_of (host (lists.take h.lists id c.vector).state (claim h.pair).state) (claim_reply (Claimed c)))).state
+        (outcome_of (host (lists.take h.lists id c.vector).state (claim h.pair).state) (claim_reply (Some c)))).state
         ≡ host h.lists (restore_interrupt (claim h.pair).state c).state
     go true q = refl
     go false q = absurd (let z : ◌≡◌ {A = ℕ} 0 9 = ap reply_number q in omega arith)

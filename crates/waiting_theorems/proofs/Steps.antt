@@ -8,6 +8,7 @@ use lib.Dec.{eqb, ltb, leb}
 use lib.ListN.{length, get_or, set, take, length-set}
 use lib.Seq.{get_or-set_same, get_or-set_other}
 use borrow.Author.Tests.{ltb-true, eqb-true, eqb-false}
+use Rattle.std.proofs.Common.{Option, Some, None}
 use Rattle.types.specs.declared.Refusal.{Refusal}
 use Rattle.types.specs.declared.Refusal.TheVariants.{OutOfRange, ListFull}
 use Rattle.types.specs.declared.Reply.{Reply}
@@ -16,8 +17,6 @@ use Rattle.types.specs.declared.VcpuId.{VcpuId}
 use Rattle.types.specs.declared.Vector.{Vector}
 use Rattle.types.specs.Reply.{Outcome, outcome_of, reply_number, reply_values}
 use Rattle.vpic.specs.Words.{PicState}
-use Rattle.vpic.specs.declared.PicClaim.{PicClaim}
-use Rattle.vpic.specs.declared.PicClaim.TheVariants.{Claimed, Nothing as NoClaim}
 use Rattle.vpic.specs.declared.PicInterruptClaim.{PicInterruptClaim}
 use Rattle.vpic.specs.Pair.{StateClaim, claim_reply, claim_irq, claim_pending, restore_interrupt}
 use Rattle.waiting.specs.Waiting as one
@@ -123,16 +122,16 @@ placed s id k v e f = rw (take_room s id v e f) (go (eqb id.0 k.0) refl)
         grows v.0 (ap (λ (q : Waiting). q.waiting) there) refl refl refl
     go false d = stays (ap (λ (q : Waiting). q.waiting) (put_other s id k (one.taken (list_at s id) v) d)) refl refl refl
 
-handed_step : (s : Lists) (p : PicState) (id k : VcpuId) (c : PicClaim) → known_in s id ≡ true
+handed_step : (s : Lists) (p : PicState) (id k : VcpuId) (c : Option PicInterruptClaim) → known_in s id ≡ true
     → Stepped (list_at s k).waiting (list_at (handed s p id c).state.lists k).waiting (cond (eqb id.0 k.0) (take 1 (reply_values (handed s p id c).reply)) []) [] []
-handed_step s p id k NoClaim e = stays refl (none_mine (eqb id.0 k.0)) refl refl
-handed_step s p id k (Claimed c) e = go (is_full (list_at s id)) refl
+handed_step s p id k None e = stays refl (none_mine (eqb id.0 k.0)) refl refl
+handed_step s p id k (Some c) e = go (is_full (list_at s id)) refl
   where
     go : (b : Bool) → is_full (list_at s id) ≡ b
         → Stepped (list_at s k).waiting
-        (list_at (cond b (outcome_of (host s (restore_interrupt p c).state) (Refused ListFull)) (outcome_of (host (lists.take s id c.vector).state p) (claim_reply (Claimed c)))).state.lists k).waiting
+        (list_at (cond b (outcome_of (host s (restore_interrupt p c).state) (Refused ListFull)) (outcome_of (host (lists.take s id c.vector).state p) (claim_reply (Some c)))).state.lists k).waiting
         (cond (eqb id.0 k.0)
-        (take 1 (reply_values (cond b (outcome_of (host s (restore_interrupt p c).state) (Refused ListFull)) (outcome_of (host (lists.take s id c.vector).state p) (claim_reply (Claimed c)))).reply))
+        (take 1 (reply_values (cond b (outcome_of (host s (restore_interrupt p c).state) (Refused ListFull)) (outcome_of (host (lists.take s id c.vector).state p) (claim_reply (Some c)))).reply))
         []) [] []
     go true f = stays refl (none_mine (eqb id.0 k.0)) refl refl
     go false f = placed s id k c.vector e f

@@ -1,5 +1,6 @@
 -- Calls of the lists one after another, and what is counted of them: from the calls and their replies alone.
-use Rattle.std.specs.Prelude.{ℕ, ◌+◌, Bool, true, false, cond, ◌&&◌, List, [], ◌∷◌, ◌++◌, ◌≡◌, eqb, leb, length, take, drop}
+use Rattle.vpic.specs.declared.PicInterruptClaim.{PicInterruptClaim}
+use Rattle.std.specs.Prelude.{ℕ, ◌+◌, Bool, true, false, cond, ◌&&◌, List, [], ◌∷◌, ◌++◌, ◌≡◌, eqb, leb, length, take, drop, Option, Some, None}
 use Rattle.types.specs.declared.PicLine.{PicLine}
 use Rattle.types.specs.declared.Reply.{Reply}
 use Rattle.types.specs.declared.Reply.TheVariants.{Nothing}
@@ -7,8 +8,6 @@ use Rattle.types.specs.declared.VcpuId.{VcpuId}
 use Rattle.types.specs.declared.Vector.{Vector}
 use Rattle.types.specs.Reply.{Outcome, outcome_of, reply_number, reply_values}
 use Rattle.vpic.specs.Words.{PicState}
-use Rattle.vpic.specs.declared.PicClaim.{PicClaim}
-use Rattle.vpic.specs.declared.PicClaim.TheVariants.{Claimed, Nothing as NoClaim}
 use Rattle.vpic.specs.Pair.{claim_irq, claim_pending}
 use Rattle.waiting.specs.Waiting.{Waiting, is_full, removed}
 use Rattle.waiting.specs.Lists as lists
@@ -162,9 +161,9 @@ NoClaims (c ∷ cs) = (is_claim c ≡ false) × NoClaims cs
 -- ---- the number of a reply
 
 -- a claim that finds something
-abbrev pub finds : PicClaim → Bool
-finds (Claimed c) = true
-finds NoClaim = false
+abbrev pub finds : Option PicInterruptClaim → Bool
+finds (Some c) = true
+finds None = false
 
 -- the call's vCPU has a list
 abbrev pub knows : Lists → Call → Bool
