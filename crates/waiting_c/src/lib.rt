@@ -10,7 +10,7 @@ ghost use Rattle.waiting_claims.specs.Claims.{host, claim_irq_for, claim_pending
 ghost use Rattle.waiting_c.specs.Calls.{shown, coded, vcpu, line_of, take_number, cancel_number};
 
 use reply_code::code;
-use types::{PicLine, Refusal, Reply, VcpuId, Vector};
+use types::{PicLine, Refusal, Reply, ToReply, VcpuId, Vector};
 
 // A line: any number from 16 up is one that the pair hasn't.
 fn line(irq: u64) -> PicLine
@@ -26,7 +26,7 @@ fn line(irq: u64) -> PicLine
 pub extern "C" fn sillwander_waiting_new(lists: &mut [u8], vcpu_id: usize) -> u64
     ensures { shown (lists_in lists.new) result ≡ coded (new (lists_in lists.old) (vcpu vcpu_id)) }
 {
-    code(waiting::new(&mut *lists, VcpuId(vcpu_id)).reply())
+    code(waiting::new(lists, VcpuId(vcpu_id)).reply())
 }
 
 #[unsafe(no_mangle)]
@@ -36,14 +36,14 @@ pub extern "C" fn sillwander_waiting_take(lists: &mut [u8], vcpu_id: usize, vect
     if vector > 255 {
         return code(Reply::Refused(Refusal::OutOfRange));
     }
-    code(waiting::take(&mut *lists, VcpuId(vcpu_id), Vector(vector as u8)).reply())
+    code(waiting::take(lists, VcpuId(vcpu_id), Vector(vector as u8)).reply())
 }
 
 #[unsafe(no_mangle)]
 pub extern "C" fn sillwander_waiting_deliver(lists: &mut [u8], vcpu_id: usize) -> u64
     ensures { shown (lists_in lists.new) result ≡ coded (deliver (lists_in lists.old) (vcpu vcpu_id)) }
 {
-    code(waiting::deliver(&mut *lists, VcpuId(vcpu_id)).reply())
+    code(waiting::deliver(lists, VcpuId(vcpu_id)).reply())
 }
 
 #[unsafe(no_mangle)]
@@ -53,7 +53,7 @@ pub extern "C" fn sillwander_waiting_cancel(lists: &mut [u8], vcpu_id: usize, ve
     if vector > 255 {
         return code(Reply::Refused(Refusal::OutOfRange));
     }
-    code(waiting::cancel(&mut *lists, VcpuId(vcpu_id), Vector(vector as u8)).reply())
+    code(waiting::cancel(lists, VcpuId(vcpu_id), Vector(vector as u8)).reply())
 }
 
 #[unsafe(no_mangle)]
@@ -79,7 +79,7 @@ pub extern "C" fn sillwander_waiting_claim_irq(
 ) -> u64
     ensures { shown (host (lists_in lists.new) (view pic.new)) result ≡ coded (claim_irq_for (host (lists_in lists.old) (view pic.old)) (vcpu vcpu_id) (record { 0 = irq })) }
 {
-    code(waiting_claims::claim_irq(&mut *lists, &mut *pic, VcpuId(vcpu_id), line(irq)).reply())
+    code(waiting_claims::claim_irq(lists, pic, VcpuId(vcpu_id), line(irq)).reply())
 }
 
 #[unsafe(no_mangle)]
@@ -90,5 +90,5 @@ pub extern "C" fn sillwander_waiting_claim_pending_interrupt(
 ) -> u64
     ensures { shown (host (lists_in lists.new) (view pic.new)) result ≡ coded (claim_pending_for (host (lists_in lists.old) (view pic.old)) (vcpu vcpu_id)) }
 {
-    code(waiting_claims::claim_pending_interrupt(&mut *lists, &mut *pic, VcpuId(vcpu_id)).reply())
+    code(waiting_claims::claim_pending_interrupt(lists, pic, VcpuId(vcpu_id)).reply())
 }

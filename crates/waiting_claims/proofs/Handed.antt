@@ -1,16 +1,13 @@
 -- A claim goes into a list, or back to the pair. Assumes nothing.
 use Prim.Native.Nat.{ℕ}
 use mathlib.Core.Bool.{Bool, true, false, not, cond}
-use mathlib.Core.List.{List}
 use mathlib.Core.Path.{◌≡◌, refl, sym, ap, ◌∙◌}
 use native.Mathlib.Omega.{arith}
-use lib.ListN.{set}
 use lib.Seq.{set-get_or}
 use borrow.Author.Tests.{not-true, not-false}
-use Rattle.std.proofs.Common.{Option, Some, None, Result}
+use Rattle.std.proofs.Common.{Option, Some, None, Result, Result, Ok, Err}
 use Rattle.types.specs.declared.Refusal.{Refusal}
 use Rattle.types.specs.declared.Refusal.TheVariants.{OutOfRange, ListFull}
-use Rattle.types.specs.declared.Reply.{Reply}
 use Rattle.types.specs.declared.Reply.TheVariants as reply
 use Rattle.types.specs.declared.VcpuId.{VcpuId}
 use Rattle.types.specs.declared.Vector.{Vector}
@@ -20,8 +17,6 @@ use Rattle.vpic.specs.declared.PicInterruptClaim.{PicInterruptClaim}
 use Rattle.vpic.specs.Words.{PicState}
 use Rattle.vpic.specs.Pair.{StateClaim, claim_reply, claim_outcome, with_claim, done_outcome, restore_interrupt}
 use Rattle.vpic.proofs.Codes.{claim_same}
-use Rattle.waiting.specs.declared.Taken.{Taken}
-use Rattle.waiting.specs.declared.Taken.TheVariants.{Done, Refused as NotTaken}
 use Rattle.waiting.specs.Answers.{taken_reply}
 use Rattle.waiting.specs.Waiting as one
 use Rattle.waiting.specs.Waiting.{Waiting, new_list, is_full}
@@ -46,7 +41,7 @@ part : Lists → PicState → VcpuId → PicInterruptClaim → Bool → Outcome 
 part s p id c b =
     cond b (outcome_of (host s (restore_interrupt p c).state) (reply.Refused ListFull)) (outcome_of (host (take s id c.vector).state p) (claim_reply (Some c)))
 
-module _ (s s' : Lists) (p : PicState) (id : VcpuId) (claim : Option PicInterruptClaim) (c : PicInterruptClaim) (t : Taken) (ec : claim ≡ Some c) (known : known_in s id ≡ true)
+module _ (s s' : Lists) (p : PicState) (id : VcpuId) (claim : Option PicInterruptClaim) (c : PicInterruptClaim) (t : Result (Unit {0}) Refusal) (ec : claim ≡ Some c) (known : known_in s id ≡ true)
     (e : outcome_of s' (taken_reply t) ≡ take s id c.vector) where
   said : taken_reply t ≡ (take s id c.vector).reply
   said = ap (λ (o : Outcome Lists). o.reply) e
@@ -54,7 +49,7 @@ module _ (s s' : Lists) (p : PicState) (id : VcpuId) (claim : Option PicInterrup
   left : s' ≡ (take s id c.vector).state
   left = ap (λ (o : Outcome Lists). o.state) e
 
-  pub hand_done : t ≡ Done → outcome_of (host s' p) (claim_reply (Some c)) ≡ handed s p id claim
+  pub hand_done : t ≡ Ok tt → outcome_of (host s' p) (claim_reply (Some c)) ≡ handed s p id claim
   unfolding part said left
   hand_done et = rw ec (go (is_full (list_at s id)) refl)
     where
@@ -63,22 +58,22 @@ module _ (s s' : Lists) (p : PicState) (id : VcpuId) (claim : Option PicInterrup
       go true f =
           absurd
           (let z : ◌≡◌ {A = ℕ} 0 9 =
-          ap (λ (x : Taken). reply_number (taken_reply x)) (sym et) ∙ ap reply_number said ∙ ap (λ (o : Outcome Lists). reply_number o.reply) (took_full s id c.vector known f) in
+          ap (λ (x : Result (Unit {0}) Refusal). reply_number (taken_reply x)) (sym et) ∙ ap reply_number said ∙ ap (λ (o : Outcome Lists). reply_number o.reply) (took_full s id c.vector known f) in
           omega arith)
 
-  pub hand_back : (why : Refusal) (p' : PicState) (d : Result (Unit {0}) Refusal) → t ≡ NotTaken why → done_outcome p' d ≡ restore_interrupt p c → outcome_of (host s' p') (reply.Refused why) ≡ handed s p id claim
+  pub hand_back : (why : Refusal) (p' : PicState) (d : Result (Unit {0}) Refusal) → t ≡ Err why → done_outcome p' d ≡ restore_interrupt p c → outcome_of (host s' p') (reply.Refused why) ≡ handed s p id claim
   unfolding part said left
   hand_back why p' d et r = rw ec (go (is_full (list_at s id)) refl)
     where
       go : (b : Bool) → is_full (list_at s id) ≡ b → outcome_of (host s' p') (reply.Refused why) ≡ part s p id c b
       go true f =
           let x : outcome_of s' (reply.Refused why) ≡ outcome_of s (reply.Refused ListFull) =
-          ap (λ (y : Taken). outcome_of s' (taken_reply y)) (sym et) ∙ e ∙ took_full s id c.vector known f in
+          ap (λ (y : Result (Unit {0}) Refusal). outcome_of s' (taken_reply y)) (sym et) ∙ e ∙ took_full s id c.vector known f in
           λ i. outcome_of (host (x i).state (r i).state) (x i).reply
       go false f =
           absurd
           (let z : reply_number (reply.Refused why) ≡ 0 =
-          ap (λ (y : Taken). reply_number (taken_reply y)) (sym et) ∙ ap reply_number (said ∙ took_room s id c.vector known f) in
+          ap (λ (y : Result (Unit {0}) Refusal). reply_number (taken_reply y)) (sym et) ∙ ap reply_number (said ∙ took_room s id c.vector known f) in
           refused_not_done why z)
 
 -- ---- the calls

@@ -1,20 +1,18 @@
 -- The pair's claims for a vCPU that is stopped (document 02, T-13): what the pair claims goes into the vCPU's waiting list, and what the list refuses goes back to the pair
 -- by the same call.
-use Rattle.std.specs.Prelude.{cond, Option, Some, None}
+use Rattle.std.specs.Prelude.{cond, Option, Some, None, Result}
 use Rattle.types.specs.declared.PicLine.{PicLine}
 use Rattle.types.specs.declared.Refusal.{Refusal}
 use Rattle.types.specs.declared.Refusal.TheVariants.{OutOfRange, ListFull}
 use Rattle.types.specs.declared.Reply.{Reply}
 use Rattle.types.specs.declared.Reply.TheVariants as reply
 use Rattle.types.specs.declared.VcpuId.{VcpuId}
-use Rattle.types.specs.Reply.{Outcome, outcome_of}
+use Rattle.types.specs.Reply.{Outcome, outcome_of, result_reply}
 use Rattle.vpic.specs.declared.PicInterruptClaim.{PicInterruptClaim}
 use Rattle.vpic.specs.Words.{PicState}
 use Rattle.vpic.specs.Pair.{StateClaim, claim_reply, claim_irq, claim_pending, restore_interrupt}
 use Rattle.waiting.specs.Waiting.{is_full}
 use Rattle.waiting.specs.Lists.{Lists, known_in, list_at, take}
-use Rattle.waiting_claims.specs.declared.WaitingClaim.{WaitingClaim}
-use Rattle.waiting_claims.specs.declared.WaitingClaim.TheVariants.{Claimed as Waits, Nothing as NoClaim, Refused}
 
 -- the vCPUs' lists, and the pair that they share
 pub record Host : Type 0 where
@@ -25,10 +23,8 @@ abbrev pub host : Lists → PicState → Host
 host s p = record { lists = s; pair = p }
 
 -- vector, line and flags, as the pair answers
-abbrev pub waiting_reply : WaitingClaim → Reply
-waiting_reply (Waits c) = claim_reply (Some c)
-waiting_reply NoClaim = claim_reply None
-waiting_reply (Refused why) = reply.Refused why
+abbrev pub waiting_reply : Result (Option PicInterruptClaim) Refusal → Reply
+waiting_reply = result_reply claim_reply
 
 -- a claim that the pair p has made, for a known vCPU: nothing claimed is nothing, whatever the list; a claim whose vector finds no place is refused with 9 and restored
 abbrev pub handed : Lists → PicState → VcpuId → Option PicInterruptClaim → Outcome Host

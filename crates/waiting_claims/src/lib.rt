@@ -9,67 +9,58 @@ ghost use Rattle.vpic.specs.Words.{view};
 ghost use Rattle.waiting.specs.Lists.{lists_in, known_in};
 ghost use Rattle.waiting_claims.specs.Claims.{host, waiting_reply, handed, claim_irq_for, claim_pending_for};
 
-use types::{PicLine, Refusal, Reply, ToReply, VcpuId};
+use types::{PicLine, Refusal, VcpuId};
 use vpic::PicInterruptClaim;
-use waiting::Taken;
-
-// A claim whose vector waits now, or why it doesn't.
-#[derive(Clone, Copy)]
-pub enum WaitingClaim {
-    Claimed(PicInterruptClaim),
-    Nothing,
-    Refused(Refusal),
-}
-
-impl WaitingClaim {
-    pub fn reply(self) -> Reply
-        ensures { result ≡ waiting_reply self }
-    {
-        match self {
-            WaitingClaim::Claimed(c) => Some(c).reply(),
-            WaitingClaim::Nothing => Reply::Nothing,
-            WaitingClaim::Refused(why) => Reply::Refused(why),
-        }
-    }
-}
 
 // A claim goes into the list of a vCPU that has one, or back to the pair.
-fn hand(lists: &mut [u8], pic: &mut [u64; 4], vcpu: VcpuId, claim: Option<PicInterruptClaim>) -> WaitingClaim
+fn hand(
+    lists: &mut [u8],
+    pic: &mut [u64; 4],
+    vcpu: VcpuId,
+    claim: Option<PicInterruptClaim>,
+) -> Result<Option<PicInterruptClaim>, Refusal>
     requires { known_in (lists_in lists.old) vcpu ≡ true }
     ensures { outcome_of (host (lists_in lists.new) (view pic.new)) (waiting_reply result) ≡ handed (lists_in lists.old) (view pic.old) vcpu claim }
 {
-    match claim {
-        None => WaitingClaim::Nothing,
-        Some(c) => {
-            match waiting::take(&mut *lists, vcpu, c.vector) {
-                Taken::Done => WaitingClaim::Claimed(c),
-                Taken::Refused(why) => {
-                    vpic::restore_interrupt(&mut *pic, c);
-                    WaitingClaim::Refused(why)
-                }
-            }
+    let Some(claim) = claim else {
+        return Ok(None);
+    };
+    match waiting::take(lists, vcpu, claim.vector) {
+        Ok(()) => Ok(Some(claim)),
+        Err(why) => {
+            let _ = vpic::restore_interrupt(pic, claim);
+            Err(why)
         }
     }
 }
 
-// Raises a line, and claims for a vCPU what the pair has to deliver.
-pub fn claim_irq(lists: &mut [u8], pic: &mut [u64; 4], vcpu: VcpuId, irq: PicLine) -> WaitingClaim
+// Raises a line, and claims for a vCPU what the pair has to deliver: a claim whose vector waits now, or none.
+pub fn claim_irq(
+    lists: &mut [u8],
+    pic: &mut [u64; 4],
+    vcpu: VcpuId,
+    irq: PicLine,
+) -> Result<Option<PicInterruptClaim>, Refusal>
     ensures { outcome_of (host (lists_in lists.new) (view pic.new)) (waiting_reply result) ≡ claim_irq_for (host (lists_in lists.old) (view pic.old)) vcpu irq }
 {
-    if !waiting::is_known(&*lists, vcpu) {
-        return WaitingClaim::Refused(Refusal::OutOfRange);
+    if !waiting::is_known(lists, vcpu) {
+        return Err(Refusal::OutOfRange);
     }
-    let claim = vpic::claim_irq(&mut *pic, irq);
-    hand(&mut *lists, &mut *pic, vcpu, claim)
+    let claim = vpic::claim_irq(pic, irq);
+    hand(lists, pic, vcpu, claim)
 }
 
 // Claims for a vCPU what became deliverable after the guest changed the chips.
-pub fn claim_pending_interrupt(lists: &mut [u8], pic: &mut [u64; 4], vcpu: VcpuId) -> WaitingClaim
+pub fn claim_pending_interrupt(
+    lists: &mut [u8],
+    pic: &mut [u64; 4],
+    vcpu: VcpuId,
+) -> Result<Option<PicInterruptClaim>, Refusal>
     ensures { outcome_of (host (lists_in lists.new) (view pic.new)) (waiting_reply result) ≡ claim_pending_for (host (lists_in lists.old) (view pic.old)) vcpu }
 {
-    if !waiting::is_known(&*lists, vcpu) {
-        return WaitingClaim::Refused(Refusal::OutOfRange);
+    if !waiting::is_known(lists, vcpu) {
+        return Err(Refusal::OutOfRange);
     }
-    let claim = vpic::claim_pending_interrupt(&mut *pic);
-    hand(&mut *lists, &mut *pic, vcpu, claim)
+    let claim = vpic::claim_pending_interrupt(pic);
+    hand(lists, pic, vcpu, claim)
 }

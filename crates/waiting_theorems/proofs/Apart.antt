@@ -5,10 +5,9 @@ use mathlib.Core.List.{List, [], ◌∷◌}
 use mathlib.Core.Path.{◌≡◌, refl, sym, ap, ◌∙◌}
 use native.Mathlib.Omega.{arith}
 use lib.Dec.{eqb, ltb}
-use lib.ListN.{length, set, length-set}
+use lib.ListN.{length-set}
 use Rattle.std.proofs.Common.{Option, Some, None}
 use Rattle.types.specs.declared.Refusal.TheVariants.{OutOfRange, ListFull}
-use Rattle.types.specs.declared.Reply.{Reply}
 use Rattle.types.specs.declared.Reply.TheVariants.{Refused}
 use Rattle.types.specs.declared.VcpuId.{VcpuId}
 use Rattle.types.specs.Reply.{Outcome, outcome_of}
@@ -21,7 +20,7 @@ use Rattle.waiting.specs.Lists as lists
 use Rattle.waiting.specs.Lists.{Lists, known_in, list_at, with_list, on_list}
 use Rattle.waiting_claims.specs.Claims.{Host, host, handed, claim_for}
 use Rattle.waiting_theorems.specs.Calls.{Call, take_in, deliver, cancel, count, peek, call_claim_irq, claim_pending_interrupt, meanwhile, outcome, run, is_for, answers_to, only, is_claim, NoClaims}
-use Rattle.waiting_theorems.specs.Statements.{Apart, Alike, ApartLists, SameAnswer, ApartWithPair}
+use Rattle.waiting_theorems.specs.Statements.{Apart, Alike, ApartLists, ApartWithPair}
 use Rattle.waiting_theorems.proofs.Steps.{on_known, on_unknown, same_id, put_same, put_other}
 
 -- ---- the lists of two hosts

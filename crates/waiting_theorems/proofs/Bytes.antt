@@ -1,7 +1,7 @@
 -- The lists say what every byte is. Assumes nothing.
 use Prim.Native.Nat.{ℕ, zero, suc, ◌+◌, ◌-◌, ◌*◌, ◌/◌, ◌%◌, ◌≤◌, ◌<◌}
 use mathlib.Core.Bool.{Bool, true, false, cond}
-use mathlib.Core.List.{List, [], ◌∷◌, ◌++◌}
+use mathlib.Core.List.{List, ◌++◌}
 use mathlib.Core.Logic.{◌⊎◌, inl, inr, ⊎_elim}
 use mathlib.Core.Path.{◌≡◌, refl, sym, ap, ◌∙◌}
 use native.Mathlib.Omega.{arith}
@@ -13,7 +13,6 @@ use Rattle.waiting.specs.Waiting.{Waiting, around, size_of, list_of, view, new_l
 use Rattle.waiting.specs.Lists.{Lists, vcpus_in, lists_from, lists_in}
 use Rattle.waiting.proofs.Ring.{around_length, around_add, size_le}
 use Rattle.waiting.proofs.Lists.{vcpus_fit}
-use Rattle.waiting_claims.specs.Claims.{Host}
 use Rattle.waiting_theorems.specs.Statements.{SameBytes, RefusedKeepsBytes}
 use Rattle.waiting_theorems.proofs.Refused.{refused_keeps_lists}
 

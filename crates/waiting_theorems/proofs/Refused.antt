@@ -4,14 +4,11 @@ use mathlib.Core.Bool.{Bool, true, false, cond, ◌&&◌}
 use mathlib.Core.List.{List, [], ◌∷◌}
 use mathlib.Core.Path.{◌≡◌, refl, sym, ap, ◌∙◌}
 use native.Mathlib.Omega.{arith}
-use lib.Dec.{leb, ltb}
 use lib.ListN.{length, get_or, set, drop}
 use lib.ListN as listN
 use lib.Seq.{set-get_or}
 use Rattle.std.proofs.Common.{Option, Some, None}
-use Rattle.types.specs.declared.PicLine.{PicLine}
 use Rattle.types.specs.declared.Refusal.TheVariants.{OutOfRange, ListFull}
-use Rattle.types.specs.declared.Reply.{Reply}
 use Rattle.types.specs.declared.Reply.TheVariants.{Refused, Nothing, One}
 use Rattle.types.specs.declared.VcpuId.{VcpuId}
 use Rattle.types.specs.declared.Vector.{Vector}
@@ -26,7 +23,7 @@ use Rattle.waiting.specs.Waiting.{Waiting, new_list, is_full, is_empty, among}
 use Rattle.waiting.specs.Lists as lists
 use Rattle.waiting.specs.Lists.{Lists, known_in, list_at, with_list, on_list, lists_in, lists_from, vcpus_in}
 use Rattle.waiting.proofs.Ring.{view_few}
-use Rattle.waiting_claims.specs.Claims.{Host, host, handed, claim_for, claim_irq_for, claim_pending_for}
+use Rattle.waiting_claims.specs.Claims.{Host, host, handed, claim_for}
 use Rattle.waiting_theorems.specs.Calls.{Call, take_in, deliver, cancel, count, peek, call_claim_irq, claim_pending_interrupt, meanwhile, outcome, finds, knows, brings, is_full_for}
 use Rattle.waiting_theorems.specs.Statements.{NumbersExactly, AtMost64, RefusedKeepsLists, UnknownKeeps, RefusedPendingRestored, RefusedIrqRestored, RefusedPendingUnchanged, RefusedIrqLatched}
 use Rattle.waiting_theorems.proofs.Steps.{on_unknown}

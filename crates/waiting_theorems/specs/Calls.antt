@@ -1,6 +1,6 @@
 -- Calls of the lists one after another, and what is counted of them: from the calls and their replies alone.
 use Rattle.vpic.specs.declared.PicInterruptClaim.{PicInterruptClaim}
-use Rattle.std.specs.Prelude.{ℕ, ◌+◌, Bool, true, false, cond, ◌&&◌, List, [], ◌∷◌, ◌++◌, ◌≡◌, eqb, leb, length, take, drop, Option, Some, None}
+use Rattle.std.specs.Prelude.{ℕ, ◌+◌, Bool, true, false, cond, List, [], ◌∷◌, ◌++◌, ◌≡◌, eqb, leb, length, take, drop, Option, Some, None}
 use Rattle.types.specs.declared.PicLine.{PicLine}
 use Rattle.types.specs.declared.Reply.{Reply}
 use Rattle.types.specs.declared.Reply.TheVariants.{Nothing}
@@ -9,7 +9,7 @@ use Rattle.types.specs.declared.Vector.{Vector}
 use Rattle.types.specs.Reply.{Outcome, outcome_of, reply_number, reply_values}
 use Rattle.vpic.specs.Words.{PicState}
 use Rattle.vpic.specs.Pair.{claim_irq, claim_pending}
-use Rattle.waiting.specs.Waiting.{Waiting, is_full, removed}
+use Rattle.waiting.specs.Waiting.{removed}
 use Rattle.waiting.specs.Lists as lists
 use Rattle.waiting.specs.Lists.{Lists, known_in, list_at}
 use Rattle.waiting_claims.specs.Claims.{Host, host, claim_irq_for, claim_pending_for}

@@ -1,8 +1,7 @@
 -- Theorems about the waiting lists that belong to no one call (document 02, T-13): nothing is lost, the oldest comes first, and one vCPU's list is no other's matter.
-use Rattle.std.specs.Prelude.{ℕ, ◌+◌, ◌≤◌, Bool, true, false, cond, ◌&&◌, List, [], ◌∷◌, ◌++◌, ◌≡◌, length, take, replicate}
+use Rattle.std.specs.Prelude.{ℕ, ◌+◌, ◌≤◌, true, cond, ◌&&◌, List, [], ◌∷◌, ◌++◌, ◌≡◌, length, take, replicate}
 use Rattle.types.specs.declared.PicLine.{PicLine}
 use Rattle.types.specs.declared.Refusal.TheVariants.{ListFull, OutOfRange}
-use Rattle.types.specs.declared.Reply.{Reply}
 use Rattle.types.specs.declared.Reply.TheVariants.{Refused, Nothing, Three}
 use Rattle.types.specs.declared.VcpuId.{VcpuId}
 use Rattle.types.specs.Reply.{reply_number}
@@ -13,7 +12,7 @@ use Rattle.vpic.specs.Departures.{open', line}
 use Rattle.vpic_theorems.specs.Statements.{BothSteady}
 use Rattle.vpic_theorems.specs.Rotation.{with_priorities}
 use Rattle.waiting.specs.Waiting.{Waiting, new_list}
-use Rattle.waiting.specs.Lists.{Lists, known_in, list_at, lists_in}
+use Rattle.waiting.specs.Lists.{known_in, list_at, lists_in}
 use Rattle.waiting_claims.specs.Claims.{Host, host, claim_irq_for, claim_pending_for}
 use Rattle.waiting_theorems.specs.Calls.{Call, call_claim_irq, claim_pending_interrupt, outcome, run, is_for, taken, delivered, cancelled, cancellations, less, waiting_for, answers_to, only, NoClaims, knows, brings, is_full_for}
 
