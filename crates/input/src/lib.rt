@@ -7,13 +7,15 @@ ghost use Rattle.io.specs.Counts.{IsPrefixLen};
 use std::io::{Read, Result};
 
 // How many bytes were read, and whether a read failed before the end.
-#[derive(Drop)]
+// Stays: what may not change: `read_all` promises how many bytes there are where a read failed too.
+#[derive(Debug, Drop)]
 pub struct Input {
     pub length: usize,
     pub ended: Result<()>,
 }
 
 // Reads until the buffer is full or the input ends.
+// Stays: the new form is no plainer: the input's end ends the loop, and no count.
 pub fn read_all<R: Read>(reader: &mut R, buf: &mut [u8]) -> Input
     ensures { IsPrefixLen result.length buf.new }
 {

@@ -4,7 +4,7 @@ use native.Mathlib.Omega.{arith}
 use mathlib.Core.List.{List, [], ◌∷◌}
 use mathlib.Core.Path.{◌≡◌, refl, sym, ap, ap₂, ◌∙◌}
 use Rattle.types.proofs.Replies.{reply_same}
-use Rattle.types.specs.Reply.{refusal_number, reply_number, reply_values, Outcome}
+use Rattle.types.specs.Reply.{reply_number, reply_values, Outcome}
 use Rattle.types.specs.declared.Refusal.TheVariants.{Unsupported, InvalidRegister, InvalidDelivery, InvalidAddress, OutOfRange, BadField, ScriptTooLong, NoPlan, ListFull, BadImage, TooShort}
 use Rattle.types.specs.declared.Reply.{Reply}
 use Rattle.types.specs.declared.Reply.TheVariants.{Refused, Nothing, One, Two, Three}

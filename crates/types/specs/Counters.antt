@@ -22,6 +22,10 @@ place_of line =
 abbrev pub line_vector : ℕ → PicLine → Vector
 line_vector base line = record { 0 = (base + line.0) % 256 }
 
+-- the line of a number as C has them: any number from 16 up is taken for line 16, which the pair hasn't
+abbrev pub line_of : ℕ → PicLine
+line_of irq = cond (nat_lt irq 16) (record { 0 = irq }) (record { 0 = 16 })
+
 -- the set of the one vCPU, and the empty set for an id that no mask can hold
 abbrev pub vcpu_mask : VcpuId → ℕ
 vcpu_mask id = cond (nat_lt id.0 64) (2 ^ id.0) 0

@@ -10,9 +10,11 @@
 
 ghost use Rattle.std.specs.Prelude.{◌≡◌, ◌<◌, ◌↔◌, IsSome, IfSome};
 ghost use Rattle.utils.specs.Set.{without};
-ghost use Rattle.types.specs.Counters.{entry_index, place_of, line_vector, vcpu_mask, apic_id, vcpu_of};
+ghost use Rattle.types.specs.Counters.{entry_index, place_of, line_vector, line_of, vcpu_mask, apic_id, vcpu_of};
 ghost use Rattle.types.specs.Reply.{refusal_number, reply_number, flag, done_reply, number_reply, pair_reply, vector_reply, option_reply, result_reply};
 ghost use Rattle.types.specs.declared.Reply.{Reply};
+
+use utils::Set;
 
 // A global system interrupt: an input of the I/O APIC.
 #[derive(Clone, Copy, Debug, PartialEq, Eq, PartialOrd, Ord, Hash)]
@@ -46,13 +48,11 @@ pub struct Place {
 
 impl Gsi {
     // The redirection entry, or 24 where the table has none.
+    // Stays: what may not change: the definition `entry_index` has the number 24; `place` answers an Option.
     pub fn entry_index(self) -> usize
         ensures { result ≡ entry_index self }
     {
-        if self.0 < 24 {
-            return self.0;
-        }
-        24
+        if self.0 < 24 { self.0 } else { 24 }
     }
 
     // The redirection entry, which has the GSI's number; none for a GSI from 24 up.
@@ -68,6 +68,18 @@ impl Gsi {
 }
 
 impl PicLine {
+    // The line of a number as C has them: any number from 16 up is line 16, which the pair hasn't.
+    // Stays: what may not change: the definition `line_of` has line 16 for all of these.
+    pub fn of_number(irq: u64) -> PicLine
+        ensures { result ≡ line_of irq }
+    {
+        if irq < 16 {
+            PicLine(irq as u8)
+        } else {
+            PicLine(16)
+        }
+    }
+
     // Where the line stands; none for a line from 16 up, which the pair hasn't.
     pub fn place(self) -> Option<PicPlace>
         ensures { result ≡ place_of self }
@@ -82,6 +94,7 @@ impl PicLine {
     }
 
     // The vector that a chip with this base gives the line.
+    // Stays: the new form is no plainer: no conversion, but a sum that wraps, with a base.
     pub fn vector(self, base: u8) -> Vector
         ensures { result ≡ line_vector base self }
     {
@@ -94,10 +107,7 @@ impl VcpuId {
     pub fn mask(self) -> u64
         ensures { result ≡ vcpu_mask self }
     {
-        if self.0 < 64 {
-            return 1 << self.0;
-        }
-        0
+        if self.0 < 64 { 1 << self.0 } else { 0 }
     }
 
     // A set of vCPUs without this one.
@@ -105,7 +115,7 @@ impl VcpuId {
         ensures { result ≡ without set self.0 }
     {
         if self.0 < 64 {
-            return utils::set64::without(set, self.0 as u64);
+            return set.without(self.0 as u32);
         }
         set
     }
@@ -173,6 +183,8 @@ impl From<Refusal> for u8 {
 }
 
 impl Refusal {
+    // As `u8::from`.
+    // Stays: what may not change: a public function, whose clause and name the crates above and docs/ cite.
     pub fn number(self) -> u8
         ensures { result ≡ refusal_number self }
     {
@@ -191,6 +203,8 @@ pub enum Reply {
 }
 
 impl Reply {
+    // 0 for a call that is done, or the refusal's number.
+    // Stays: the new form is no plainer: it leaves the values out, which a From would hide.
     pub fn number(self) -> u8
         ensures { result ≡ reply_number self }
     {
@@ -202,6 +216,7 @@ impl Reply {
 }
 
 // A flag as a value of a reply.
+// Stays: what may not change: a public function, whose clause and name the crates above cite.
 pub fn flag(up: bool) -> u64
     ensures { result ≡ flag up }
 {
@@ -236,6 +251,7 @@ impl ToReply for u32 {
     ghost reply_of = { number_reply };
 
     fn reply(self) -> Reply {
+        // Stays: the new form is no plainer: a trait of widths for two lines.
         u64::from(self).reply()
     }
 }

@@ -1,5 +1,6 @@
 // The first line of a set after the lowest line, going round, or 8 where the set is empty: entry 256 * lowest + set. `tools/priority-table` writes this file.
 
+// Stays: what may not change: the form that is asked for is a constant table, with one computed test (docs/DECISIONS.md).
 pub const FIRST_LINE: [u8; 2048] = [
     8, 0, 1, 1, 2, 2, 1, 1, 3, 3, 1, 1, 2, 2, 1, 1, 4, 4, 1, 1, 2, 2, 1, 1, 3, 3, 1, 1, 2, 2, 1, 1,
     5, 5, 1, 1, 2, 2, 1, 1, 3, 3, 1, 1, 2, 2, 1, 1, 4, 4, 1, 1, 2, 2, 1, 1, 3, 3, 1, 1, 2, 2, 1, 1,

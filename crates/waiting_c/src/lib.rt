@@ -7,20 +7,10 @@ ghost use Rattle.std.specs.Prelude.{◌≡◌};
 ghost use Rattle.vpic.specs.Words.{view};
 ghost use Rattle.waiting.specs.Lists.{lists_in, new, deliver, count, peek};
 ghost use Rattle.waiting_claims.specs.Claims.{host, claim_irq_for, claim_pending_for};
-ghost use Rattle.waiting_c.specs.Calls.{shown, coded, vcpu, line_of, take_number, cancel_number};
+ghost use Rattle.waiting_c.specs.Calls.{shown, coded, vcpu, take_number, cancel_number};
 
 use reply_code::code;
 use types::{PicLine, Refusal, Reply, ToReply, VcpuId, Vector};
-
-// A line: any number from 16 up is one that the pair hasn't.
-fn line(irq: u64) -> PicLine
-    ensures { result ≡ line_of irq }
-{
-    if irq < 16 {
-        return PicLine(irq as u8);
-    }
-    PicLine(16)
-}
 
 #[unsafe(no_mangle)]
 pub extern "C" fn sillwander_waiting_new(lists: &mut [u8], vcpu_id: usize) -> u64
@@ -79,7 +69,7 @@ pub extern "C" fn sillwander_waiting_claim_irq(
 ) -> u64
     ensures { shown (host (lists_in lists.new) (view pic.new)) result ≡ coded (claim_irq_for (host (lists_in lists.old) (view pic.old)) (vcpu vcpu_id) (record { 0 = irq })) }
 {
-    code(waiting_claims::claim_irq(lists, pic, VcpuId(vcpu_id), line(irq)).reply())
+    code(waiting_claims::claim_irq(lists, pic, VcpuId(vcpu_id), PicLine::of_number(irq)).reply())
 }
 
 #[unsafe(no_mangle)]
