@@ -23,7 +23,7 @@ fn main(rt: HostRuntime) -> io::Result<()> {
     }
     let mut out = io::writer(&rt);
     let written = if text.len() > 65_535 {
-        out.write_all(b"plan: the text is longer than 65,535 bytes\n")
+        writeln!(out, "plan: the text is longer than 65,535 bytes")
     } else {
         run(&mut out, rt.alloc(), &text)
     };
@@ -37,11 +37,8 @@ fn main(rt: HostRuntime) -> io::Result<()> {
 
 fn run<W: Write>(out: &mut W, alloc: Global, text: &[u8]) -> io::Result<()> {
     match Setup::read(alloc, text) {
-        Ok(setup) => {
-            let ranges = setup.ranges(alloc)?;
-            setup.answer(out, &ranges)
-        }
-        Err(Trouble::Row(row, why)) => writeln!(out, "row {row}: {why}"),
+        Ok(setup) => setup.answer(out, alloc),
+        Err(Trouble::Row(bad)) => writeln!(out, "{bad}"),
         Err(Trouble::Memory(error)) => Err(error.into()),
     }
 }
@@ -49,44 +46,42 @@ fn run<W: Write>(out: &mut W, alloc: Global, text: &[u8]) -> io::Result<()> {
 // ---- writing: the first write that fails ends it
 
 impl<'a> Setup<'a> {
-    fn answer<W: Write>(&self, out: &mut W, ranges: &[u16]) -> io::Result<()> {
-        let mut plan = [0u8; 24];
-        match planner::plan(ranges, &self.taken, &mut plan) {
-            Ok(()) => self.entries(out, &plan),
-            Err(why) => self.refused(out, ranges, why),
+    fn answer<W: Write>(&self, out: &mut W, alloc: Global) -> io::Result<()> {
+        let ranges = self.ranges(alloc)?;
+        let mut plan = vec![in alloc; 0u8; self.lines.len()]?;
+        match planner::plan(&ranges, &self.taken, &mut plan) {
+            Ok(()) => {
+                for (line, vector) in self.lines.iter().zip(&plan) {
+                    line.entry(out, Vector(*vector))?;
+                }
+                Ok(())
+            }
+            Err(why) => self.explain(out, &ranges, why),
         }
     }
 
-    // One entry a line.
-    fn entries<W: Write>(&self, out: &mut W, plan: &[u8]) -> io::Result<()> {
-        for (line, vector) in self.lines.iter().zip(plan) {
-            line.entry(out, Vector(*vector))?;
-        }
-        Ok(())
-    }
-
-    fn refused<W: Write>(&self, out: &mut W, ranges: &[u16], why: Refusal) -> io::Result<()> {
+    // Why there is no plan.
+    fn explain<W: Write>(&self, out: &mut W, ranges: &[u16], why: Refusal) -> io::Result<()> {
         match why {
-            Refusal::OutOfRange => out.write_all(b"refused, 5: more than 24 lines\n"),
+            Refusal::OutOfRange => writeln!(out, "refused, 5: more than 24 lines"),
             Refusal::InvalidRegister => {
-                out.write_all(b"refused, 2: the lowest vector is above the highest for:\n")?;
-                self.unordered(out)
+                writeln!(
+                    out,
+                    "refused, 2: the lowest vector is above the highest for:"
+                )?;
+                for line in &self.lines {
+                    if planner::highest(line.range).0 < planner::lowest(line.range).0 {
+                        line.name(out)?;
+                    }
+                }
+                Ok(())
             }
             Refusal::NoPlan => {
-                out.write_all(b"refused, 8: there is no plan.\n")?;
+                writeln!(out, "refused, 8: there is no plan.")?;
                 self.shortage(out, ranges)
             }
-            _ => out.write_all(b"refused\n"),
+            _ => writeln!(out, "refused"),
         }
-    }
-
-    fn unordered<W: Write>(&self, out: &mut W) -> io::Result<()> {
-        for line in &self.lines {
-            if planner::highest(line.range).0 < planner::lowest(line.range).0 {
-                line.name(out)?;
-            }
-        }
-        Ok(())
     }
 
     fn shortage<W: Write>(&self, out: &mut W, ranges: &[u16]) -> io::Result<()> {
@@ -110,8 +105,8 @@ impl<'a> Setup<'a> {
     }
 }
 
-// A name is written byte by byte, as it was read: it needn't be text.
 impl<'a> Line<'a> {
+    // Stays: what may not change (a name is written byte by byte as it was read, and `Display` writes text alone).
     fn entry<W: Write>(&self, out: &mut W, vector: Vector) -> io::Result<()> {
         let input = self.input;
         let register = 16 + 2 * u32::from(input);
@@ -121,12 +116,12 @@ impl<'a> Line<'a> {
             "entry {input}, register 0x{register:02x}: vector 0x{number:02x}    "
         )?;
         out.write_all(self.name)?;
-        out.write_all(b"\n")
+        writeln!(out)
     }
 
     fn name<W: Write>(&self, out: &mut W) -> io::Result<()> {
-        out.write_all(b"  ")?;
+        write!(out, "  ")?;
         out.write_all(self.name)?;
-        out.write_all(b"\n")
+        writeln!(out)
     }
 }

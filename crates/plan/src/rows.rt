@@ -4,6 +4,7 @@ ghost use Rattle.std.specs.Prelude.{◌≤◌};
 
 use std::alloc::{AllocError, Global};
 use std::fmt;
+use std::num::TryFromIntError;
 use types::Vector;
 use utils::Set;
 
@@ -35,35 +36,45 @@ impl fmt::Display for Fault {
     }
 }
 
-// A row that is none, by its number from 1, or no memory.
+// A number that doesn't fit a byte.
+impl From<TryFromIntError> for Fault {
+    fn from(_error: TryFromIntError) -> Fault {
+        Fault::LargeNumber
+    }
+}
+
+// A row that is none, by its number from 1.
+#[derive(Clone, Copy, Debug, PartialEq, Eq, Hash)]
+pub struct BadRow {
+    pub number: usize,
+    pub fault: Fault,
+}
+
+impl fmt::Display for BadRow {
+    fn fmt<W: fmt::Write>(&self, f: &mut fmt::Formatter<W>) -> fmt::Result {
+        let number = self.number;
+        let fault = self.fault;
+        write!(f, "row {number}: {fault}")
+    }
+}
+
+// Why a text has no lines to plan.
 #[derive(Debug, Drop)]
 pub enum Trouble {
-    Row(usize, Fault),
+    Row(BadRow),
     Memory(AllocError),
 }
 
-// ---- rows
-
-// A line to plan for: its name, its range, and its input of the I/O APIC.
-#[derive(Clone, Copy, Debug)]
-pub struct Line<'a> {
-    pub name: &'a [u8],
-    pub range: u16,
-    pub input: u8,
+impl From<AllocError> for Trouble {
+    fn from(error: AllocError) -> Trouble {
+        Trouble::Memory(error)
+    }
 }
 
-enum Row<'a> {
-    Blank,
-    Line(Line<'a>),
-    Taken(Vector, Vector),
-}
+// ---- numbers
 
-fn is_blank(byte: u8) -> bool {
-    matches!(byte, b'\t' | b'\r' | b' ')
-}
-
-// A number, or the largest there is for one above it.
-fn digits(word: &[u8], base: u32) -> Option<u64>
+// The number that the digits of a word say, up to the largest of 64 bits.
+fn parse_digits(word: &[u8], base: u32) -> Option<u64>
     requires { (2 ≤ base) × (base ≤ 36) }
 {
     let mut number = 0u64;
@@ -77,129 +88,148 @@ fn digits(word: &[u8], base: u32) -> Option<u64>
 }
 
 // Decimal, or hexadecimal behind 0x.
-fn number(word: &[u8]) -> Result<u64, Fault> {
+fn parse_number(word: &[u8]) -> Result<u64, Fault> {
     match word.strip_prefix(b"0x".as_slice()) {
-        Some(hex) if !hex.is_empty() => digits(hex, 16),
-        _ => digits(word, 10),
+        Some(hex) if !hex.is_empty() => parse_digits(hex, 16),
+        _ => parse_digits(word, 10),
     }
     .ok_or(Fault::NoNumber)
 }
 
-fn byte(number: u64) -> Result<u8, Fault> {
-    u8::try_from(number).map_err(|_| Fault::LargeNumber)
+// ---- rows
+
+// A line to plan for: its name, its range, and its input of the I/O APIC.
+#[derive(Clone, Copy, Debug, PartialEq, Eq, Hash)]
+pub struct Line<'a> {
+    pub name: &'a [u8],
+    pub range: u16,
+    pub input: u8,
 }
 
-// The line, if the row is one, is the one at `place` among the lines.
-fn read_row<'a>(row: &'a [u8], place: usize) -> Result<Row<'a>, Fault> {
-    let mut parts = row.split(|byte| *byte == b'#');
-    let Some(said) = parts.next() else {
-        return Ok(Row::Blank);
-    };
-    let mut words = said
-        .split(|byte| is_blank(*byte))
-        .filter(|word| !word.is_empty());
-    let Some(name) = words.next() else {
-        return Ok(Row::Blank);
-    };
-    let (Some(lowest), Some(highest)) = (words.next(), words.next()) else {
-        return Err(Fault::FewWords);
-    };
-    let input = words.next();
-    if words.next().is_some() {
-        return Err(Fault::ManyWords);
-    }
-    if name == b"taken".as_slice() {
-        if input.is_some() {
-            return Err(Fault::ManyWords);
-        }
-        return taken_row(number(lowest)?, number(highest)?);
-    }
-    let input = match input {
-        Some(word) => Some(number(word)?),
-        None => None,
-    };
-    line_row(name, number(lowest)?, number(highest)?, input, place)
+#[derive(Clone, Copy, Debug, PartialEq, Eq, Hash)]
+enum Row<'a> {
+    Blank,
+    Line(Line<'a>),
+    Taken(Vector, Vector),
+}
+
+fn is_blank(byte: u8) -> bool {
+    matches!(byte, b'\t' | b'\r' | b' ')
 }
 
 fn taken_row<'a>(lowest: u64, highest: u64) -> Result<Row<'a>, Fault> {
-    let lowest = byte(lowest)?;
-    let highest = byte(highest)?;
+    let lowest = u8::try_from(lowest)?;
+    let highest = u8::try_from(highest)?;
     if lowest > highest {
         return Err(Fault::Inverted);
     }
     Ok(Row::Taken(Vector(lowest), Vector(highest)))
 }
 
-// Inputs are looked at while there are no more lines than inputs: else a text with more lines would fail by its inputs, and never by that.
-fn line_row<'a>(
-    name: &'a [u8],
-    lowest: u64,
-    highest: u64,
-    input: Option<u64>,
-    place: usize,
-) -> Result<Row<'a>, Fault> {
-    let range = planner::range(Vector(byte(lowest)?), Vector(byte(highest)?));
-    let input = match input {
-        Some(number) => byte(number)?,
-        None => place.min(255) as u8,
-    };
-    if place < 24 && input > 23 {
-        return Err(Fault::LargeInput);
-    }
-    Ok(Row::Line(Line { name, range, input }))
-}
-
 // ---- all rows: the lines, and the vectors that are taken
 
-#[derive(Debug, Drop)]
+// Stays: the C interface (the planner's calls take the vectors taken as four words).
+#[derive(Debug, Drop, PartialEq, Eq)]
 pub struct Setup<'a> {
     pub lines: Vec<Line<'a>>,
     pub taken: [u64; 4],
 }
 
 impl<'a> Setup<'a> {
+    // Stays: the C interface, as above.
     pub fn read(alloc: Global, text: &'a [u8]) -> Result<Setup<'a>, Trouble> {
         let mut setup = Setup {
             lines: Vec::new(alloc),
             taken: [0; 4],
         };
-        let mut count = 0usize;
+        let mut number = 0usize;
         for row in text.split(|byte| *byte == b'\n') {
-            count = count.saturating_add(1);
-            match read_row(row, setup.lines.len()) {
-                Ok(row) => setup.add(row, count)?,
-                Err(why) => return Err(Trouble::Row(count, why)),
-            }
+            number = number.saturating_add(1);
+            let read = match setup.read_row(row) {
+                Ok(read) => read,
+                Err(fault) => return Err(Trouble::Row(BadRow { number, fault })),
+            };
+            setup.add(read)?;
         }
         Ok(setup)
     }
 
-    fn add(&mut self, row: Row<'a>, count: usize) -> Result<(), Trouble> {
-        match row {
-            Row::Blank => Ok(()),
-            Row::Taken(lowest, highest) => {
-                self.take(lowest, highest);
-                Ok(())
+    fn read_row(&self, row: &'a [u8]) -> Result<Row<'a>, Fault> {
+        let mut parts = row.split(|byte| *byte == b'#');
+        let Some(said) = parts.next() else {
+            return Ok(Row::Blank);
+        };
+        let mut words = said
+            .split(|byte| is_blank(*byte))
+            .filter(|word| !word.is_empty());
+        let Some(name) = words.next() else {
+            return Ok(Row::Blank);
+        };
+        let (Some(lowest), Some(highest)) = (words.next(), words.next()) else {
+            return Err(Fault::FewWords);
+        };
+        let input = words.next();
+        if words.next().is_some() {
+            return Err(Fault::ManyWords);
+        }
+        if name == b"taken".as_slice() {
+            if input.is_some() {
+                return Err(Fault::ManyWords);
             }
-            Row::Line(line) => {
-                let lines = &mut self.lines;
-                if lines.len() < 24 && lines.iter().any(|other| other.input == line.input) {
-                    return Err(Trouble::Row(count, Fault::SameInput));
-                }
-                match lines.push(line) {
-                    Ok(()) => Ok(()),
-                    Err(failed) => Err(Trouble::Memory(failed.into())),
-                }
+            return taken_row(parse_number(lowest)?, parse_number(highest)?);
+        }
+        let lowest = parse_number(lowest)?;
+        let highest = parse_number(highest)?;
+        match input {
+            Some(word) => {
+                let input = parse_number(word)?;
+                self.line_row(name, lowest, highest, Some(input))
             }
+            None => self.line_row(name, lowest, highest, None),
         }
     }
 
-    // All vectors of a range.
-    fn take(&mut self, lowest: Vector, highest: Vector) {
-        for vector in lowest.0..=highest.0 {
-            let word = usize::from(vector) / 64;
-            self.taken[word] = self.taken[word].with(u32::from(vector) % 64);
+    // A line's input is its place among the lines where its row has none. Inputs are looked at while there are no more lines than inputs: else a text with more
+    // lines would fail by its inputs, and never by that.
+    fn line_row(
+        &self,
+        name: &'a [u8],
+        lowest: u64,
+        highest: u64,
+        input: Option<u64>,
+    ) -> Result<Row<'a>, Fault> {
+        let range = planner::range(
+            Vector(u8::try_from(lowest)?),
+            Vector(u8::try_from(highest)?),
+        );
+        let place = self.lines.len();
+        let input = match input {
+            Some(number) => u8::try_from(number)?,
+            None => place.min(255) as u8,
+        };
+        if place < 24 {
+            if input > 23 {
+                return Err(Fault::LargeInput);
+            }
+            if self.lines.iter().any(|other| other.input == input) {
+                return Err(Fault::SameInput);
+            }
         }
+        Ok(Row::Line(Line { name, range, input }))
+    }
+
+    fn add(&mut self, row: Row<'a>) -> Result<(), AllocError> {
+        match row {
+            Row::Blank => {}
+            Row::Line(line) => self.lines.push(line)?,
+            Row::Taken(lowest, highest) => {
+                for vector in lowest.0..=highest.0 {
+                    let word = usize::from(vector) / 64;
+                    self.taken[word] = self.taken[word].with(u32::from(vector) % 64);
+                }
+            }
+        }
+        Ok(())
     }
 
     // The lines' ranges, as the planner takes them.

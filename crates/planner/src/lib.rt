@@ -87,7 +87,7 @@ fn waits(range: u16, given: u8, vector: u8) -> bool
 }
 
 // Lines to plan, no more than an I/O APIC has inputs, each by its range; and the vectors that are taken.
-#[derive(Clone, Copy, Debug)]
+#[derive(Clone, Copy, Debug, PartialEq, Eq, Hash)]
 struct Lines<'a> {
     ranges: &'a [u16],
     taken: &'a [u64; 4],
