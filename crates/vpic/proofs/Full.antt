@@ -20,10 +20,11 @@ use Rattle.vpic_chip.specs.Registers.{Chip, chip_in, full_in, placed}
 use Rattle.types.specs.Reply.{Outcome}
 use Rattle.vpic_chip.specs.Chip.{asks, driven, acknowledged, is_polled, polled, command_read}
 use Rattle.vpic.specs.declared.PicInterruptClaim.{PicInterruptClaim}
+use Rattle.vpic.specs.declared.PicPort.{PicPort}
 use Rattle.vpic.specs.Words.{PicState, is_full, plain_view, full_view, view}
-use Rattle.vpic.specs.Pair.{is_cascade, chips, settled, latched_at, latched, StateClaim, state_claim, master_claim, slave_claim, pending_place, claim_at, claim_pending, claim_irq, restored_at, restored, restore_interrupt, Port, master_command, master_data, slave_command, slave_data, no_port, port_at, is_there, written_to, Written, written_at, is_port, master_read, slave_read, left_after, port_read, port_left, port_written, value_reply, handle_read, handle_write, claim_vector, with_claim, with_vector, claim_outcome, vector_outcome, done_outcome, value_outcome}
-use Rattle.vpic.specs.Claim.{claim_in, claim_number, numbered, with_number, master_taken, slave_taken, is_quiet, port_outcome, byte_shown, plain_shown}
-use Rattle.vpic.proofs.Laws.{settle_off, settle_on, claim_known, irq_reply, irq_vector, pending_vector, quiet, unasked, restore_way, restore_done, write_not, write_settled, write_out, write_done, read_master_command, read_master_data, read_slave_command, read_slave_data}
+use Rattle.vpic.specs.Pair.{is_cascade, chips, settled, latched_at, latched, StateClaim, state_claim, master_claim, slave_claim, pending_place, claim_at, claim_pending, claim_irq, restored_at, restored, restore_interrupt, Port, master_command, master_data, slave_command, slave_data, no_port, port_at, is_there, written_to, written_at, is_port, master_read, slave_read, left_after, port_read, port_left, port_written, value_reply, handle_read, handle_write, claim_vector, with_claim, with_vector, claim_outcome, vector_outcome, done_outcome, value_outcome, at_port, port_found, read_from}
+use Rattle.vpic.specs.Claim.{claim_in, claim_number, numbered, with_number, master_taken, slave_taken, is_quiet, outcome_at, byte_shown, plain_shown}
+use Rattle.vpic.proofs.Laws.{settle_off, settle_on, claim_known, irq_reply, irq_vector, pending_vector, quiet, unasked, restore_way, restore_done, write_settled, write_out, write_done, read_master_command, read_master_data, read_slave_command, read_slave_data, port_there, port_missing}
 
 -- ---- the full road
 
@@ -236,30 +237,17 @@ module _ (l m : List ℕ) (b : Bool) (c : PicInterruptClaim) (o : Option PicPlac
       restore_full n (e ∙ ap (λ (y : Option PicPlace). settled (restored_at (full_view l) y c.master_in_service c.slave_in_service)) (low ∙ sym eo ∙ ex))
 
 -- a port written, by either road
-module _ (l m : List ℕ) (port width value : ℕ) (b w : Bool) (h : width ≡ 1) (eb : b ≡ is_full (view l).rule) where
-  pub write_plain_out : b ≡ false → Written (plain_view l) (plain_view m) port (value % 256) w → not w ≡ true → done_outcome (view m) (Err Unsupported) ≡ handle_write (view l) port width value
-  write_plain_out n e u =
-      write_out (view l) (view m) port width value w h e.known (not-true w u)
-      (by_plain l m (λ p. p) (λ p. refl) (sym eb ∙ n) (write_not (plain_view l) (plain_view m) port (value % 256) w e u))
+module _ (l m : List ℕ) (port width value byte : ℕ) (b : Bool) (x : Result PicPort Refusal) (a : PicPort) (h : width ≡ 1) (eb : b ≡ is_full (view l).rule) (ex : x ≡ port_found port) (ea : x ≡ Ok a)
+    (ey : byte ≡ value % 256) where
+  pub write_plain : (q : PicState) → b ≡ false → q ≡ written_to (plain_view l) (at_port a) byte → plain_view m ≡ settled q → done_outcome (view m) (Ok tt) ≡ handle_write (view l) port width value
+  write_plain q n e em =
+      write_done port x ex (view l) width value byte a h ea ey (view m)
+      (by_plain l m (λ p. port_written p port (value % 256)) (written_rule port (value % 256)) (sym eb ∙ n) (write_settled port x ex (plain_view l) width value byte a h ea ey (plain_view m) (em ∙ ap settled e)))
 
-  pub write_plain : (q : PicState) → b ≡ false → Written (plain_view l) q port (value % 256) w → not w ≡ false → plain_view m ≡ settled q → done_outcome (view m) (Ok tt) ≡ handle_write (view l) port width value
-  write_plain q n e u em =
-      write_done (view l) (view m) port width value w h e.known (not-false w u)
-      (by_plain l m (λ p. port_written p port (value % 256)) (written_rule port (value % 256)) (sym eb ∙ n) (write_settled (plain_view l) q port (value % 256) w e (plain_view m) em))
-
--- a port written by the full road
-module _ (l m : List ℕ) (port width value : ℕ) (b w : Bool) (h : width ≡ 1) (eb : b ≡ is_full (view l).rule) (n : b ≡ true) (known : w ≡ is_port port) where
-  pub write_full : not w ≡ false → full_view m ≡ port_written (full_view l) port (value % 256) → done_outcome (view m) (Ok tt) ≡ handle_write (view l) port width value
-  write_full u e =
-      write_done (view l) (view m) port width value w h known (not-false w u)
-      (by_full l m (λ p. port_written p port (value % 256)) (written_rule port (value % 256)) (sym eb ∙ n) e)
-
-  -- the value is cut to a byte in any case
-  pub write_cut : (cut : ℕ) → not w ≡ false → cut ≡ value % 256 → full_view m ≡ port_written (full_view l) port (cut % 256) → done_outcome (view m) (Ok tt) ≡ handle_write (view l) port width value
-  write_cut cut u ec e = let same : cut % 256 ≡ value % 256 = omega arith in write_full u (e ∙ ap (port_written (full_view l) port) same)
-
-pub write_unknown : (p : PicState) (port width value : ℕ) (w : Bool) → width ≡ 1 → w ≡ is_port port → not w ≡ true → done_outcome p (Err Unsupported) ≡ handle_write p port width value
-write_unknown p port width value w h known u = write_out p p port width value w h known (not-true w u) refl
+  pub write_full : b ≡ true → full_view m ≡ settled (written_to (full_view l) (at_port a) byte) → done_outcome (view m) (Ok tt) ≡ handle_write (view l) port width value
+  write_full n e =
+      write_done port x ex (view l) width value byte a h ea ey (view m)
+      (by_full l m (λ p. port_written p port (value % 256)) (written_rule port (value % 256)) (sym eb ∙ n) (write_settled port x ex (full_view l) width value byte a h ea ey (full_view m) e))
 
 -- a port read, by either road
 left_rule : (port : ℕ) (p : PicState) → (port_left p port).rule ≡ p.rule
@@ -291,45 +279,41 @@ plain_left l port = go (port_at port)
     go slave_data = refl
     go no_port = refl
 
-module _ (l : List ℕ) (port width : ℕ) (b : Bool) (v : Result ℕ Refusal) (w : width ≡ 1) (eb : b ≡ is_full (view l).rule) where
-  pub read_plain : b ≡ false → v ≡ port_read (plain_view l) port → value_outcome (view l) v ≡ handle_read (view l) port width
-  read_plain n e =
+module _ (l : List ℕ) (port width : ℕ) (b : Bool) (w : width ≡ 1) (eb : b ≡ is_full (view l).rule) where
+  by_port : (v : Result ℕ Refusal) → b ≡ false → v ≡ port_read (plain_view l) port → value_outcome (view l) v ≡ handle_read (view l) port width
+  by_port v n e =
       let q : view l ≡ plain_view l = view_plain l (sym eb ∙ n) in
       rw w (ap₂ value_outcome (q ∙ sym (plain_left l port) ∙ ap (λ (p : PicState). port_left p port) (sym q)) (e ∙ ap (λ (p : PicState). port_read p port) (sym q)))
 
-  pub read_full : (m : List ℕ) → b ≡ true → value_outcome (full_view m) v ≡ port_outcome (full_view l) port → value_outcome (view m) v ≡ handle_read (view l) port width
-  read_full m n e =
-      let f : is_full (view l).rule ≡ true = sym eb ∙ n in
-      let s : view m ≡ port_left (view l) port = by_full l m (λ p. port_left p port) (left_rule port) f (ap (λ (o : Outcome PicState). o.state) e) in
-      let r : value_reply v ≡ value_reply (port_read (view l) port) = ap (λ (o : Outcome PicState). o.reply) e ∙ ap (λ (p : PicState). value_reply (port_read p port)) (sym (view_full l f)) in
-      rw w (λ i. record { state = s i; reply = r i })
+  module _ (x : Result PicPort Refusal) (a : PicPort) (n : ℕ) (ex : x ≡ port_found port) (ea : x ≡ Ok a) where
+    pub read_plain : b ≡ false → Ok n ≡ read_from (plain_view l) (at_port a) → value_outcome (view l) (Ok n) ≡ handle_read (view l) port width
+    unfolding port_read
+    read_plain f e = by_port (Ok n) f (e ∙ ap (read_from (plain_view l)) (sym (port_there port x ex a ea)))
+
+    pub read_full : (m : List ℕ) → b ≡ true → value_outcome (full_view m) (Ok n) ≡ outcome_at (full_view l) (at_port a) → value_outcome (view m) (Ok n) ≡ handle_read (view l) port width
+    unfolding port_left port_read
+    read_full m t e' =
+        let e : value_outcome (full_view m) (Ok n) ≡ outcome_at (full_view l) (port_at port) = e' ∙ ap (outcome_at (full_view l)) (sym (port_there port x ex a ea)) in
+        let f : is_full (view l).rule ≡ true = sym eb ∙ t in
+        let s : view m ≡ port_left (view l) port = by_full l m (λ p. port_left p port) (left_rule port) f (ap (λ (o : Outcome PicState). o.state) e) in
+        let r : value_reply (Ok n) ≡ value_reply (port_read (view l) port) = ap (λ (o : Outcome PicState). o.reply) e ∙ ap (λ (p : PicState). value_reply (port_read p port)) (sym (view_full l f)) in
+        rw w (λ i. record { state = s i; reply = r i })
 
 -- what a read shows where that is all that it does
 module _ (l : List ℕ) (port : ℕ) (b : Bool) (eb : b ≡ is_full (view l).rule) where
   pub shown_full : b ≡ true → None ≡ plain_shown (view l) port
   shown_full t = ap (λ (x : Bool). cond x None (byte_shown (port_read (view l) port))) (sym t ∙ eb)
 
-  pub shown_plain : (n : ℕ) → b ≡ false → Ok n ≡ port_read (plain_view l) port → Some n ≡ plain_shown (view l) port
-  shown_plain n f e =
+  pub shown_plain : (n : ℕ) (x : Result PicPort Refusal) (a : PicPort) → b ≡ false → x ≡ port_found port → x ≡ Ok a → Ok n ≡ read_from (plain_view l) (at_port a) → Some n ≡ plain_shown (view l) port
+  unfolding port_read
+  shown_plain n x a f ex ea e =
       let z : is_full (view l).rule ≡ false = sym eb ∙ f in
-      ap byte_shown e ∙ ap (λ (p : PicState). byte_shown (port_read p port)) (sym (view_plain l z)) ∙ ap (λ (x : Bool). cond x None (byte_shown (port_read (view l) port))) (sym z)
+      ap byte_shown (e ∙ ap (read_from (plain_view l)) (sym (port_there port x ex a ea))) ∙ ap (λ (p : PicState). byte_shown (port_read p port)) (sym (view_plain l z))
+      ∙ ap (λ (x : Bool). cond x None (byte_shown (port_read (view l) port))) (sym z)
 
-module _ (l : List ℕ) (port n : ℕ) (b : Bool) (eb : b ≡ is_full (view l).rule) (f : b ≡ false) (m : Chip) (k : m.full ≡ false) where
-  pub shown_master_command : port ≡ 0x20 → m ≡ (plain_view l).master → n ≡ command_read m → Some n ≡ plain_shown (view l) port
-  shown_master_command h em en = shown_plain l port b eb n f (read_master_command (plain_view l) port n m k h em en)
-
-  pub shown_master_data : port ≡ 0x21 → m ≡ (plain_view l).master → n ≡ m.mask → Some n ≡ plain_shown (view l) port
-  shown_master_data h em en = shown_plain l port b eb n f (read_master_data (plain_view l) port n m k h em en)
-
-  pub shown_slave_command : port ≡ 0xa0 → m ≡ (plain_view l).slave → n ≡ command_read m → Some n ≡ plain_shown (view l) port
-  shown_slave_command h em en = shown_plain l port b eb n f (read_slave_command (plain_view l) port n m k h em en)
-
-  pub shown_slave_data : port ≡ 0xa1 → m ≡ (plain_view l).slave → n ≡ m.mask → Some n ≡ plain_shown (view l) port
-  shown_slave_data h em en = shown_plain l port b eb n f (read_slave_data (plain_view l) port n m k h em en)
-
-pub shown_nowhere : (p : PicState) (port : ℕ) → (port ≡ 0x20 → ⊥) → (port ≡ 0x21 → ⊥) → (port ≡ 0xa0 → ⊥) → (port ≡ 0xa1 → ⊥) → None ≡ plain_shown p port
+pub shown_nowhere : (p : PicState) (port : ℕ) (x : Result PicPort Refusal) (why : Refusal) → x ≡ port_found port → x ≡ Err why → None ≡ plain_shown p port
 unfolding port_read
-shown_nowhere p port h i j k = rw (ne_eqb port 0x20 h, ne_eqb port 0x21 i, ne_eqb port 0xa0 j, ne_eqb port 0xa1 k) (both (λ (o : Option ℕ). None ≡ o) (is_full p.rule) _ _ refl refl)
+shown_nowhere p port x why ex h = rw ((port_missing port x ex why h).0) (both (λ (o : Option ℕ). None ≡ o) (is_full p.rule) _ _ refl refl)
 
 -- where it shows a byte, the read is that
 pub shown_read : (l : List ℕ) (port n : ℕ) (o : Option ℕ) → o ≡ plain_shown (view l) port → o ≡ Some n → value_outcome (view l) (Ok n) ≡ handle_read (view l) port 1
@@ -342,21 +326,4 @@ shown_read l port n o e h = go (is_full (view l).rule) refl (sym h ∙ e)
     go : (b : Bool) → is_full (view l).rule ≡ b → Some n ≡ cond b None (byte_shown (port_read (view l) port)) → value_outcome (view l) (Ok n) ≡ handle_read (view l) port 1
     go true f q = let z : ◌≡◌ {A = ℕ} 0 1 = cc in absurd (omega (arith, z))
     go false f q =
-        read_plain l port 1 false (Ok n) refl (sym f) refl (value (port_read (view l) port) q ∙ ap (λ (p : PicState). port_read p port) (view_plain l f))
-
--- the pair's four ports
-pub port_one : (port : ℕ) → port ≡ 0x20 → true ≡ is_port port
-port_one port h = rw h
-
-pub port_two : (port : ℕ) → port ≡ 0x21 → true ≡ is_port port
-port_two port h = rw h
-
-pub port_three : (port : ℕ) → port ≡ 0xa0 → true ≡ is_port port
-port_three port h = rw h
-
-pub port_four : (port : ℕ) → (port ≡ 0x20 → ⊥) → (port ≡ 0x21 → ⊥) → (port ≡ 0xa0 → ⊥) → eqb port 0xa1 ≡ is_port port
-port_four port a b c = rw (ne_eqb port 0x20 a, ne_eqb port 0x21 b, ne_eqb port 0xa0 c) (go (eqb port 0xa1))
-  where
-    go : (d : Bool) → d ≡ is_there (cond d slave_data no_port)
-    go true = refl
-    go false = refl
+        by_port l port 1 false refl (sym f) (Ok n) refl (value (port_read (view l) port) q ∙ ap (λ (p : PicState). port_read p port) (view_plain l f))

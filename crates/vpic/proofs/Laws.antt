@@ -1,5 +1,5 @@
 -- A law for each way out of the pair's functions, in views alone: p is the pair before, and each later one is said from the last. Assumes nothing.
-use Rattle.std.proofs.Common.{Option, Some, None, Ok, Err}
+use Rattle.std.proofs.Common.{Option, Some, None, Result, Ok, Err}
 use mathlib.Core.Path.{◌≡◌, refl, sym, ap, ap₂, ◌∙◌}
 use mathlib.Core.Bool.{Bool, true, false, not, cond, ◌&&◌}
 use mathlib.Core.List.{List, [], ◌∷◌}
@@ -29,9 +29,12 @@ use Rattle.vpic_chip.proofs.Laws.{asks_none, counted_idle, vector_reply_same}
 use Rattle.vpic.specs.declared.PicRule.{PicRule}
 use Rattle.vpic.specs.declared.PicRule.TheVariants.{Latch, Cascade, Full}
 use Rattle.vpic.specs.declared.PicInterruptClaim.{PicInterruptClaim}
+use Rattle.vpic.specs.declared.PicPort.{PicPort}
+use Rattle.vpic.specs.declared.PicPort.TheVariants.{MasterCommand, MasterData, SlaveCommand, SlaveData}
+use Rattle.types.specs.declared.Refusal.{Refusal}
 use Rattle.vpic.specs.Words.{PicState, plain_view, view}
-use Rattle.vpic.specs.Pair.{rule_number, rule_in, drives, chips, is_cascade, settled, Keeps, is_place, latched_at, latched, StateClaim, state_claim, grew, claim_of, master_claim, slave_claim, pending_place, claim_at, claim_pending, claim_irq, restored_at, restored, restore_interrupt, Port, master_command, master_data, slave_command, slave_data, no_port, port_at, is_there, written_to, Written, written_at, is_port, port_written, handle_write, master_read, slave_read, port_read, port_left, new_state, claim_vector, with_claim, with_vector, claim_outcome, vector_outcome, done_outcome, value_outcome}
-use Rattle.vpic.specs.Claim.{master_taken, slave_taken, taken_at, is_quiet, ReadOf, port_outcome}
+use Rattle.vpic.specs.Pair.{rule_number, rule_in, drives, chips, is_cascade, settled, Keeps, is_place, latched_at, latched, StateClaim, state_claim, grew, claim_of, master_claim, slave_claim, pending_place, claim_at, claim_pending, claim_irq, restored_at, restored, restore_interrupt, Port, master_command, master_data, slave_command, slave_data, no_port, port_at, is_there, written_to, written_at, is_port, port_written, handle_write, master_read, slave_read, port_read, port_left, new_state, claim_vector, with_claim, with_vector, claim_outcome, vector_outcome, done_outcome, value_outcome, at_port, found_at, port_found, read_from, left_after, handle_read}
+use Rattle.vpic.specs.Claim.{master_taken, slave_taken, taken_at, is_quiet, ReadOf, outcome_at}
 use Rattle.vpic.proofs.Ready.{ready_master, ready_slave, low_slave}
 use Rattle.vpic.proofs.Settled.{settled_kept, settled_twice, master_leaves, slave_leaves}
 
@@ -395,69 +398,82 @@ module _ (p : PicState) (c : PicInterruptClaim) (o : Option PicPlace) (eo : o �
 
 -- ---- the ports
 
-module _ (p q : PicState) (port v : ℕ) (m d : Chip) where
-  pub write_master_command : port ≡ 0x20 → m ≡ p.master → d ≡ commanded m v → q ≡ chips p d p.slave → Written p q port v true
-  unfolding written_at
-  write_master_command h em ed eq = record { state = rw h (cc); known = rw h }
+module _ (p q : PicState) (a : PicPort) (v : ℕ) (m d : Chip) where
+  pub write_master_command : a ≡ MasterCommand → m ≡ p.master → d ≡ commanded m v → q ≡ chips p d p.slave → q ≡ written_to p (at_port a) v
+  write_master_command h em ed eq = rw h (cc)
 
-  pub write_master_data : port ≡ 0x21 → m ≡ p.master → d ≡ fed m v → q ≡ chips p d p.slave → Written p q port v true
-  unfolding written_at
-  write_master_data h em ed eq = record { state = rw h (cc); known = rw h }
+  pub write_master_data : a ≡ MasterData → m ≡ p.master → d ≡ fed m v → q ≡ chips p d p.slave → q ≡ written_to p (at_port a) v
+  write_master_data h em ed eq = rw h (cc)
 
-  pub write_slave_command : port ≡ 0xa0 → m ≡ p.slave → d ≡ commanded m v → q ≡ chips p p.master d → Written p q port v true
-  unfolding written_at
-  write_slave_command h em ed eq = record { state = rw h (cc); known = rw h }
+  pub write_slave_command : a ≡ SlaveCommand → m ≡ p.slave → d ≡ commanded m v → q ≡ chips p p.master d → q ≡ written_to p (at_port a) v
+  write_slave_command h em ed eq = rw h (cc)
 
-  pub write_slave_data : port ≡ 0xa1 → m ≡ p.slave → d ≡ fed m v → q ≡ chips p p.master d → Written p q port v true
-  unfolding written_at
-  write_slave_data h em ed eq = record { state = rw h (cc); known = rw h }
+  pub write_slave_data : a ≡ SlaveData → m ≡ p.slave → d ≡ fed m v → q ≡ chips p p.master d → q ≡ written_to p (at_port a) v
+  write_slave_data h em ed eq = rw h (cc)
 
-pub write_none : (p : PicState) (port v : ℕ) → (port ≡ 0x20 → ⊥) → (port ≡ 0x21 → ⊥) → (port ≡ 0xa0 → ⊥) → (port ≡ 0xa1 → ⊥) → Written p p port v false
-unfolding written_at
-write_none p port v a b c d = record {
-  state = rw (ne_eqb port 0x20 a, ne_eqb port 0x21 b, ne_eqb port 0xa0 c, ne_eqb port 0xa1 d);
-  known = rw (ne_eqb port 0x20 a, ne_eqb port 0x21 b, ne_eqb port 0xa0 c, ne_eqb port 0xa1 d);
-}
-
-module _ (p q : PicState) (port byte : ℕ) (b : Bool) (e : Written p q port byte b) where
-  pub write_not : not b ≡ true → q ≡ p
-  unfolding written_at
-  write_not n = e.state ∙ go (port_at port) (sym e.known ∙ not-true b n)
+-- a port that is found stands there, and one that isn't nowhere
+module _ (port : ℕ) (x : Result PicPort Refusal) (ex : x ≡ port_found port) where
+  pub port_there : (a : PicPort) → x ≡ Ok a → port_at port ≡ at_port a
+  port_there a h = go (port_at port) (sym ex ∙ h)
     where
-      go : (a : Port) → is_there a ≡ false → written_to p a byte ≡ p
-      go master_command f = never refl f
-      go master_data f = never refl f
-      go slave_command f = never refl f
-      go slave_data f = never refl f
-      go no_port f = refl
+      go : (c : Port) → found_at c ≡ Ok a → c ≡ at_port a
+      go master_command e = let k : MasterCommand ≡ a = cc in ap at_port k
+      go master_data e = let k : MasterData ≡ a = cc in ap at_port k
+      go slave_command e = let k : SlaveCommand ≡ a = cc in ap at_port k
+      go slave_data e = let k : SlaveData ≡ a = cc in ap at_port k
+      go no_port e = let z : ◌≡◌ {A = ℕ} 0 1 = cc in absurd (omega (arith, z))
 
-  pub write_settled : (r : PicState) → r ≡ settled q → r ≡ port_written p port byte
-  unfolding port_written
-  write_settled r er = er ∙ ap settled e.state
+  pub port_missing : (why : Refusal) → x ≡ Err why → (port_at port ≡ no_port) × (why ≡ Unsupported)
+  port_missing why h = go (port_at port) (sym ex ∙ h)
+    where
+      go : (c : Port) → found_at c ≡ Err why → (c ≡ no_port) × (why ≡ Unsupported)
+      go master_command e = let z : ◌≡◌ {A = ℕ} 0 1 = cc in absurd (omega (arith, z))
+      go master_data e = let z : ◌≡◌ {A = ℕ} 0 1 = cc in absurd (omega (arith, z))
+      go slave_command e = let z : ◌≡◌ {A = ℕ} 0 1 = cc in absurd (omega (arith, z))
+      go slave_data e = let z : ◌≡◌ {A = ℕ} 0 1 = cc in absurd (omega (arith, z))
+      go no_port e = let k : Unsupported ≡ why = cc in (refl, sym k)
 
-module _ (p q : PicState) (port width value : ℕ) (b : Bool) (w : width ≡ 1) (known : b ≡ is_port port) where
-  pub write_out : b ≡ false → q ≡ p → done_outcome q (Err Unsupported) ≡ handle_write p port width value
-  write_out n e = rw (w, sym known ∙ n) (ap (λ (s : PicState). done_outcome s (Err Unsupported)) e)
+  module _ (p : PicState) (width : ℕ) (why : Refusal) (w : width ≡ 1) (h : x ≡ Err why) where
+    pub write_out : (value : ℕ) → done_outcome p (Err Unsupported) ≡ handle_write p port width value
+    write_out value = rw (w, (port_missing why h).0)
 
-  pub write_done : b ≡ true → q ≡ port_written p port (value % 256) → done_outcome q (Ok tt) ≡ handle_write p port width value
-  write_done n e = rw (w, sym known ∙ n) (ap (λ (s : PicState). done_outcome s (Ok tt)) e)
+    pub read_out : value_outcome p (Err Unsupported) ≡ handle_read p port width
+    unfolding port_left port_read
+    read_out = rw (w, (port_missing why h).0)
+
+  module _ (p : PicState) (width value byte : ℕ) (a : PicPort) (w : width ≡ 1) (h : x ≡ Ok a) (eb : byte ≡ value % 256) where
+    there_port : is_port port ≡ true
+    there_port = ap is_there (port_there a h) ∙ go a
+      where
+        go : (c : PicPort) → is_there (at_port c) ≡ true
+        go MasterCommand = refl
+        go MasterData = refl
+        go SlaveCommand = refl
+        go SlaveData = refl
+
+    pub write_settled : (r : PicState) → r ≡ settled (written_to p (at_port a) byte) → r ≡ port_written p port (value % 256)
+    unfolding port_written written_at
+    write_settled r er = er ∙ ap₂ (λ (c : Port) (v : ℕ). settled (written_to p c v)) (sym (port_there a h)) eb
+
+    pub write_done : (q : PicState) → q ≡ port_written p port (value % 256) → done_outcome q (Ok tt) ≡ handle_write p port width value
+    write_done q e = rw (w, there_port) (ap (λ (s : PicState). done_outcome s (Ok tt)) e)
 
 -- a read without a poll shows its register
-module _ (p : PicState) (port v : ℕ) (m : Chip) (f : m.full ≡ false) where
-  pub read_master_command : port ≡ 0x20 → m ≡ p.master → v ≡ command_read m → Ok v ≡ port_read p port
-  unfolding port_read read_shown command_read
+module _ (p : PicState) (a : PicPort) (v : ℕ) (m : Chip) (f : m.full ≡ false) where
+  pub read_master_command : a ≡ MasterCommand → m ≡ p.master → v ≡ command_read m → Ok v ≡ read_from p (at_port a)
+  unfolding read_shown command_read
   read_master_command h em ev = rw (h, ← em, f) (ap Ok ev)
 
-  pub read_master_data : port ≡ 0x21 → m ≡ p.master → v ≡ m.mask → Ok v ≡ port_read p port
-  unfolding port_read read_shown
+  pub read_master_data : a ≡ MasterData → m ≡ p.master → v ≡ m.mask → Ok v ≡ read_from p (at_port a)
+  unfolding read_shown
   read_master_data h em ev = rw (h, ← em, f) (ap Ok ev)
 
-  pub read_slave_command : port ≡ 0xa0 → m ≡ p.slave → v ≡ command_read m → Ok v ≡ port_read p port
-  unfolding port_read read_shown command_read
+  pub read_slave_command : a ≡ SlaveCommand → m ≡ p.slave → v ≡ command_read m → Ok v ≡ read_from p (at_port a)
+  unfolding read_shown command_read
   read_slave_command h em ev = rw (h, ← em, f) (ap Ok ev)
 
-  pub read_slave_data : port ≡ 0xa1 → m ≡ p.slave → v ≡ m.mask → Ok v ≡ port_read p port
-  unfolding port_read read_shown
+  pub read_slave_data : a ≡ SlaveData → m ≡ p.slave → v ≡ m.mask → Ok v ≡ read_from p (at_port a)
+  unfolding read_shown
   read_slave_data h em ev = rw (h, ← em, f) (ap Ok ev)
 
 -- a read of a port of the full profile's: no poll waits, or the poll is answered and the pair settled
@@ -509,30 +525,22 @@ pub full_status : (b : Bool) (x : Chip) (v : ℕ) → v ≡ command_read x → v
 unfolding command_read
 full_status b x v e = e
 
-module _ (p q : PicState) (port register shown : ℕ) (m : Chip) where
-  pub full_master_command : port ≡ 0x20 → m ≡ p.master → register ≡ command_read m → ReadOf p.master (master_read p) q register shown → value_outcome q (Ok shown) ≡ port_outcome p port
-  unfolding port_read port_left
+module _ (p q : PicState) (a : PicPort) (register shown : ℕ) (m : Chip) where
+  pub full_master_command : a ≡ MasterCommand → m ≡ p.master → register ≡ command_read m → ReadOf p.master (master_read p) q register shown → value_outcome q (Ok shown) ≡ outcome_at p (at_port a)
   full_master_command h em er e =
       rw h (ap₂ (λ (x : PicState) (n : ℕ). value_outcome x (Ok n)) e.state (e.answer ∙ ap (read_shown p.master) (er ∙ ap command_read em)))
 
-  pub full_master_data : port ≡ 0x21 → m ≡ p.master → register ≡ m.mask → ReadOf p.master (master_read p) q register shown → value_outcome q (Ok shown) ≡ port_outcome p port
-  unfolding port_read port_left
+  pub full_master_data : a ≡ MasterData → m ≡ p.master → register ≡ m.mask → ReadOf p.master (master_read p) q register shown → value_outcome q (Ok shown) ≡ outcome_at p (at_port a)
   full_master_data h em er e =
       rw h (ap₂ (λ (x : PicState) (n : ℕ). value_outcome x (Ok n)) e.state (e.answer ∙ ap (read_shown p.master) (er ∙ ap (λ (c : Chip). c.mask) em)))
 
-  pub full_slave_command : port ≡ 0xa0 → m ≡ p.slave → register ≡ command_read m → ReadOf p.slave (slave_read p) q register shown → value_outcome q (Ok shown) ≡ port_outcome p port
-  unfolding port_read port_left
+  pub full_slave_command : a ≡ SlaveCommand → m ≡ p.slave → register ≡ command_read m → ReadOf p.slave (slave_read p) q register shown → value_outcome q (Ok shown) ≡ outcome_at p (at_port a)
   full_slave_command h em er e =
       rw h (ap₂ (λ (x : PicState) (n : ℕ). value_outcome x (Ok n)) e.state (e.answer ∙ ap (read_shown p.slave) (er ∙ ap command_read em)))
 
-  pub full_slave_data : port ≡ 0xa1 → m ≡ p.slave → register ≡ m.mask → ReadOf p.slave (slave_read p) q register shown → value_outcome q (Ok shown) ≡ port_outcome p port
-  unfolding port_read port_left
+  pub full_slave_data : a ≡ SlaveData → m ≡ p.slave → register ≡ m.mask → ReadOf p.slave (slave_read p) q register shown → value_outcome q (Ok shown) ≡ outcome_at p (at_port a)
   full_slave_data h em er e =
       rw h (ap₂ (λ (x : PicState) (n : ℕ). value_outcome x (Ok n)) e.state (e.answer ∙ ap (read_shown p.slave) (er ∙ ap (λ (c : Chip). c.mask) em)))
-
-pub full_no_port : (p : PicState) (port : ℕ) → (port ≡ 0x20 → ⊥) → (port ≡ 0x21 → ⊥) → (port ≡ 0xa0 → ⊥) → (port ≡ 0xa1 → ⊥) → value_outcome p (Err Unsupported) ≡ port_outcome p port
-unfolding port_read port_left
-full_no_port p port a b c d = rw (ne_eqb port 0x20 a, ne_eqb port 0x21 b, ne_eqb port 0xa0 c, ne_eqb port 0xa1 d)
 
 pub grew_is : (x y a b : ℕ) → a ≡ x → b ≡ y → not (eqb a b) ≡ not (eqb x y)
 grew_is x y a b ea eb = ap₂ (λ (m n : ℕ). not (eqb m n)) ea eb

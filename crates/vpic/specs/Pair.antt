@@ -19,6 +19,8 @@ use Rattle.vpic_chip.specs.Chip.{opened, commanded, fed, command_read, pulsed, a
 use Rattle.vpic.specs.declared.PicRule.{PicRule}
 use Rattle.vpic.specs.declared.PicRule.TheVariants.{Latch, Cascade, Full}
 use Rattle.vpic.specs.declared.PicInterruptClaim.{PicInterruptClaim}
+use Rattle.vpic.specs.declared.PicPort.{PicPort}
+use Rattle.vpic.specs.declared.PicPort.TheVariants.{MasterCommand, MasterData, SlaveCommand, SlaveData}
 use Rattle.vpic.specs.declared.PortRanges.{PortRanges}
 use Rattle.vpic.specs.Words.{PicState}
 
@@ -187,6 +189,23 @@ is_there slave_command = true
 is_there slave_data = true
 is_there no_port = false
 
+-- the port that the code has found, and what it finds
+abbrev pub at_port : PicPort → Port
+at_port MasterCommand = master_command
+at_port MasterData = master_data
+at_port SlaveCommand = slave_command
+at_port SlaveData = slave_data
+
+abbrev pub found_at : Port → Result PicPort Refusal
+found_at master_command = Ok MasterCommand
+found_at master_data = Ok MasterData
+found_at slave_command = Ok SlaveCommand
+found_at slave_data = Ok SlaveData
+found_at no_port = Err Unsupported
+
+abbrev pub port_found : ℕ → Result PicPort Refusal
+port_found port = found_at (port_at port)
+
 -- what a read shows: the poll's answer where one waits on the chip, else the port's register
 abbrev pub read_from : PicState → Port → Result ℕ Refusal
 read_from p master_command = Ok (read_shown p.master (command_read p.master))
@@ -227,11 +246,6 @@ port_left p port = left_after p (port_at port)
 
 unfoldable pub written_at : PicState → ℕ → ℕ → PicState
 written_at p port byte = written_to p (port_at port) byte
-
--- q is p after the write, and the answer whether the pair has that port
-pub record Written (p q : PicState) (port byte : ℕ) (answer : Bool) : Type 0 where
-  pub state : q ≡ written_at p port byte
-  pub known : answer ≡ is_port port
 
 unfoldable pub port_written : PicState → ℕ → ℕ → PicState
 port_written p port byte = settled (written_at p port byte)

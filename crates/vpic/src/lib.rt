@@ -6,14 +6,14 @@
 
 #![tactic(auto)]
 
-ghost use Rattle.std.specs.Prelude.{◌≡◌, true, false, not, ◌%◌, eqb, Some};
+ghost use Rattle.std.specs.Prelude.{◌≡◌, true, false, not, eqb, Some, Ok};
 ghost use Rattle.types.specs.Counters.{place_of};
 ghost use Rattle.types.specs.declared.PicPlace.TheVariants as place;
 ghost use Rattle.vpic_chip.specs.Registers.{chip_in, full_in, placed};
 ghost use Rattle.vpic.specs.Words.{is_full, plain_view, full_view, view};
-ghost use Rattle.vpic.specs.Claim.{claim_in, claim_number, numbered, with_number, master_taken, slave_taken, taken_at, is_quiet, ReadOf, port_outcome, plain_shown};
+ghost use Rattle.vpic.specs.Claim.{claim_in, claim_number, numbered, with_number, master_taken, slave_taken, taken_at, is_quiet, ReadOf, outcome_at, plain_shown};
 ghost use Rattle.vpic.specs.declared.PicRule.TheVariants as rules;
-ghost use Rattle.vpic.specs.Pair.{rule_in, rule_number, is_rule, chips, is_cascade, settled, latched_at, state_claim, claim_of, slave_claim, pending_place, claim_pending, claim_irq, restored_at, port_read, master_read, slave_read, Written, is_port, port_written, rule_of, claim_flags, interrupt_reply, claim_vector, with_claim, with_vector, claim_outcome, vector_outcome, done_outcome, value_outcome, new_state, port_ranges, restore_interrupt, handle_read, handle_write};
+ghost use Rattle.vpic.specs.Pair.{rule_in, rule_number, is_rule, chips, is_cascade, settled, latched_at, state_claim, claim_of, slave_claim, pending_place, claim_pending, claim_irq, restored_at, at_port, port_found, read_from, master_read, slave_read, written_to, rule_of, claim_flags, interrupt_reply, claim_vector, with_claim, with_vector, claim_outcome, vector_outcome, done_outcome, value_outcome, new_state, port_ranges, restore_interrupt, handle_read, handle_write};
 
 use types::{PicLine, PicPlace, Refusal, Reply, ToReply, Vector};
 use utils::seen;
@@ -535,23 +535,48 @@ pub fn restore_interrupt(words: &mut [u64; 4], claim: PicInterruptClaim) -> Resu
 
 // ---- The ports.
 
+// One of the pair's four ports.
+#[derive(Clone, Copy, Debug, PartialEq, Eq, Hash)]
+enum PicPort {
+    MasterCommand,
+    MasterData,
+    SlaveCommand,
+    SlaveData,
+}
+
+// The port of a number: `Unsupported` where the pair hasn't it.
+impl TryFrom<u64> for PicPort {
+    type Error = Refusal;
+
+    ghost try_from_gives = { λ port found. found ≡ port_found port };
+
+    fn try_from(port: u64) -> Result<PicPort, Refusal> {
+        if port == u64::from(MASTER_COMMAND) {
+            return Ok(PicPort::MasterCommand);
+        }
+        if port == u64::from(MASTER_DATA) {
+            return Ok(PicPort::MasterData);
+        }
+        if port == u64::from(SLAVE_COMMAND) {
+            return Ok(PicPort::SlaveCommand);
+        }
+        if port == u64::from(SLAVE_DATA) {
+            return Ok(PicPort::SlaveData);
+        }
+        Err(Refusal::Unsupported)
+    }
+}
+
 // What a byte read of a port shows, where no poll can wait.
-fn read_port(words: &[u64; 4], port: u64) -> Result<u8, Refusal>
-    ensures { result ≡ port_read (plain_view words.now) port }
+fn read_port(words: &[u64; 4], port: PicPort) -> u8
+    ensures { Ok result ≡ read_from (plain_view words.now) (at_port port) }
 {
-    if port == MASTER_COMMAND as u64 {
-        return Ok(master(words).read_command());
+    match port {
+        PicPort::MasterCommand => master(words).read_command(),
+        PicPort::MasterData => master(words).mask(),
+        PicPort::SlaveCommand => slave(words).read_command(),
+        PicPort::SlaveData => slave(words).mask(),
     }
-    if port == MASTER_DATA as u64 {
-        return Ok(master(words).mask());
-    }
-    if port == SLAVE_COMMAND as u64 {
-        return Ok(slave(words).read_command());
-    }
-    if port == SLAVE_DATA as u64 {
-        return Ok(slave(words).mask());
-    }
-    Err(Refusal::Unsupported)
 }
 
 // A read of a port, `width` bytes wide. Numbers come in at their full width.
@@ -561,69 +586,50 @@ pub fn handle_read(words: &mut [u64; 4], port: u64, width: u64) -> Result<u8, Re
     if width != 1 {
         return Err(Refusal::Unsupported);
     }
+    let Ok(port) = PicPort::try_from(port) else {
+        return Err(Refusal::Unsupported);
+    };
     if is_full(words) {
-        return full_read(words, port);
+        return Ok(full_read(words, port));
     }
-    read_port(words, port)
+    Ok(read_port(words, port))
 }
 
-// What a byte read of a port shows, and nothing where that isn't all: the pair may have a poll that waits, or hasn't that port. The rule is asked for at each port, which keeps
-// the compiler from putting the ports' ways together.
+// What a byte read of a port shows, and nothing where that isn't all: the pair may have a poll that waits, or hasn't that port.
 pub fn plain_read(words: &[u64; 4], port: u64) -> Option<u8>
     ensures { result ≡ plain_shown (view words.now) port }
 {
-    if port == MASTER_COMMAND as u64 {
-        if is_full(words) {
-            return None;
-        }
-        return Some(master(words).read_command());
+    let Ok(port) = PicPort::try_from(port) else {
+        return None;
+    };
+    if is_full(words) {
+        return None;
     }
-    if port == MASTER_DATA as u64 {
-        if is_full(words) {
-            return None;
-        }
-        return Some(master(words).mask());
-    }
-    if port == SLAVE_COMMAND as u64 {
-        if is_full(words) {
-            return None;
-        }
-        return Some(slave(words).read_command());
-    }
-    if port == SLAVE_DATA as u64 {
-        if is_full(words) {
-            return None;
-        }
-        return Some(slave(words).mask());
-    }
-    None
+    Some(read_port(words, port))
 }
 
-// A byte is written to a port; whether the pair has that port.
-fn write_at(words: &mut [u64; 4], port: u64, byte: u8) -> bool
-    ensures { Written (plain_view words.old) (plain_view words.new) port byte result }
+// A byte is written to a port.
+fn write_at(words: &mut [u64; 4], port: PicPort, byte: u8)
+    ensures { plain_view words.new ≡ written_to (plain_view words.old) (at_port port) byte }
 {
-    if port == MASTER_COMMAND as u64 {
-        let written = master(words).command(byte);
-        set_master(words, written);
-        return true;
+    match port {
+        PicPort::MasterCommand => {
+            let written = master(words).command(byte);
+            set_master(words, written);
+        }
+        PicPort::MasterData => {
+            let written = master(words).data(byte);
+            set_master(words, written);
+        }
+        PicPort::SlaveCommand => {
+            let written = slave(words).command(byte);
+            set_slave(words, written);
+        }
+        PicPort::SlaveData => {
+            let written = slave(words).data(byte);
+            set_slave(words, written);
+        }
     }
-    if port == MASTER_DATA as u64 {
-        let written = master(words).data(byte);
-        set_master(words, written);
-        return true;
-    }
-    if port == SLAVE_COMMAND as u64 {
-        let written = slave(words).command(byte);
-        set_slave(words, written);
-        return true;
-    }
-    if port == SLAVE_DATA as u64 {
-        let written = slave(words).data(byte);
-        set_slave(words, written);
-        return true;
-    }
-    false
 }
 
 // A write to a port, `width` bytes wide.
@@ -633,21 +639,20 @@ pub fn handle_write(words: &mut [u64; 4], port: u64, width: u64, value: u64) -> 
     if width != 1 {
         return Err(Refusal::Unsupported);
     }
+    let Ok(port) = PicPort::try_from(port) else {
+        return Err(Refusal::Unsupported);
+    };
+    let byte = (value % 256) as u8;
     if is_full(words) {
-        if !is_port(port) {
-            return Err(Refusal::Unsupported);
-        }
         // In two arms, as above.
         if value >= 256 {
-            full_write(words, port, value % 256);
+            full_write(words, port, byte);
             return Ok(());
         }
-        full_write(words, port, value);
+        full_write(words, port, byte);
         return Ok(());
     }
-    if !write_at(words, port, (value % 256) as u8) {
-        return Err(Refusal::Unsupported);
-    }
+    write_at(words, port, byte);
     settle(words);
     Ok(())
 }
@@ -811,30 +816,27 @@ fn full_restore_at(words: &mut [u64; 4], place: PicPlace, claim: PicInterruptCla
     }
 }
 
-fn full_write_at(words: &mut [u64; 4], port: u64, byte: u8) -> bool
-    ensures { Written (full_view words.old) (full_view words.new) port byte result }
+fn full_write_at(words: &mut [u64; 4], port: PicPort, byte: u8)
+    ensures { full_view words.new ≡ written_to (full_view words.old) (at_port port) byte }
 {
-    if port == MASTER_COMMAND as u64 {
-        let written = full_master(words).full_command(byte);
-        full_set_master(words, written);
-        return true;
+    match port {
+        PicPort::MasterCommand => {
+            let written = full_master(words).full_command(byte);
+            full_set_master(words, written);
+        }
+        PicPort::MasterData => {
+            let written = full_master(words).full_data(byte);
+            full_set_master(words, written);
+        }
+        PicPort::SlaveCommand => {
+            let written = full_slave(words).full_command(byte);
+            full_set_slave(words, written);
+        }
+        PicPort::SlaveData => {
+            let written = full_slave(words).full_data(byte);
+            full_set_slave(words, written);
+        }
     }
-    if port == MASTER_DATA as u64 {
-        let written = full_master(words).full_data(byte);
-        full_set_master(words, written);
-        return true;
-    }
-    if port == SLAVE_COMMAND as u64 {
-        let written = full_slave(words).full_command(byte);
-        full_set_slave(words, written);
-        return true;
-    }
-    if port == SLAVE_DATA as u64 {
-        let written = full_slave(words).full_data(byte);
-        full_set_slave(words, written);
-        return true;
-    }
-    false
 }
 
 fn full_restore(words: &mut [u64; 4], place: PicPlace, claim: PicInterruptClaim)
@@ -871,44 +873,34 @@ fn full_read_slave(words: &mut [u64; 4], register: u8) -> u8
     shown
 }
 
-fn full_read(words: &mut [u64; 4], port: u64) -> Result<u8, Refusal>
-    ensures { value_outcome (full_view words.new) result ≡ port_outcome (full_view words.old) port }
+fn full_read(words: &mut [u64; 4], port: PicPort) -> u8
+    ensures { value_outcome (full_view words.new) (Ok result) ≡ outcome_at (full_view words.old) (at_port port) }
 {
-    if port == MASTER_COMMAND as u64 {
-        let status = full_master(words).read_command();
-        return Ok(full_read_master(words, status));
+    match port {
+        PicPort::MasterCommand => {
+            let status = full_master(words).read_command();
+            full_read_master(words, status)
+        }
+        PicPort::MasterData => {
+            let mask = full_master(words).mask();
+            full_read_master(words, mask)
+        }
+        PicPort::SlaveCommand => {
+            let status = full_slave(words).read_command();
+            full_read_slave(words, status)
+        }
+        PicPort::SlaveData => {
+            let mask = full_slave(words).mask();
+            full_read_slave(words, mask)
+        }
     }
-    if port == MASTER_DATA as u64 {
-        let mask = full_master(words).mask();
-        return Ok(full_read_master(words, mask));
-    }
-    if port == SLAVE_COMMAND as u64 {
-        let status = full_slave(words).read_command();
-        return Ok(full_read_slave(words, status));
-    }
-    if port == SLAVE_DATA as u64 {
-        let mask = full_slave(words).mask();
-        return Ok(full_read_slave(words, mask));
-    }
-    Err(Refusal::Unsupported)
 }
 
-// A value's low byte written.
-fn full_write(words: &mut [u64; 4], port: u64, value: u64)
-    ensures { full_view words.new ≡ port_written (full_view words.old) port (value % 256) }
+fn full_write(words: &mut [u64; 4], port: PicPort, byte: u8)
+    ensures { full_view words.new ≡ settled (written_to (full_view words.old) (at_port port) byte) }
 {
-    full_write_at(words, port, (value % 256) as u8);
+    full_write_at(words, port, byte);
     full_settle(words);
-}
-
-// Whether the pair has a port.
-fn is_port(port: u64) -> bool
-    ensures { result ≡ is_port port }
-{
-    port == u64::from(MASTER_COMMAND)
-        || port == u64::from(MASTER_DATA)
-        || port == u64::from(SLAVE_COMMAND)
-        || port == u64::from(SLAVE_DATA)
 }
 
 // ---- The same by value: a pair lends its words, and is handed back.

@@ -1,17 +1,14 @@
-use Rattle.vpic.proofs.Laws.{write_master_command, write_master_data, write_slave_command, write_slave_data, write_none}
+use Rattle.vpic.proofs.Laws.{write_master_command, write_master_data, write_slave_command, write_slave_data}
 use Rattle.vpic.proofs.write_at.Goals as goal
 
-pub returns-then-port : goal.returns-then-port
-returns-then-port c = search write_master_command
+pub returns-in-MasterCommand : goal.returns-in-MasterCommand
+returns-in-MasterCommand c = search write_master_command
 
-pub returns-then-port-2 : goal.returns-then-port-2
-returns-then-port-2 c = search write_master_data
+pub returns-in-MasterData : goal.returns-in-MasterData
+returns-in-MasterData c = search write_master_data
 
-pub returns-then-port-3 : goal.returns-then-port-3
-returns-then-port-3 c = search write_slave_command
+pub returns-in-SlaveCommand : goal.returns-in-SlaveCommand
+returns-in-SlaveCommand c = search write_slave_command
 
-pub returns-then-port-4 : goal.returns-then-port-4
-returns-then-port-4 c = search write_slave_data
-
-pub returns : goal.returns
-returns c = search write_none
+pub returns-in-SlaveData : goal.returns-in-SlaveData
+returns-in-SlaveData c = search write_slave_data
