@@ -4,7 +4,6 @@ use mathlib.Core.Bool.{Bool, true, false}
 use mathlib.Core.List.{List}
 use mathlib.Core.Path.{◌≡◌, refl, subst⁻¹}
 use lib.Dec.{ltb}
-use Rattle.types.specs.Reply.{Outcome}
 use Rattle.vioapic.proofs.Agree.{new_agrees, calls_agree}
 use Rattle.vioapic.proofs.Ways.{new_shows}
 use Rattle.vioapic.specs.Agreement.{Agrees}

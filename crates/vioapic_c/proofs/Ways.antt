@@ -1,10 +1,10 @@
 -- A call's answer, its reply and the reply's code: l are the words before, w those after. Assumes nothing.
 use Rattle.std.specs.Prelude.{Result, Ok, Err}
 use Prim.Native.Nat.{ℕ, ◌<◌, ◌≤◌}
-use mathlib.Core.Bool.{Bool, true, false, not, cond, ◌||◌}
+use mathlib.Core.Bool.{Bool, true, false, cond, ◌||◌}
 use mathlib.Core.List.{List, [], ◌∷◌}
 use mathlib.Core.Path.{◌≡◌, refl, sym, ap, ◌∙◌, subst}
-use borrow.Author.Tests.{lt-ltb, le-ltb, eqb-true, not-true, not-false}
+use borrow.Author.Tests.{lt-ltb, le-ltb, eqb-true}
 use lib.Dec.{eqb}
 use Rattle.utils.proofs.Bools.{never}
 use Rattle.types.specs.Reply.{Outcome, Kept}
@@ -12,8 +12,8 @@ use Rattle.types.specs.declared.Gsi.{Gsi}
 use Rattle.types.specs.declared.Refusal.{Refusal}
 use Rattle.types.specs.declared.Refusal.TheVariants.{Unsupported, OutOfRange}
 use Rattle.types.specs.declared.Reply.{Reply}
-use Rattle.types.specs.declared.Reply.TheVariants.{Refused, Nothing, Two}
-use Rattle.reply_code.specs.Lent.{Lent, reply_code, lent}
+use Rattle.types.specs.declared.Reply.TheVariants.{Refused, Nothing}
+use Rattle.reply_code.specs.Lent.{reply_code, lent}
 use Rattle.vioapic.specs.Answers.{written_reply, range_reply}
 use Rattle.vioapic.specs.State.{IoApicState, view, new_words}
 use Rattle.vioapic.proofs.Ways.{wrote_leaves}
