@@ -406,31 +406,9 @@ none_deferred l h g i =
     let z : get_or l 24 0 ≡ 0 = eqb-true (get_or l 24 0) 0 h in
     sym (deferred_at l g false i (sym (ap (λ (n : ℕ). bit n g) z ∙ bit_above 0 0 g (omega arith) (omega arith))))
 
--- the line down, and nothing deferred
-pub not_quiet : (e : Entry) → false ≡ true → Quiet e
-not_quiet e h = never h refl
-
 pub quiet : (l : List ℕ) (g : ℕ) (b c : Bool) → g < 24 → (b ≡ true → NoneDeferred (view l)) → b ≡ true → c ≡ bit (get_or l 25 0 % 4294967296) g → not c ≡ true → Quiet (entry_at (view l) g)
 quiet l g b c i none n line d =
     record { undeferred = none n g i; down = sym (input_at l g c i (line ∙ bit_cut (get_or l 25 0) 32 g (omega arith))) ∙ not-true c d }
-
--- what is owed
-module _ (l : List ℕ) (g word : ℕ) (at : word ≡ (entry_at (view l) g).word) (c : Bool) (line : c ≡ (entry_at (view l) g).input_level) where
-  pub unowed_down : not c ≡ true → false ≡ is_owed (entry_at (view l) g)
-  unowed_down h =
-      let e : Entry = entry_at (view l) g in
-      sym (and_right_no (is_level e.word && not (remote_irr e.word)) e.input_level (sym line ∙ not-true c h))
-
-  module _ (a : Bool) (up : not c ≡ false) (level : a ≡ is_level word) where
-    pub unowed_edge : not a ≡ true → false ≡ is_owed (entry_at (view l) g)
-    unowed_edge h = let p : is_level (entry_at (view l) g).word ≡ false = ap is_level (sym at) ∙ sym level ∙ not-true a h in rw p
-
-    pub owed_still : (b : Bool) → not a ≡ false → b ≡ remote_irr word → not b ≡ is_owed (entry_at (view l) g)
-    owed_still b h q =
-        let p : is_level (entry_at (view l) g).word ≡ true = ap is_level (sym at) ∙ sym level ∙ not-false a h in
-        let i : (entry_at (view l) g).input_level ≡ true = sym line ∙ not-false c up in
-        let r : remote_irr (entry_at (view l) g).word ≡ b = ap remote_irr (sym at) ∙ sym q in
-        rw (p, i, r) (sym (and_one (not b)))
 
 -- the low word laid down, from the words l to u
 module _ (l u : List ℕ) (g x word : ℕ) (here : g < 24) (at : word ≡ (entry_at (view l) g).word) (a : Bool) (flies : a ≡ remote_irr word)

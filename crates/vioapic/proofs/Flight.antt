@@ -131,9 +131,6 @@ module _ (left g : ℕ) (small : left < 2 ^ 24) (some : left ≡ 0 → ⊥) (at 
   pub left_index : g < 24
   left_index = lowest_below 24 32 left g (omega arith) small some at
 
-  pub left_bit : g < 32
-  left_bit = omega (arith, left_index)
-
   -- and without it less is left
   pub left_less : (m : ℕ) → m ≡ without left g → m < left
   left_less m q = rw q (lowest_left 24 32 left g (omega arith) small some at)

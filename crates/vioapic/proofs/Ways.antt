@@ -151,12 +151,6 @@ half_from sel e = omega (arith, (entry_word_range sel e).0)
 pub entry_by_half : (sel g : ℕ) → is_entry_word sel ≡ true → g ≡ entry_of sel → sel / 2 - 8 ≡ g
 entry_by_half sel g e q = omega (arith, (entry_word_range sel e).0, q)
 
-pub word_below : (sel : ℕ) → sel < 0x10 → false ≡ is_entry_word sel
-word_below sel h = rw (lt-leb 0x10 sel h)
-
-pub word_from : (sel : ℕ) → 0x10 ≤ sel → leb sel 0x3f ≡ is_entry_word sel
-word_from sel h = rw (le-leb 0x10 sel h)
-
 module _ (l : List ℕ) (sel : ℕ) (b : Bool) (is : sel ≡ (view l).selector) (there : b ≡ is_entry_word sel) where
   found : (c : Bool) → b ≡ c → is_entry_word (view l).selector ≡ c
   found c h = sym (there ∙ ap is_entry_word is) ∙ h
@@ -275,12 +269,6 @@ module _ (l : List ℕ) (base size : ℕ) (b : Bool) (at : base ≡ (view l).bas
 
 -- ---- the memory map
 
-pub width_four : (width : ℕ) → width ≡ 4 → true ≡ good_width width
-width_four width h = rw (eq-eqb _ _ h)
-
-pub width_other : (width : ℕ) → (width ≡ 4 → ⊥) → eqb width 8 ≡ good_width width
-width_other width h = rw (ne_eqb _ _ h)
-
 -- a write that is served says nothing of the words
 served : (l w : List ℕ) (y : Written) → Kept (written_reply (Ok y)) l w
 served l w written.Done = tt
@@ -301,9 +289,6 @@ module _ (l : List ℕ) (addr width : ℕ) (r : Reply) where
   pub read_eight : width ≡ 8 → r ≡ handle_read (view l) addr 4 → r ≡ handle_read (view l) addr width
   unfolding handle_read
   read_eight h q = rw h q
-
-  pub read_four : width ≡ 4 → r ≡ handle_read (view l) addr 4 → r ≡ handle_read (view l) addr width
-  read_four h q = rw h q
 
 pub read_width : (l : List ℕ) (addr width : ℕ) → (width ≡ 8 → ⊥) → (width ≡ 4 → ⊥) → Refused Unsupported ≡ handle_read (view l) addr width
 unfolding handle_read

@@ -80,6 +80,7 @@ pub enum IoApicVersion {
 
 impl IoApicVersion {
     // As IOAPICVER has it.
+    // Stays: the new form is no plainer: `u64::from(version)` wouldn't say which number.
     pub fn number(self) -> u64
         ensures { result ≡ version_number self }
     {
@@ -243,6 +244,8 @@ impl ToReply for AddressRange {
 }
 
 // ---- The words
+//
+// Stays: the C interface lends them, and what isn't looked at in them stays as it is (`Leaves`): so each function takes the words beside a place.
 
 pub fn base(words: &[u64; 32]) -> u64
     ensures { result ≡ (view words.now).base }
@@ -719,7 +722,7 @@ fn write_low(words: &mut [u64; 32], place: Place, value: u32)
 }
 
 // Version 0x20: the register takes a low word. First as one that isn't in flight, whatever it was: so it is one store of the lower half. `word` is the register before.
-// Answers whether that is all, as mostly of an entry in flight: it stays in flight, and nothing is there to be forgotten.
+// Stays: the new form is no plainer: between its answers it stores. Answers whether that is all, as mostly of an entry in flight: it stays in flight, and nothing is there to be forgotten.
 fn lay(words: &mut [u64; 32], selected: u32, place: Place, word: u64, value: u32) -> bool
     requires { (is_entry_word selected ≡ true) × (place.index ≡ entry_of selected) × (word ≡ (entry_at (view words.old) place.index).word) }
     ensures { Keeps words.old words.new (view words.new ≡ put (view words.old) place.index (with_word (entry_at (view words.old) place.index) (replace_low20 word value))) × (result ≡ true → Flown word (entry_at (view words.old) place.index)) }
@@ -888,14 +891,15 @@ pub fn handle_write(
     Ok(write_at(words, addr - start, (value % 0x1_0000_0000) as u32))
 }
 
-fn put_new(words: &mut [u64; 32], version: u64, base: u64, size: u64)
-    ensures { words.new ≡ new_words version base size }
+fn put_new(words: &mut [u64; 32], version: IoApicVersion, base: u64, size: u64)
+    ensures { words.new ≡ new_words (version_number version) base size }
 {
+    let number = version.number();
     *words = [
         0x1_0000, 0x1_0000, 0x1_0000, 0x1_0000, 0x1_0000, 0x1_0000, 0x1_0000, 0x1_0000, 0x1_0000,
         0x1_0000, 0x1_0000, 0x1_0000, 0x1_0000, 0x1_0000, 0x1_0000, 0x1_0000, 0x1_0000, 0x1_0000,
-        0x1_0000, 0x1_0000, 0x1_0000, 0x1_0000, 0x1_0000, 0x1_0000, 0, 0, 0, base, size, version,
-        0, 0,
+        0x1_0000, 0x1_0000, 0x1_0000, 0x1_0000, 0x1_0000, 0x1_0000, 0, 0, 0, base, size, number, 0,
+        0,
     ];
 }
 
@@ -911,7 +915,7 @@ pub fn new_version(
     if !fits(base, size) {
         return Err(Refusal::InvalidAddress);
     }
-    put_new(words, version.number(), base, size);
+    put_new(words, version, base, size);
     Ok(())
 }
 
@@ -938,7 +942,8 @@ pub fn new_default_version(words: &mut [u64; 32], version: IoApicVersion) -> Res
 
 // ---- What the registers say
 
-// IOAPICVER.
+// IOAPICVER. Of a lent word's number, which may be of no version.
+// Stays: what may not change (`version_word`, `read_fixed`).
 fn version_word(version: u64) -> u64
     ensures { result ≡ version_word version }
 {
@@ -948,20 +953,16 @@ fn version_word(version: u64) -> u64
     IOAPIC_VERSION_VALUE
 }
 
-// The registers that can't be written.
+// The registers that can't be written. The version as it is lent.
+#[tactic(auto, unfolding(crate::specs::Registers::read_fixed))]
 fn read_fixed(version: u64, selector: u32) -> u64
     ensures { result ≡ read_fixed version selector }
 {
-    if selector == IOAPIC_ID {
-        return IOAPIC_ID_VALUE;
+    match selector {
+        IOAPIC_ID | IOAPIC_ARB => IOAPIC_ID_VALUE,
+        IOAPIC_VER => version_word(version),
+        _ => 0,
     }
-    if selector == IOAPIC_VER {
-        return version_word(version);
-    }
-    if selector == IOAPIC_ARB {
-        return IOAPIC_ID_VALUE;
-    }
-    0
 }
 
 // The vector that an entry's register gives its line.
@@ -1031,7 +1032,7 @@ impl EmulatedIoApic {
         ensures { Makes (new_words 0x20 0 0) result.0.words (new_reply result.1) (created_version (chip_at 0 0) base size version) (new_words (version_number version) base size) }
     {
         let mut words = [0; 32];
-        put_new(&mut words, VERSION_20, 0, 0);
+        put_new(&mut words, IoApicVersion::V20, 0, 0);
         let answer = new_version(&mut words, base, size, version);
         (EmulatedIoApic { words }, answer)
     }
@@ -1041,7 +1042,7 @@ impl EmulatedIoApic {
         ensures { (view result.words ≡ new_default) × (result.words ≡ new_words 0x20 0xfec00000 0x1000) }
     {
         let mut words = [0; 32];
-        put_new(&mut words, VERSION_20, IOAPIC_BASE, IOAPIC_SIZE);
+        put_new(&mut words, IoApicVersion::V20, IOAPIC_BASE, IOAPIC_SIZE);
         EmulatedIoApic { words }
     }
 
@@ -1050,7 +1051,7 @@ impl EmulatedIoApic {
         ensures { (view result.words ≡ chip_of (version_number version) 0xfec00000 0x1000) × (result.words ≡ new_words (version_number version) 0xfec00000 0x1000) }
     {
         let mut words = [0; 32];
-        put_new(&mut words, version.number(), IOAPIC_BASE, IOAPIC_SIZE);
+        put_new(&mut words, version, IOAPIC_BASE, IOAPIC_SIZE);
         EmulatedIoApic { words }
     }
 
