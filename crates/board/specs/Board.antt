@@ -1,10 +1,11 @@
 -- A whole board (document 02, T-07): an I/O APIC of version 0x20, one local APIC and its request register, and what each call does to them.
 -- Intel SDM volume 3, the APIC chapter: interrupt, task and processor priority; interrupt acceptance for fixed interrupts (IRR, ISR, TMR); signaling interrupt
 -- servicing completion (the EOI message to the I/O APICs). 82093AA: IOREDTBL, Remote IRR. The chips' own rules stand with the chips: vioapic, vlapic_requests.
+use Rattle.types.specs.declared.Refusal.{Refusal}
+use Rattle.vioapic_entry.specs.declared.IoApicInterrupt.{IoApicInterrupt}
 use Rattle.std.specs.Prelude.{ℕ, ◌%◌, ◌^◌, Bool, true, false, cond, List, eqb, Option, Some, None, Result, Ok, Err}
 use Rattle.types.specs.declared.Gsi.{Gsi}
 use Rattle.types.specs.declared.Vector.{Vector}
-use Rattle.vioapic_entry.specs.declared.IoApicInterrupt.{IoApicInterrupt}
 use Rattle.vioapic.specs.State.{IoApicState}
 use Rattle.vioapic.specs.State as io-words
 use Rattle.vioapic.specs.Table.{Routing, Ending, set_level, end_of}
@@ -18,7 +19,6 @@ use Rattle.vlapic.specs.declared.VirtualApicRegs.{VirtualApicRegs}
 use Rattle.vlapic.specs.Regs.{start}
 use Rattle.vlapic_words.specs.Words as apic-words
 use Rattle.vlapic_requests.specs.Requests as apic
-use Rattle.types.specs.declared.Refusal.{Refusal}
 
 pub record Board : Type 0 where
   pub ioapic : IoApicState

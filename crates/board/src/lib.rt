@@ -3,10 +3,10 @@
 
 #![tactic(auto)]
 
-ghost use Rattle.types.specs.declared.Vector.{Vector};
 ghost use Rattle.std.specs.Prelude.{List, ℕ, Option, Result};
 ghost use Rattle.types.specs.Reply.{outcome_of};
 ghost use Rattle.types.specs.declared.Refusal.{Refusal};
+ghost use Rattle.types.specs.declared.Vector.{Vector};
 ghost use Rattle.vioapic_entry.specs.Answers.{routed_reply};
 ghost use Rattle.vioapic_entry.specs.declared.IoApicInterrupt.{IoApicInterrupt};
 ghost use Rattle.vioapic.specs.Answers.{eoi_reply, written_reply};
@@ -28,7 +28,8 @@ use vioapic_entry::IoApicInterrupt;
 pub fn new(ioapic: &mut [u64; 32], apic: &mut [u64; 48])
     ensures { Makes ioapic.new apic.new }
 {
-    vioapic::new_version(ioapic, IOAPIC_BASE, IOAPIC_SIZE, IoApicVersion::V20);
+    // These addresses fit, so that it is never refused (`Makes`).
+    let _ = vioapic::new_version(ioapic, IOAPIC_BASE, IOAPIC_SIZE, IoApicVersion::V20);
     vlapic_words::new(apic);
 }
 
@@ -37,9 +38,8 @@ pub fn new(ioapic: &mut [u64; 32], apic: &mut [u64; 48])
 fn request_routed(apic: &mut [u64; 48], routed: Option<IoApicInterrupt>)
     ensures { registers.Becomes apic.old apic.new (requested (apic-words.view apic.old) routed) }
 {
-    match routed {
-        None => {}
-        Some(i) => vlapic_requests::request(apic, i.vector, i.level_triggered),
+    if let Some(interrupt) = routed {
+        vlapic_requests::request(apic, interrupt.vector, interrupt.level_triggered);
     }
 }
 
@@ -47,10 +47,9 @@ fn request_routed(apic: &mut [u64; 48], routed: Option<IoApicInterrupt>)
 fn request_resent(apic: &mut [u64; 48], vector: Vector, sent: u32)
     ensures { registers.Becomes apic.old apic.new (resent (apic-words.view apic.old) vector sent) }
 {
-    if sent == 0 {
-        return;
+    if sent != 0 {
+        vlapic_requests::request(apic, vector, true);
     }
-    vlapic_requests::request(apic, vector, true);
 }
 
 fn request_ended(apic: &mut [u64; 48], vector: Vector, eoi: Option<Eoi>)
@@ -67,10 +66,13 @@ fn request_written(apic: &mut [u64; 48], value: u64, written: Result<Written, Re
     ensures { Leaves apic.old apic.old apic.new (written_reply written) (outcome_of (requested_by_write (apic-words.view apic.old) value written) (written_reply written)) }
 {
     match written {
-        Ok(Written::Done) => {}
-        Ok(Written::Sent(i)) => vlapic_requests::request(apic, i.vector, i.level_triggered),
-        Ok(Written::EndedAll(ended)) => request_resent(apic, Vector((value % 0x100) as u8), ended.sent),
-        Err(_) => {}
+        Ok(Written::Sent(interrupt)) => {
+            vlapic_requests::request(apic, interrupt.vector, interrupt.level_triggered)
+        }
+        Ok(Written::EndedAll(ended)) => {
+            request_resent(apic, Vector((value % 0x100) as u8), ended.sent)
+        }
+        Ok(Written::Done) | Err(_) => {}
     }
 }
 
@@ -110,14 +112,14 @@ fn broadcast(ioapic: &mut [u64; 32], apic: &mut [u64; 48], vector: Vector) -> Op
 }
 
 // The guest's EOI.
-#[tactic(auto, using(crate::proofs::Ways::eoi_told, crate::proofs::Ways::eoi_silent))]
+#[tactic(auto, using(crate::proofs::Ways::eoi_silent))]
 pub fn handle_eoi(ioapic: &mut [u64; 32], apic: &mut [u64; 48]) -> Option<Eoi>
     ensures { Gives (Option Eoi) eoi_reply ioapic.old ioapic.new apic.old apic.new result (handle_eoi (board_in ioapic.old apic.old)) }
 {
-    match vlapic_requests::end_highest(apic) {
-        Some(vector) => broadcast(ioapic, apic, vector),
-        None => None,
-    }
+    let Some(vector) = vlapic_requests::end_highest(apic) else {
+        return None;
+    };
+    broadcast(ioapic, apic, vector)
 }
 
 // The guest writes TPR, whatever the I/O APIC holds.
@@ -172,7 +174,11 @@ impl VirtualBoard {
     }
 
     // Updates one input line of the I/O APIC.
-    pub fn set_gsi_level(mut self, gsi: Gsi, asserted: bool) -> (VirtualBoard, Option<IoApicInterrupt>)
+    pub fn set_gsi_level(
+        mut self,
+        gsi: Gsi,
+        asserted: bool,
+    ) -> (VirtualBoard, Option<IoApicInterrupt>)
         ensures { Gives (Option IoApicInterrupt) routed_reply self.ioapic result.0.ioapic self.apic result.0.apic result.1 (set_gsi_level (board_in self.ioapic self.apic) gsi asserted) }
     {
         let answer = set_gsi_level(&mut self.ioapic, &mut self.apic, gsi, asserted);
@@ -204,7 +210,12 @@ impl VirtualBoard {
     }
 
     // Handles an I/O APIC MMIO write.
-    pub fn handle_write(mut self, addr: u64, width: u64, value: u64) -> (VirtualBoard, Result<Written, Refusal>)
+    pub fn handle_write(
+        mut self,
+        addr: u64,
+        width: u64,
+        value: u64,
+    ) -> (VirtualBoard, Result<Written, Refusal>)
         ensures { Gives (Result Written Refusal) written_reply self.ioapic result.0.ioapic self.apic result.0.apic result.1 (handle_write (board_in self.ioapic self.apic) addr width value) }
     {
         let answer = handle_write(&mut self.ioapic, &mut self.apic, addr, width, value);

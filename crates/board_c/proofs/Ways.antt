@@ -1,5 +1,7 @@
 -- A call's answer, its reply and the reply's code: io and l are the words before, io' and l' those after. Assumes nothing.
+use Rattle.types.specs.declared.Refusal.{Refusal}
 use Rattle.types.specs.declared.Vector.{Vector}
+use Rattle.vioapic_entry.specs.declared.IoApicInterrupt.{IoApicInterrupt}
 use Rattle.std.specs.Prelude.{Option, Result}
 use Prim.Native.Nat.{ℕ, ◌%◌, ◌<◌, ◌≤◌}
 use mathlib.Core.Bool.{Bool}
@@ -15,7 +17,6 @@ use Rattle.types.specs.declared.Reply.{Reply}
 use Rattle.types.specs.declared.Reply.TheVariants.{Refused, Nothing}
 use Rattle.reply_code.specs.Lent.{reply_code, is_up}
 use Rattle.vioapic_entry.specs.Answers.{routed_reply}
-use Rattle.vioapic_entry.specs.declared.IoApicInterrupt.{IoApicInterrupt}
 use Rattle.vioapic.specs.Answers.{eoi_reply, written_reply}
 use Rattle.vioapic.specs.declared.Eoi.{Eoi}
 use Rattle.vioapic.specs.declared.Written.{Written}
@@ -24,7 +25,6 @@ use Rattle.board.specs.Board.{Board, board_in, After, set_gsi_level, accept_inte
 use Rattle.board.specs.Promise.{acceptance_reply, Gives, Becomes}
 use Rattle.board.specs.Calls.{replied, outcome, SetGsiLevel, AcceptInterrupt, HandleEoi, WriteTpr, HandleWrite}
 use Rattle.board_c.specs.Calls.{Coded, receive_number}
-use Rattle.types.specs.declared.Refusal.{Refusal}
 
 module _ (io io' l l' : List ℕ) where
   coded : {A : Type 0} (reply : A → Reply) (a : A) (x : Reply) (n : ℕ) (o : After A) → Gives A reply io io' l l' a o → x ≡ reply a → n ≡ reply_code x

@@ -17,7 +17,7 @@ use types::{Gsi, Refusal, Reply, ToReply, Vector};
 pub extern "C" fn sillwander_board_new(ioapic: &mut [u64; 32], apic: &mut [u64; 48]) -> u64
     ensures { Makes ioapic.new apic.new × (result ≡ 0) }
 {
-    board::new(&mut *ioapic, &mut *apic);
+    board::new(ioapic, apic);
     0
 }
 
@@ -30,7 +30,7 @@ pub extern "C" fn sillwander_board_set_gsi_level(
 ) -> u64
     ensures { Coded ioapic.old ioapic.new apic.old apic.new result (outcome (board_in ioapic.old apic.old) (SetGsiLevel (record { 0 = gsi }) (is_up asserted))) }
 {
-    code(board::set_gsi_level(&mut *ioapic, &mut *apic, Gsi(gsi), is_up(asserted)).reply())
+    code(board::set_gsi_level(ioapic, apic, Gsi(gsi), is_up(asserted)).reply())
 }
 
 // Whatever the I/O APIC holds.
@@ -38,14 +38,14 @@ pub extern "C" fn sillwander_board_set_gsi_level(
 pub extern "C" fn sillwander_board_accept_interrupt(apic: &mut [u64; 48]) -> u64
     ensures { (io : List ℕ) → Coded io io apic.old apic.new result (outcome (board_in io apic.old) AcceptInterrupt) }
 {
-    code(board::accept_interrupt(&mut *apic).reply())
+    code(board::accept_interrupt(apic).reply())
 }
 
 #[unsafe(no_mangle)]
 pub extern "C" fn sillwander_board_handle_eoi(ioapic: &mut [u64; 32], apic: &mut [u64; 48]) -> u64
     ensures { Coded ioapic.old ioapic.new apic.old apic.new result (outcome (board_in ioapic.old apic.old) HandleEoi) }
 {
-    code(board::handle_eoi(&mut *ioapic, &mut *apic).reply())
+    code(board::handle_eoi(ioapic, apic).reply())
 }
 
 // Whatever the I/O APIC holds.
@@ -53,7 +53,7 @@ pub extern "C" fn sillwander_board_handle_eoi(ioapic: &mut [u64; 32], apic: &mut
 pub extern "C" fn sillwander_board_write_tpr(apic: &mut [u64; 48], value: u64) -> u64
     ensures { (io : List ℕ) → Coded io io apic.old apic.new result (outcome (board_in io apic.old) (WriteTpr value)) }
 {
-    board::write_tpr(&mut *apic, (value % 0x100) as u32);
+    board::write_tpr(apic, (value % 0x100) as u32);
     0
 }
 
@@ -67,7 +67,7 @@ pub extern "C" fn sillwander_board_handle_write(
 ) -> u64
     ensures { Coded ioapic.old ioapic.new apic.old apic.new result (outcome (board_in ioapic.old apic.old) (HandleWrite addr width value)) }
 {
-    code(board::handle_write(&mut *ioapic, &mut *apic, addr, width, value).reply())
+    code(board::handle_write(ioapic, apic, addr, width, value).reply())
 }
 
 // Whatever the I/O APIC holds.
@@ -82,6 +82,6 @@ pub extern "C" fn sillwander_board_receive(
     if vector > 255 {
         return code(Reply::Refused(Refusal::OutOfRange));
     }
-    board::receive(&mut *apic, Vector(vector as u8), is_up(level_triggered));
+    board::receive(apic, Vector(vector as u8), is_up(level_triggered));
     0
 }

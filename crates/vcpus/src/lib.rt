@@ -52,7 +52,7 @@ pub fn sillwander_vcpus_send(
 }
 
 // 64 vCPUs by value.
-#[derive(Clone, Copy)]
+#[derive(Clone, Copy, Debug, PartialEq, Eq, Hash)]
 pub struct Vcpus {
     pub records: [Vcpu; 64],
 }

@@ -6,7 +6,7 @@ use native.Mathlib.Omega.{arith}
 use mathlib.Core.List.{List, [], ◌∷◌}
 use lib.Dec.{eqb, ltb, leb}
 use lib.ListN.{length, get_or}
-use Rattle.std.specs.Prelude.{Some, None}
+use Rattle.std.specs.Prelude.{Some, None, Result}
 use lib.Pow.{pow_mono}
 use native.Mathlib.Nat.{lt_of_lt_of_le}
 use borrow.Author.Tests.{ltb-true, ltb-false, leb-false, lt-ltb, le-ltb}
@@ -46,7 +46,7 @@ taken : (icr : Bool) (c : Command) (r : Vcpu) → taking (cond icr (Some c) None
 taken true c r = refl
 taken false c r = refl
 
-changed_each : (s : VcpuId) (icr : Bool) (c : Command) (answer : IcrAnswer) (i : ℕ) (xs : List Vcpu)
+changed_each : (s : VcpuId) (icr : Bool) (c : Command) (answer : Result IcrAnswer Refusal) (i : ℕ) (xs : List Vcpu)
     → changed_all (record { sender = s; stores = cond icr (Some c) None; answer = answer }) i xs ≡ each_from (becomes s.0 icr c answer) i xs
 unfolding changed_by becomes
 changed_each s icr c answer i [] = refl

@@ -2,8 +2,9 @@
 -- Intel SDM volume 3, the APIC chapter: interrupt command register; determining IPI destination (physical; logical, flat and cluster; broadcast; shorthands); LDR
 -- and DFR; error handling (send illegal vector); and in x2APIC mode: ICR operation, logical destinations derived from the id, SELF IPI register.
 -- Here a logical destination asks each vCPU's own LDR and DFR, so that D-65 and D-66 aren't departures. A vCPU's id is its place among the records.
-use Rattle.std.specs.Prelude.{ℕ, suc, ◌+◌, ◌/◌, ◌%◌, Bool, true, false, not, cond, ◌&&◌, ◌||◌, List, [], ◌∷◌, eqb, ltb, leb, length, get_or}
+use Rattle.std.specs.Prelude.{ℕ, suc, ◌+◌, ◌/◌, ◌%◌, Bool, true, false, not, cond, ◌&&◌, ◌||◌, List, [], ◌∷◌, eqb, ltb, leb, length, get_or, Result, Ok, Err}
 use Rattle.utils.specs.Set.{bit, set_of}
+use Rattle.types.specs.declared.Refusal.{Refusal}
 use Rattle.types.specs.declared.Refusal.TheVariants.{InvalidRegister, InvalidDelivery, OutOfRange}
 use Rattle.types.specs.declared.Vector.{Vector}
 use Rattle.types.specs.declared.Reply.{Reply}
@@ -11,7 +12,8 @@ use Rattle.types.specs.declared.Reply.TheVariants as reply
 use Rattle.types.specs.Reply.{Outcome, outcome_of}
 use Rattle.vlapic_regs.specs.Register.{illegal_noted}
 use Rattle.vlapic_icr.specs.declared.IcrAnswer.{IcrAnswer}
-use Rattle.vlapic_icr.specs.declared.IcrAnswer.TheVariants.{Nothing, SendIllegalVector, Ipi, Refused}
+use Rattle.vlapic_icr.specs.declared.IcrAnswer.TheVariants.{Nothing, SendIllegalVector, Ipi}
+use Rattle.vlapic_icr.specs.Kinds.{mode_number}
 use Rattle.vlapic_icr.specs.Fields.{idle, icr_width, icr_high, is_reserved_mode, is_illegal_vector, is_invalid_shorthand}
 use Rattle.vlapic_icr.specs.Icr.{send}
 use Rattle.vlapic.specs.Regs.{with_pending, with_command}
@@ -79,14 +81,14 @@ any_unmatchable xs active = any (length xs) (λ i. is_unmatchable active i (get_
 
 -- what becomes of the command, in this order: a reserved mode, an illegal vector, a shorthand that doesn't go with the mode, a destination above 63, a reserved model
 -- among those that it would be held against, and then it is sent
-unfoldable pub answer_to : List Vcpu → ℕ → ℕ → Command → IcrAnswer
+unfoldable pub answer_to : List Vcpu → ℕ → ℕ → Command → Result IcrAnswer Refusal
 answer_to xs sender active c =
-    cond (is_reserved_mode c.icr_lo) (Refused InvalidDelivery)
-    (cond (is_illegal_vector c.icr_lo) SendIllegalVector
-    (cond (is_invalid_shorthand c.icr_lo) Nothing
-    (cond (is_above63 (destination c)) (Refused OutOfRange)
-    (cond (is_logical_dest (destination c) && any_unmatchable xs active) (Refused InvalidDelivery)
-    (send c.icr_lo (targets xs sender active c))))))
+    cond (is_reserved_mode c.icr_lo) (Err InvalidDelivery)
+    (cond (is_illegal_vector c.icr_lo) (Ok SendIllegalVector)
+    (cond (is_invalid_shorthand c.icr_lo) (Ok Nothing)
+    (cond (is_above63 (destination c)) (Err OutOfRange)
+    (cond (is_logical_dest (destination c) && any_unmatchable xs active) (Err InvalidDelivery)
+    (Ok (send c.icr_lo (targets xs sender active c)))))))
 
 -- ---- what it leaves in a record
 
@@ -107,14 +109,14 @@ abbrev pub noted : Vcpu → Vcpu
 noted r = with_regs r (with_pending r.regs (illegal_noted r.regs.esr_pending))
 
 -- the vCPU at place i, by the answer: the sender notes an illegal vector among its errors; those in the mask receive what is sent
-abbrev pub answering : IcrAnswer → Bool → ℕ → Vcpu → Vcpu
-answering Nothing own i r = r
-answering SendIllegalVector own i r = cond own (noted r) r
-answering (Ipi kind vector mask) own i r = cond (bit mask i) (received kind vector r) r
-answering (Refused why) own i r = r
+abbrev pub answering : Result IcrAnswer Refusal → Bool → ℕ → Vcpu → Vcpu
+answering (Ok Nothing) own i r = r
+answering (Ok SendIllegalVector) own i r = cond own (noted r) r
+answering (Ok (Ipi ipi)) own i r = cond (bit ipi.mask i) (received (mode_number ipi.kind) ipi.vector r) r
+answering (Err why) own i r = r
 
 -- the vCPU at place i after the command c of `sender`
-unfoldable pub becomes : ℕ → Bool → Command → IcrAnswer → ℕ → Vcpu → Vcpu
+unfoldable pub becomes : ℕ → Bool → Command → Result IcrAnswer Refusal → ℕ → Vcpu → Vcpu
 becomes sender icr c answer i r = answering answer (eqb i sender) i (cond (eqb i sender) (stored icr c r) r)
 
 -- f at every place, from i on
@@ -132,11 +134,11 @@ is_outside count a = ltb 64 count || leb count a.sender.0
 abbrev pub ask_of : ℕ → ℕ → ℕ → ℕ → ℕ → Ask
 ask_of sender offset value width active = record { sender = record { 0 = sender }; offset = offset; value = value; width = width; active = active }
 
-abbrev pub ipi_reply : IcrAnswer → Reply
-ipi_reply Nothing = reply.Nothing
-ipi_reply SendIllegalVector = reply.Nothing
-ipi_reply (Ipi kind vector mask) = reply.Three kind vector.0 mask
-ipi_reply (Refused why) = reply.Refused why
+abbrev pub ipi_reply : Result IcrAnswer Refusal → Reply
+ipi_reply (Ok Nothing) = reply.Nothing
+ipi_reply (Ok SendIllegalVector) = reply.Nothing
+ipi_reply (Ok (Ipi ipi)) = reply.Three (mode_number ipi.kind) ipi.vector.0 ipi.mask
+ipi_reply (Err why) = reply.Refused why
 
 abbrev pub sender : List Vcpu → Ask → Vcpu
 sender xs a = get_or xs a.sender.0 new_vcpu
@@ -144,7 +146,7 @@ sender xs a = get_or xs a.sender.0 new_vcpu
 abbrev pub command : List Vcpu → Ask → Command
 command xs a = command_for a (icr_of (sender xs a))
 
-abbrev pub answer : List Vcpu → Ask → IcrAnswer
+abbrev pub answer : List Vcpu → Ask → Result IcrAnswer Refusal
 answer xs a = answer_to xs a.sender.0 a.active (command xs a)
 
 abbrev pub carried_out : List Vcpu → Ask → Outcome (List Vcpu)

@@ -1,6 +1,6 @@
 -- What the steps of a call do: two passes over the records look, a third one delivers. The first pass finds the sender's mode and ICR, from which the command follows; the
 -- second finds whom that reaches.
-use Rattle.std.specs.Prelude.{ℕ, suc, Bool, true, false, not, cond, ◌&&◌, ◌||◌, List, [], ◌∷◌, eqb, ltb, Option, Some, None}
+use Rattle.std.specs.Prelude.{ℕ, suc, Bool, true, false, not, cond, ◌&&◌, ◌||◌, List, [], ◌∷◌, eqb, ltb, Option, Some, None, Result, Ok, Err}
 use Rattle.utils.specs.Set.{with}
 use Rattle.types.specs.declared.Refusal.{Refusal}
 use Rattle.types.specs.declared.Refusal.TheVariants.{InvalidRegister, InvalidDelivery, OutOfRange}
@@ -9,7 +9,7 @@ use Rattle.types.specs.declared.Reply.TheVariants as reply
 use Rattle.types.specs.Reply.{Outcome}
 use Rattle.reply_code.specs.Lent.{reply_code}
 use Rattle.vlapic_icr.specs.declared.IcrAnswer.{IcrAnswer}
-use Rattle.vlapic_icr.specs.declared.IcrAnswer.TheVariants.{Nothing, SendIllegalVector, Refused}
+use Rattle.vlapic_icr.specs.declared.IcrAnswer.TheVariants.{Nothing, SendIllegalVector}
 use Rattle.vlapic_icr.specs.declared.DestMatch.{DestMatch}
 use Rattle.vlapic_icr.specs.declared.DestMatch.TheVariants.{Matched, Unmatched, ReservedModel}
 use Rattle.vlapic_icr.specs.Fields.{shorthand, is_reserved_mode, is_illegal_vector, is_invalid_shorthand}
@@ -73,17 +73,17 @@ is_matched Matched = true
 is_matched Unmatched = false
 is_matched ReservedModel = false
 
-abbrev pub decided_answer : Plan → IcrAnswer
+abbrev pub decided_answer : Plan → Result IcrAnswer Refusal
 decided_answer p =
-    cond (is_reserved_mode p.command.icr_lo) (Refused InvalidDelivery)
-    (cond (is_illegal_vector p.command.icr_lo) SendIllegalVector
-    (cond (is_invalid_shorthand p.command.icr_lo) Nothing
-    (cond (is_above63 (destination p.command)) (Refused OutOfRange)
-    (cond (is_logical_dest (destination p.command) && p.reserved) (Refused InvalidDelivery)
-    (send p.command.icr_lo p.mask)))))
+    cond (is_reserved_mode p.command.icr_lo) (Err InvalidDelivery)
+    (cond (is_illegal_vector p.command.icr_lo) (Ok SendIllegalVector)
+    (cond (is_invalid_shorthand p.command.icr_lo) (Ok Nothing)
+    (cond (is_above63 (destination p.command)) (Err OutOfRange)
+    (cond (is_logical_dest (destination p.command) && p.reserved) (Err InvalidDelivery)
+    (Ok (send p.command.icr_lo p.mask))))))
 
 abbrev pub refusing : Plan → Refusal → Effect
-refusing p why = record { sender = p.ask.sender; stores = None; answer = Refused why }
+refusing p why = record { sender = p.ask.sender; stores = None; answer = Err why }
 
 unfoldable pub decided : Plan → Effect
 decided p =

@@ -6,7 +6,7 @@
 ghost use Rattle.std.specs.Prelude.{◌≡◌, false, cond, ◌&&◌, eqb};
 ghost use Rattle.utils.specs.Set.{bit};
 ghost use Rattle.vlapic_requests.specs.Requests.{request};
-ghost use Rattle.vlapic_icr.specs.Fields.{icr_width};
+ghost use Rattle.vlapic_icr.specs.Kinds.{mode_number};
 ghost use Rattle.vlapic_theorems.specs.Targets.{field, is_target, is_logical_target, asks_active, cluster16};
 ghost use Rattle.vlapic_theorems.specs.Numbers.{is_above63};
 ghost use Rattle.vcpus_ipi.specs.Vcpu.{with_regs, with_startup};
@@ -15,13 +15,15 @@ ghost use Rattle.vcpus_ipi.specs.Steps.{begun, joined, seen_by, asked, is_named,
 
 use reply_code::code;
 use types::{Refusal, Reply, VcpuId, Vector};
+use utils::Set;
 use vlapic::{VirtualApicRegs, consts};
-use vlapic_icr::{DestMatch, IcrAnswer, InterruptCommand, fields};
+use vlapic_icr::fields::{self, DeliveryMode, DestinationShorthand};
+use vlapic_icr::{DestMatch, IcrAnswer, InterruptCommand, Ipi};
 use vlapic_regs::{register, vectors};
 
 // One vCPU: the registers of its local APIC, and what waits for the processor. Laid out in memory as it stands here (include/sillwander.h).
 #[repr(C)]
-#[derive(Clone, Copy)]
+#[derive(Clone, Copy, Debug, PartialEq, Eq, Hash)]
 pub struct Vcpu {
     pub regs: VirtualApicRegs,
     // An NMI, an INIT and a start-up IPI wait; the vector of the last start-up IPI.
@@ -32,7 +34,7 @@ pub struct Vcpu {
 }
 
 // A write of a register that sends: by which vCPU, where, what and how wide; and the vCPUs that are active.
-#[derive(Clone, Copy)]
+#[derive(Clone, Copy, Debug, PartialEq, Eq, Hash)]
 pub struct Ask {
     pub sender: VcpuId,
     pub offset: u64,
@@ -42,7 +44,7 @@ pub struct Ask {
 }
 
 // A mode, and the words of an ICR.
-#[derive(Clone, Copy)]
+#[derive(Clone, Copy, Debug, PartialEq, Eq, Hash)]
 pub struct Command {
     pub x2apic: bool,
     pub icr_lo: u32,
@@ -50,7 +52,7 @@ pub struct Command {
 }
 
 // What a pass over the records looks for, and what it found so far.
-#[derive(Clone, Copy)]
+#[derive(Clone, Copy, Debug, PartialEq, Eq, Hash)]
 pub struct Plan {
     pub count: usize,
     pub ask: Ask,
@@ -65,16 +67,16 @@ pub struct Plan {
 
 // What is done to the records: the sender's ICR takes the words of the command that `stores` has, if any, and the answer
 // is carried out.
-#[derive(Clone, Copy)]
+#[derive(Clone, Copy, Debug, PartialEq, Eq, Hash)]
 pub struct Effect {
     pub sender: VcpuId,
     pub stores: Option<Command>,
-    pub answer: IcrAnswer,
+    pub answer: Result<IcrAnswer, Refusal>,
 }
 
 // What the caller is answered: the code of the reply, in which an IPI has two values, kind and vector, and the mask of those whom it was sent to.
 #[repr(C)]
-#[derive(Clone, Copy)]
+#[derive(Clone, Copy, Debug, PartialEq, Eq, Hash)]
 pub struct Sent {
     pub code: u64,
     pub mask: u64,
@@ -84,7 +86,7 @@ pub struct Sent {
 const TO_SELF: u32 = 0x40000;
 
 // A vCPU at its place among the records, which is its id.
-#[derive(Clone, Copy)]
+#[derive(Clone, Copy, Debug, PartialEq, Eq, Hash)]
 struct Placed {
     vcpu: Vcpu,
     place: usize,
@@ -95,14 +97,14 @@ struct Placed {
 fn has(set: u64, place: usize) -> bool
     ensures { result ≡ bit set place }
 {
-    place < 64 && utils::set64::has(set, place as u64)
+    place < 64 && set.has(place as u32)
 }
 
 fn joined(set: u64, place: usize) -> u64
     ensures { result ≡ joined set place }
 {
     if place < 64 {
-        return utils::set64::with(set, place as u64);
+        return set.with(place as u32);
     }
     set
 }
@@ -121,12 +123,6 @@ impl Vcpu {
     }
 }
 
-fn is_width(x2apic: bool, width: u64) -> bool
-    ensures { result ≡ icr_width x2apic width }
-{
-    x2apic == (width == 8)
-}
-
 impl Ask {
     fn is_icr(self) -> bool
         ensures { result ≡ is_icr self }
@@ -138,7 +134,7 @@ impl Ask {
         ensures { result ≡ is_sending self x2apic }
     {
         if self.is_icr() {
-            return is_width(x2apic, self.width);
+            return fields::is_icr_width(x2apic, self.width);
         }
         self.offset == consts::SELF_IPI && x2apic
     }
@@ -172,29 +168,27 @@ impl Command {
     fn dest(self) -> u32
         ensures { result ≡ field self.x2apic self.icr_hi }
     {
-        if self.x2apic {
-            return self.icr_hi;
-        }
-        self.icr_hi / 0x1000000
+        fields::destination(self.x2apic, self.icr_hi)
     }
 
     fn is_broadcast(self) -> bool
         ensures { result ≡ eqb (field self.x2apic self.icr_hi) (cond self.x2apic 0xffffffff 0xff) }
     {
-        let everybody = if self.x2apic { 0xffffffff } else { 0xff };
-        self.dest() == everybody
+        fields::is_broadcast(self.x2apic, self.icr_hi)
     }
 
     fn is_target(self, sender: VcpuId, to: Placed) -> bool
         ensures { result ≡ is_target sender.0 (destination self) (receiver to.place to.vcpu) }
     {
         match fields::shorthand(self.icr_lo) {
-            1 => to.place == sender.0,
-            2 => true,
-            3 => to.place != sender.0,
-            _ if self.is_broadcast() => true,
-            _ if fields::is_logical(self.icr_lo) => to.is_logical_target(self.dest()),
-            _ => to.place == self.dest() as usize,
+            DestinationShorthand::OnlySelf => to.place == sender.0,
+            DestinationShorthand::AllIncludingSelf => true,
+            DestinationShorthand::AllExcludingSelf => to.place != sender.0,
+            DestinationShorthand::NoShorthand if self.is_broadcast() => true,
+            DestinationShorthand::NoShorthand if fields::is_logical(self.icr_lo) => {
+                to.is_logical_target(self.dest())
+            }
+            DestinationShorthand::NoShorthand => to.place == self.dest() as usize,
         }
     }
 
@@ -203,9 +197,11 @@ impl Command {
         ensures { result ≡ asks_active (destination self) }
     {
         match fields::shorthand(self.icr_lo) {
-            1 => false,
-            2 | 3 => true,
-            _ => self.is_broadcast() || fields::is_logical(self.icr_lo),
+            DestinationShorthand::OnlySelf => false,
+            DestinationShorthand::AllIncludingSelf | DestinationShorthand::AllExcludingSelf => true,
+            DestinationShorthand::NoShorthand => {
+                self.is_broadcast() || fields::is_logical(self.icr_lo)
+            }
         }
     }
 
@@ -225,7 +221,7 @@ impl Command {
     fn is_named(self) -> bool
         ensures { result ≡ is_named self }
     {
-        fields::shorthand(self.icr_lo) != 0 || self.is_broadcast()
+        fields::shorthand(self.icr_lo) != DestinationShorthand::NoShorthand || self.is_broadcast()
     }
 
     #[tactic(auto, unfolding(crate::specs::Ipi::is_hit))]
@@ -242,13 +238,13 @@ impl Command {
 fn is_in_cluster16(id: usize, dest: u32) -> bool
     ensures { result ≡ cluster16 id dest }
 {
-    id / 16 % 0x10000 == (dest / 0x10000) as usize && utils::set32::has(dest, (id % 16) as u32)
+    id / 16 % 0x10000 == (dest / 0x10000) as usize && dest.has((id % 16) as u32)
 }
 
 fn is_matched(matched: DestMatch) -> bool
     ensures { result ≡ is_matched matched }
 {
-    matches!(matched, DestMatch::Matched)
+    matched == DestMatch::Matched
 }
 
 impl Placed {
@@ -282,14 +278,12 @@ impl Placed {
     }
 
     // What the answer leaves of it: the sender notes an illegal vector, and those in the mask receive what is sent.
-    fn answering(self, answer: IcrAnswer, sender: VcpuId) -> Vcpu
+    fn answering(self, answer: Result<IcrAnswer, Refusal>, sender: VcpuId) -> Vcpu
         ensures { result ≡ answering answer (eqb self.place sender.0) self.place self.vcpu }
     {
         match answer {
-            IcrAnswer::SendIllegalVector if self.place == sender.0 => self.vcpu.noted(),
-            IcrAnswer::Ipi { kind, vector, mask } if has(mask, self.place) => {
-                self.vcpu.received(kind, vector)
-            }
+            Ok(IcrAnswer::SendIllegalVector) if self.place == sender.0 => self.vcpu.noted(),
+            Ok(IcrAnswer::Ipi(ipi)) if has(ipi.mask, self.place) => self.vcpu.received(ipi),
             _ => self.vcpu,
         }
     }
@@ -317,20 +311,20 @@ impl Vcpu {
     }
 
     #[tactic(auto, unfolding(crate::specs::Ipi::received))]
-    fn received(mut self, kind: u8, vector: Vector) -> Vcpu
-        ensures { result ≡ received kind vector self }
+    fn received(mut self, ipi: Ipi) -> Vcpu
+        ensures { result ≡ received (mode_number ipi.kind) ipi.vector self }
     {
-        match kind {
-            0 => self.requested(vector),
-            4 => {
+        match ipi.kind {
+            DeliveryMode::Fixed => self.requested(ipi.vector),
+            DeliveryMode::Nmi => {
                 self.nmi = true;
                 self
             }
-            5 => {
+            DeliveryMode::Init => {
                 self.init = true;
                 self
             }
-            _ => self.with_startup(vector),
+            _ => self.with_startup(ipi.vector),
         }
     }
 
@@ -429,26 +423,26 @@ impl Plan {
         self.command.is_logical_dest() && self.reserved
     }
 
-    fn answer(self) -> IcrAnswer
+    fn answer(self) -> Result<IcrAnswer, Refusal>
         ensures { result ≡ decided_answer self }
     {
         let lo = self.command.icr_lo;
         if fields::is_reserved_mode(lo) {
-            return IcrAnswer::Refused(Refusal::InvalidDelivery);
+            return Err(Refusal::InvalidDelivery);
         }
         if fields::is_illegal_vector(lo) {
-            return IcrAnswer::SendIllegalVector;
+            return Ok(IcrAnswer::SendIllegalVector);
         }
         if fields::is_invalid_shorthand(lo) {
-            return IcrAnswer::Nothing;
+            return Ok(IcrAnswer::Nothing);
         }
         if self.command.is_above_63() {
-            return IcrAnswer::Refused(Refusal::OutOfRange);
+            return Err(Refusal::OutOfRange);
         }
         if self.is_barred() {
-            return IcrAnswer::Refused(Refusal::InvalidDelivery);
+            return Err(Refusal::InvalidDelivery);
         }
-        vlapic_icr::send(lo, self.mask)
+        Ok(vlapic_icr::send(lo, self.mask))
     }
 
     fn refuse(self, why: Refusal) -> Effect
@@ -457,7 +451,7 @@ impl Plan {
         Effect {
             sender: self.ask.sender,
             stores: None,
-            answer: IcrAnswer::Refused(why),
+            answer: Err(why),
         }
     }
 }
@@ -511,11 +505,12 @@ pub fn answer(effect: Effect) -> Sent
     ensures { result ≡ answered effect }
 {
     let (reply, mask) = match effect.answer {
-        IcrAnswer::Nothing | IcrAnswer::SendIllegalVector => (Reply::Nothing, 0),
-        IcrAnswer::Ipi { kind, vector, mask } => {
-            (Reply::Two(u64::from(kind), u64::from(vector.0)), mask)
+        Ok(IcrAnswer::Nothing | IcrAnswer::SendIllegalVector) => (Reply::Nothing, 0),
+        Ok(IcrAnswer::Ipi(ipi)) => {
+            let kind = u64::from(u8::from(ipi.kind));
+            (Reply::Two(kind, u64::from(ipi.vector.0)), ipi.mask)
         }
-        IcrAnswer::Refused(why) => (Reply::Refused(why), 0),
+        Err(why) => (Reply::Refused(why), 0),
     };
     Sent {
         code: code(reply),

@@ -1,15 +1,16 @@
 -- The statements of specs/Statements.antt. Assumes nothing.
 use mathlib.Core.Path.{◌≡◌, refl, sym, ap, ap₂, ◌∙◌}
-use mathlib.Core.Bool.{Bool, true, false, not, cond, ◌&&◌, ◌||◌}
+use mathlib.Core.Bool.{Bool, true, false, not, cond, ◌&&◌}
 use Prim.Native.Nat.{ℕ, zero, suc, ◌+◌, ◌/◌, ◌%◌, ◌^◌, ◌<◌, ◌≤◌}
 use native.Mathlib.Nat.{mod-lt}
 use native.Mathlib.Omega.{arith}
 use mathlib.Core.List.{List, [], ◌∷◌}
+use Rattle.std.specs.Prelude.{Result, Ok, Err}
 use lib.Dec.{eqb, ltb, leb, lit<}
 use lib.ListN.{length, get_or}
 use borrow.Author.Tests.{eqb-true, eq-eqb, ne_eqb, ltb-true, ltb-false, leb-false, le-ltb}
 use Rattle.utils.specs.Set.{bit}
-use Rattle.utils.proofs.Bools.{never, both, not_is, and_true, and-false, and_one, or_false}
+use Rattle.utils.proofs.Bools.{both, not_is, and_true, and-false, and_one, or_false}
 use Rattle.utils.proofs.Bits.{bit_power}
 use Rattle.utils.proofs.Laws.{bit_above, bit_set_of, set_of_lt}
 use Rattle.types.specs.declared.Refusal.{Refusal}
@@ -19,7 +20,9 @@ use Rattle.types.specs.declared.Reply.TheVariants as reply
 use Rattle.types.specs.Reply.{Outcome, outcome_of}
 use Rattle.vlapic_regs.specs.Register.{illegal_noted}
 use Rattle.vlapic_icr.specs.declared.IcrAnswer.{IcrAnswer}
-use Rattle.vlapic_icr.specs.declared.IcrAnswer.TheVariants.{Nothing, SendIllegalVector, Ipi, Refused}
+use Rattle.vlapic_icr.specs.declared.IcrAnswer.TheVariants.{Nothing, SendIllegalVector, Ipi}
+use Rattle.vlapic_icr.proofs.Ipis.{mode_small}
+use Rattle.vlapic_icr.specs.Kinds.{mode_number, mode_of}
 use Rattle.vlapic_icr.specs.Fields.{is_reserved_mode, is_illegal_vector, is_invalid_shorthand, is_unsent}
 use Rattle.vlapic_icr.specs.Icr.{send}
 use Rattle.vlapic_theorems.specs.Targets.{Logical}
@@ -94,13 +97,13 @@ same_count xs a = go (send_ipi xs a) (way xs a)
     go o (carried e s) = each_length (becomes a.sender.0 (is_icr a) (command xs a) (answer xs a)) 0 xs
 
 -- who isn't in the mask is left alone, and who is receives
-spared : (ans : IcrAnswer) (i : ℕ) (r : Vcpu) → bit (mask_of (ipi_reply ans)) i ≡ false → answering ans false i r ≡ r
-spared Nothing i r e = refl
-spared SendIllegalVector i r e = refl
-spared (Ipi kind vector mask) i r e = rw e
-spared (Refused why) i r e = refl
+spared : (ans : Result IcrAnswer Refusal) (i : ℕ) (r : Vcpu) → bit (mask_of (ipi_reply ans)) i ≡ false → answering ans false i r ≡ r
+spared (Ok Nothing) i r e = refl
+spared (Ok SendIllegalVector) i r e = refl
+spared (Ok (Ipi ipi)) i r e = rw e
+spared (Err why) i r e = refl
 
-other_becomes : (s : ℕ) (icr : Bool) (c : Command) (ans : IcrAnswer) (i : ℕ) (r : Vcpu) → (i ≡ s → ⊥) → becomes s icr c ans i r ≡ answering ans false i r
+other_becomes : (s : ℕ) (icr : Bool) (c : Command) (ans : Result IcrAnswer Refusal) (i : ℕ) (r : Vcpu) → (i ≡ s → ⊥) → becomes s icr c ans i r ≡ answering ans false i r
 unfolding becomes
 other_becomes s icr c ans i r h = rw (ne_eqb i s h)
 
@@ -118,16 +121,16 @@ untouched xs a i l h e = go (send_ipi xs a) (way xs a) e
         carried_at xs a i l ∙ other_becomes a.sender.0 (is_icr a) (command xs a) (answer xs a) i (get_or xs i new_vcpu) h ∙ spared (answer xs a) i (get_or xs i new_vcpu) b
 
 -- whoever is in the mask of an IPI received it
-got : (ans : IcrAnswer) (own : Bool) (kind vector mask i : ℕ) (r : Vcpu) → bit mask i ≡ true → ipi_reply ans ≡ reply.Three kind vector mask
+got : (ans : Result IcrAnswer Refusal) (own : Bool) (kind vector mask i : ℕ) (r : Vcpu) → bit mask i ≡ true → ipi_reply ans ≡ reply.Three kind vector mask
     → answering ans own i r ≡ received kind (record { 0 = vector }) r
-got Nothing own kind vector mask i r b q = let z : ◌≡◌ {A = ℕ} 0 1 = cc in absurd (omega arith)
-got SendIllegalVector own kind vector mask i r b q = let z : ◌≡◌ {A = ℕ} 0 1 = cc in absurd (omega arith)
-got (Ipi k v m) own kind vector mask i r b q =
-    let km : k ≡ kind = cc in
-    let vm : v.0 ≡ vector = cc in
-    let mm : m ≡ mask = cc in
+got (Ok Nothing) own kind vector mask i r b q = let z : ◌≡◌ {A = ℕ} 0 1 = cc in absurd (omega arith)
+got (Ok SendIllegalVector) own kind vector mask i r b q = let z : ◌≡◌ {A = ℕ} 0 1 = cc in absurd (omega arith)
+got (Ok (Ipi ipi)) own kind vector mask i r b q =
+    let km : mode_number ipi.kind ≡ kind = cc in
+    let vm : ipi.vector.0 ≡ vector = cc in
+    let mm : ipi.mask ≡ mask = cc in
     rw (mm, b, km, ← vm)
-got (Refused why) own kind vector mask i r b q = let z : ◌≡◌ {A = ℕ} 0 1 = cc in absurd (omega arith)
+got (Err why) own kind vector mask i r b q = let z : ◌≡◌ {A = ℕ} 0 1 = cc in absurd (omega arith)
 
 pub delivered : Delivered
 delivered xs a kind vector mask i e l h b = go (send_ipi xs a) (way xs a) e
@@ -146,7 +149,7 @@ each_id : (f : ℕ → Vcpu → Vcpu) → ((i : ℕ) (r : Vcpu) → f i r ≡ r)
 each_id f h i [] = refl
 each_id f h i (r ∷ rs) = rw (h i r, each_id f h (suc i) rs)
 
-refused_becomes : (s : ℕ) (icr : Bool) (c : Command) (why : Refusal) (i : ℕ) (r : Vcpu) → becomes s icr c (Refused why) i r ≡ cond (eqb i s) (stored icr c r) r
+refused_becomes : (s : ℕ) (icr : Bool) (c : Command) (why : Refusal) (i : ℕ) (r : Vcpu) → becomes s icr c (Err why) i r ≡ cond (eqb i s) (stored icr c r) r
 unfolding becomes
 refused_becomes s icr c why i r = refl
 
@@ -154,13 +157,13 @@ either_way : (b : Bool) (r : Vcpu) → cond b r r ≡ r
 either_way true r = refl
 either_way false r = refl
 
-refused_each : (xs : List Vcpu) (s : ℕ) (icr : Bool) (c : Command) (why : Refusal) (ans : IcrAnswer) → ipi_reply ans ≡ reply.Refused why
+refused_each : (xs : List Vcpu) (s : ℕ) (icr : Bool) (c : Command) (why : Refusal) (ans : Result IcrAnswer Refusal) → ipi_reply ans ≡ reply.Refused why
     → each_from (becomes s icr c ans) 0 xs ≡ cond icr (each_from (λ i r. cond (eqb i s) (stored true c r) r) 0 xs) xs
-refused_each xs s icr c why Nothing e = let z : ◌≡◌ {A = ℕ} 0 1 = cc in absurd (omega arith)
-refused_each xs s icr c why SendIllegalVector e = let z : ◌≡◌ {A = ℕ} 0 1 = cc in absurd (omega arith)
-refused_each xs s icr c why (Ipi k v m) e = let z : ◌≡◌ {A = ℕ} 0 1 = cc in absurd (omega arith)
-refused_each xs s true c why (Refused w) e = each_same (becomes s true c (Refused w)) (λ i r. cond (eqb i s) (stored true c r) r) (λ i r. refused_becomes s true c w i r) 0 xs
-refused_each xs s false c why (Refused w) e = each_id (becomes s false c (Refused w)) (λ i r. refused_becomes s false c w i r ∙ either_way (eqb i s) r) 0 xs
+refused_each xs s icr c why (Ok Nothing) e = let z : ◌≡◌ {A = ℕ} 0 1 = cc in absurd (omega arith)
+refused_each xs s icr c why (Ok SendIllegalVector) e = let z : ◌≡◌ {A = ℕ} 0 1 = cc in absurd (omega arith)
+refused_each xs s icr c why (Ok (Ipi ipi)) e = let z : ◌≡◌ {A = ℕ} 0 1 = cc in absurd (omega arith)
+refused_each xs s true c why (Err w) e = each_same (becomes s true c (Err w)) (λ i r. cond (eqb i s) (stored true c r) r) (λ i r. refused_becomes s true c w i r) 0 xs
+refused_each xs s false c why (Err w) e = each_id (becomes s false c (Err w)) (λ i r. refused_becomes s false c w i r ∙ either_way (eqb i s) r) 0 xs
 
 pub refused_kept : RefusedKept
 refused_kept xs a why e = go (send_ipi xs a) (way xs a) e
@@ -173,18 +176,18 @@ refused_kept xs a why e = go (send_ipi xs a) (way xs a) e
 
 -- ---- the sender's own record
 
-own_words : (ans : IcrAnswer) (icr : Bool) (c : Command) (s : ℕ) (r : Vcpu) → bit (mask_of (ipi_reply ans)) s ≡ false
+own_words : (ans : Result IcrAnswer Refusal) (icr : Bool) (c : Command) (s : ℕ) (r : Vcpu) → bit (mask_of (ipi_reply ans)) s ≡ false
     → (lo : ℕ) × ((hi : ℕ) × ((errors : ℕ) × (answering ans true s (stored icr c r) ≡ with_regs r (with_pending (with_command r.regs lo hi) errors))))
-own_words Nothing true c s r e = (c.icr_lo, (c.icr_hi, (r.regs.esr_pending, refl)))
-own_words Nothing false c s r e = (r.regs.icr_lo, (r.regs.icr_hi, (r.regs.esr_pending, refl)))
-own_words SendIllegalVector true c s r e = (c.icr_lo, (c.icr_hi, (illegal_noted r.regs.esr_pending, refl)))
-own_words SendIllegalVector false c s r e = (r.regs.icr_lo, (r.regs.icr_hi, (illegal_noted r.regs.esr_pending, refl)))
-own_words (Ipi kind vector mask) true c s r e = (c.icr_lo, (c.icr_hi, (r.regs.esr_pending, rw e)))
-own_words (Ipi kind vector mask) false c s r e = (r.regs.icr_lo, (r.regs.icr_hi, (r.regs.esr_pending, rw e)))
-own_words (Refused why) true c s r e = (c.icr_lo, (c.icr_hi, (r.regs.esr_pending, refl)))
-own_words (Refused why) false c s r e = (r.regs.icr_lo, (r.regs.icr_hi, (r.regs.esr_pending, refl)))
+own_words (Ok Nothing) true c s r e = (c.icr_lo, (c.icr_hi, (r.regs.esr_pending, refl)))
+own_words (Ok Nothing) false c s r e = (r.regs.icr_lo, (r.regs.icr_hi, (r.regs.esr_pending, refl)))
+own_words (Ok SendIllegalVector) true c s r e = (c.icr_lo, (c.icr_hi, (illegal_noted r.regs.esr_pending, refl)))
+own_words (Ok SendIllegalVector) false c s r e = (r.regs.icr_lo, (r.regs.icr_hi, (illegal_noted r.regs.esr_pending, refl)))
+own_words (Ok (Ipi ipi)) true c s r e = (c.icr_lo, (c.icr_hi, (r.regs.esr_pending, rw e)))
+own_words (Ok (Ipi ipi)) false c s r e = (r.regs.icr_lo, (r.regs.icr_hi, (r.regs.esr_pending, rw e)))
+own_words (Err why) true c s r e = (c.icr_lo, (c.icr_hi, (r.regs.esr_pending, refl)))
+own_words (Err why) false c s r e = (r.regs.icr_lo, (r.regs.icr_hi, (r.regs.esr_pending, refl)))
 
-own_becomes : (s : ℕ) (icr : Bool) (c : Command) (ans : IcrAnswer) (r : Vcpu) → becomes s icr c ans s r ≡ answering ans true s (stored icr c r)
+own_becomes : (s : ℕ) (icr : Bool) (c : Command) (ans : Result IcrAnswer Refusal) (r : Vcpu) → becomes s icr c ans s r ≡ answering ans true s (stored icr c r)
 unfolding becomes
 own_becomes s icr c ans r = rw (eq-eqb s s refl)
 
@@ -230,18 +233,18 @@ module _ (xs : List Vcpu) (a : Ask) (g : Goes xs a) where
       let v = and_true _ _ u.1 in
       (not_is _ t.0, (not_is _ u.0, (not_is _ v.0, not_is _ v.1)))
 
-  answer_sends : answer xs a ≡ send (command xs a).icr_lo (targets xs a.sender.0 a.active (command xs a))
+  answer_sends : answer xs a ≡ Ok (send (command xs a).icr_lo (targets xs a.sender.0 a.active (command xs a)))
   unfolding answer_to
   answer_sends = rw (free.0, free.1.0, free.1.1.0, g.below, g.matchable)
 
-  reply_is : (send_ipi xs a).reply ≡ ipi_reply (send (command xs a).icr_lo (targets xs a.sender.0 a.active (command xs a)))
+  reply_is : (send_ipi xs a).reply ≡ ipi_reply (Ok (send (command xs a).icr_lo (targets xs a.sender.0 a.active (command xs a))))
   unfolding send_ipi
   reply_is = rw (g.inside, g.sending) (ap ipi_reply answer_sends)
 
-  sent_mask_lem : (m : ℕ) → mask_of (ipi_reply (send (command xs a).icr_lo m)) ≡ m
+  sent_mask_lem : (m : ℕ) → mask_of (ipi_reply (Ok (send (command xs a).icr_lo m))) ≡ m
   sent_mask_lem m = go (eqb m 0) refl
     where
-      go : (b : Bool) → eqb m 0 ≡ b → mask_of (ipi_reply (send (command xs a).icr_lo m)) ≡ m
+      go : (b : Bool) → eqb m 0 ≡ b → mask_of (ipi_reply (Ok (send (command xs a).icr_lo m))) ≡ m
       go true e = rw e (sym (eqb-true m 0 e))
       go false e = rw (e, free.1.1.1)
 
@@ -314,20 +317,20 @@ Ipis (reply.One a) = ⊥
 Ipis (reply.Two a b) = ⊥
 Ipis (reply.Three a b c) = (a < 2 ^ 24) × (b < 2 ^ 24)
 
-send_ipis : (lo mask : ℕ) → Ipis (ipi_reply (send lo mask))
+send_ipis : (lo mask : ℕ) → Ipis (ipi_reply (Ok (send lo mask)))
 send_ipis lo mask =
-    let k : lo / 256 % 8 < 8 = mod-lt (lo / 256) (lit< tt) in
+    let k : mode_number (mode_of (lo / 256 % 8)) < 8 = mode_small (mode_of (lo / 256 % 8)) in
     let v : lo % 256 < 256 = mod-lt lo (lit< tt) in
-    both (λ (x : IcrAnswer). Ipis (ipi_reply x)) (eqb mask 0) _ _ tt (both (λ (x : IcrAnswer). Ipis (ipi_reply x)) (is_unsent lo) _ _ tt (omega arith, omega arith))
+    both (λ (x : IcrAnswer). Ipis (ipi_reply (Ok x))) (eqb mask 0) _ _ tt (both (λ (x : IcrAnswer). Ipis (ipi_reply (Ok x))) (is_unsent lo) _ _ tt (omega arith, omega arith))
 
 answer_ipis : (xs : List Vcpu) (s active : ℕ) (c : Command) → Ipis (ipi_reply (answer_to xs s active c))
 unfolding answer_to
 answer_ipis xs s active c =
-    both (λ (x : IcrAnswer). Ipis (ipi_reply x)) (is_reserved_mode c.icr_lo) _ _ tt
-    (both (λ (x : IcrAnswer). Ipis (ipi_reply x)) (is_illegal_vector c.icr_lo) _ _ tt
-    (both (λ (x : IcrAnswer). Ipis (ipi_reply x)) (is_invalid_shorthand c.icr_lo) _ _ tt
-    (both (λ (x : IcrAnswer). Ipis (ipi_reply x)) (is_above63 (destination c)) _ _ tt
-    (both (λ (x : IcrAnswer). Ipis (ipi_reply x)) (is_logical_dest (destination c) && any_unmatchable xs active) _ _ tt
+    both (λ (x : Result IcrAnswer Refusal). Ipis (ipi_reply x)) (is_reserved_mode c.icr_lo) _ _ tt
+    (both (λ (x : Result IcrAnswer Refusal). Ipis (ipi_reply x)) (is_illegal_vector c.icr_lo) _ _ tt
+    (both (λ (x : Result IcrAnswer Refusal). Ipis (ipi_reply x)) (is_invalid_shorthand c.icr_lo) _ _ tt
+    (both (λ (x : Result IcrAnswer Refusal). Ipis (ipi_reply x)) (is_above63 (destination c)) _ _ tt
+    (both (λ (x : Result IcrAnswer Refusal). Ipis (ipi_reply x)) (is_logical_dest (destination c) && any_unmatchable xs active) _ _ tt
     (send_ipis c.icr_lo (targets xs s active c))))))
 
 reply_ipis : (xs : List Vcpu) (a : Ask) → Ipis (send_ipi xs a).reply
