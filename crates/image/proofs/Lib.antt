@@ -1,4 +1,3 @@
 pub mod Listed
 pub mod Saving
-pub mod Copying
 pub mod Restoring

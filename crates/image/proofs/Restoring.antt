@@ -1,73 +1,49 @@
 -- How restoring ends. Assumes nothing.
-use mathlib.Core.Path.{◌≡◌, refl, sym, ◌∙◌, ap}
-use mathlib.Core.Bool.{Bool, true, false, cond, ◌&&◌}
-use mathlib.Core.List.{List}
-use Prim.Native.Nat.{ℕ, ◌<◌, ◌≤◌}
-use native.Mathlib.Omega.{arith}
-use lib.Dec.{ltb}
-use lib.ListN.{get_or, length, take, drop}
-use borrow.Author.Tests.{lt-ltb, le-ltb}
-use Rattle.utils.specs.Cases.{and_left_no, and_right_no}
-use Rattle.utils.proofs.Bools.{either, and_true}
+use Rattle.std.proofs.Common.{◌≡◌, ℕ, ◌≤◌, Bool, true, false, cond, List, length, refl, sym, ◌∙◌, ap, arith, le-ltb, Option, Some, None}
+use Rattle.std.proofs.lemmas.Option.{none-some}
+use Rattle.std.specs.Option.{unwrap_or}
 use Rattle.types.specs.declared.Reply.TheVariants.{Refused, Nothing}
 use Rattle.types.specs.declared.Refusal.TheVariants.{BadImage}
-use Rattle.types.specs.Reply.{Outcome, outcome_of}
-use Rattle.vioapic.specs.State.{view}
-use Rattle.vpic.specs.Words.{view as pairView}
-use Rattle.image_format.specs.Image.{words_in, loaded_from}
+use Rattle.types.specs.Reply.{outcome_of}
+use Rattle.image_format.specs.Image.{loaded_from}
 use Rattle.image_format.specs.Reading.{is_read}
 use Rattle.image_theorems.proofs.Exact.{read_length}
-use Rattle.image_rules.specs.Rules.{ioapic_keeps, apic_keeps, keeps_pair}
-use Rattle.image.specs.Restore.{Chips, chips, io_of, apic_of, pair_of, chips_of, row_keeps, blank, row_in, put_back, restored}
+use Rattle.image.specs.Restore.{Chips, chips, io_of, apic_of, pair_of, chips_of, row_keeps, kept_chips, blank, row_in, not_restored, put_back, restored}
 
-module _ (row : List ℕ) (before : Chips) where
-  not_back : row_keeps row ≡ false → outcome_of before (Refused BadImage) ≡ put_back row before
-  unfolding put_back
-  not_back h = rw h
+abbrev Three : Type 0
+Three = List ℕ × List ℕ × List ℕ
 
-  pub back_mode : 1 < get_or row 32 0 → outcome_of before (Refused BadImage) ≡ put_back row before
-  unfolding row_keeps
-  back_mode h = not_back (and_left_no _ _ (le-ltb _ _ h))
-
-  module _ (a : List ℕ) (r : Bool) (ea : a ≡ take 32 (drop 0 row)) (er : r ≡ ioapic_keeps (view a)) where
-    io_is : ioapic_keeps (view (io_of row)) ≡ r
-    io_is = sym (er ∙ ap (λ (l : List ℕ). ioapic_keeps (view l)) ea)
-
-    pub back_io : r ≡ false → outcome_of before (Refused BadImage) ≡ put_back row before
-    unfolding row_keeps
-    back_io h = not_back (and_right_no (ltb (get_or row 32 0) 2) _ (and_left_no _ _ (io_is ∙ h)))
-
-    module _ (b : List ℕ) (s : Bool) (eb : b ≡ take 48 (drop 32 row)) (es : s ≡ apic_keeps b) where
-      apic_is : apic_keeps (apic_of row) ≡ s
-      apic_is = sym (es ∙ ap apic_keeps eb)
-
-      pub back_apic : s ≡ false → outcome_of before (Refused BadImage) ≡ put_back row before
-      unfolding row_keeps
-      back_apic h = not_back (and_right_no (ltb (get_or row 32 0) 2) _ (and_right_no (ioapic_keeps (view (io_of row))) _ (and_left_no _ _ (apic_is ∙ h))))
-
-      module _ (d : List ℕ) (t : Bool) (ed : d ≡ take 4 (drop 80 row)) (et : t ≡ keeps_pair (pairView d)) where
-        pair_is : keeps_pair (pairView (pair_of row)) ≡ t
-        pair_is = sym (et ∙ ap (λ (l : List ℕ). keeps_pair (pairView l)) ed)
-
-        pub back_pair : t ≡ false → outcome_of before (Refused BadImage) ≡ put_back row before
-        unfolding row_keeps
-        back_pair h = not_back (and_right_no (ltb (get_or row 32 0) 2) _ (and_right_no (ioapic_keeps (view (io_of row))) _ (and_right_no (apic_keeps (apic_of row)) _ (pair_is ∙ h))))
-
-        pub back_all : get_or row 32 0 ≤ 1 → r ≡ true → s ≡ true → t ≡ true → outcome_of (chips a b d) Nothing ≡ put_back row before
-        unfolding put_back row_keeps
-        back_all h hr hs ht = rw (lt-ltb (get_or row 32 0) 2 (omega arith), io_is ∙ hr, apic_is ∙ hs, pair_is ∙ ht, ea, eb, ed)
+abbrev three : List ℕ → Three
+three row = (io_of row, apic_of row, pair_of row)
 
 -- an image that is read isn't too short
-module _ (s : List ℕ) (before : Chips) where
-  pub not_read : (r : Bool) → r ≡ is_read s → r ≡ false → outcome_of before (Refused BadImage) ≡ restored s before
+module _ (s : List ℕ) (before : Chips) (r : Bool) (er : r ≡ is_read s) where
+  pub not_read : r ≡ false → outcome_of before (Refused BadImage) ≡ restored s before
   unfolding restored
-  not_read r er h = let x : is_read s ≡ false = sym er ∙ h in rw x
+  not_read h = let x : is_read s ≡ false = sym er ∙ h in rw x
 
-  pub was_read : (r : Bool) (row : List ℕ) (o : Outcome Chips) → r ≡ is_read s → r ≡ true → row ≡ loaded_from s blank → o ≡ put_back row before → o ≡ restored s before
-  unfolding restored row_in
-  was_read r row o er h ew eo =
-      let x : is_read s ≡ true = sym er ∙ h in
-      let n : length s ≡ 628 = read_length s x in
-      let l : 628 ≤ length s = omega (arith, n) in
-      let w : row ≡ words_in s blank = ew ∙ rw (le-ltb (length s) 628 l) in
-      rw x (eo ∙ ap (λ (a : List ℕ). put_back a before) w)
+  module _ (h : r ≡ true) where
+    was_read : restored s before ≡ put_back (row_in s) before
+    unfolding restored
+    was_read = let x : is_read s ≡ true = sym er ∙ h in rw x
+
+    module _ (row : List ℕ) (ew : row ≡ loaded_from s blank) (o : Option Three) (eo : o ≡ kept_chips row) where
+      row_is : row ≡ row_in s
+      unfolding row_in
+      row_is = let n : 628 ≤ length s = omega (arith, read_length s (sym er ∙ h)) in ew ∙ rw (le-ltb (length s) 628 n)
+
+      pub not_kept : o ≡ None → outcome_of before (Refused BadImage) ≡ restored s before
+      unfolding put_back
+      not_kept e = rw was_read (go (row_keeps (row_in s)) (rw row_is at (sym eo ∙ e)))
+        where
+          go : (k : Bool) → cond {A = Option Three} k (Some (three (row_in s))) None ≡ None → outcome_of before (Refused BadImage) ≡ cond k (outcome_of (chips_of (row_in s)) Nothing) (not_restored before)
+          go true q = absurd (none-some _ (sym q))
+          go false q = refl
+
+      pub all_kept : (t : Three) → o ≡ Some t → outcome_of (chips t.0 t.1 t.2) Nothing ≡ restored s before
+      unfolding put_back
+      all_kept t e = rw was_read (go (row_keeps (row_in s)) (rw row_is at (sym eo ∙ e)))
+        where
+          go : (k : Bool) → cond {A = Option Three} k (Some (three (row_in s))) None ≡ Some t → outcome_of (chips t.0 t.1 t.2) Nothing ≡ cond k (outcome_of (chips_of (row_in s)) Nothing) (not_restored before)
+          go true q = ap (λ (p : Option Three). outcome_of (chips (unwrap_or p t).0 (unwrap_or p t).1 (unwrap_or p t).2) Nothing) (sym q)
+          go false q = absurd (none-some _ q)

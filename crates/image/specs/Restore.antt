@@ -1,5 +1,5 @@
 -- What restoring leaves in the chips' words, and answers: the state that the image holds; or 10, and every word as it was, for an image that no state writes that keeps its chips' rules.
-use Rattle.std.specs.Prelude.{ℕ, Bool, cond, ◌&&◌, List, [], ◌∷◌, ◌++◌, ltb, get_or, take, drop, replicate, Result}
+use Rattle.std.specs.Prelude.{ℕ, Bool, cond, ◌&&◌, List, ◌∷◌, ◌++◌, ltb, get_or, take, drop, replicate, Result, Option, Some, None}
 use Rattle.types.specs.declared.Reply.{Reply}
 use Rattle.types.specs.declared.Reply.TheVariants.{Refused, Nothing}
 use Rattle.types.specs.declared.Refusal.{Refusal}
@@ -39,6 +39,10 @@ chips_of row = chips (io_of row) (apic_of row) (pair_of row)
 -- the mode is spelled 0 or 1, and each chip keeps its rules
 unfoldable pub row_keeps : List ℕ → Bool
 row_keeps row = ltb (get_or row 32 0) 2 && (ioapic_keeps (view (io_of row)) && (apic_keeps (apic_of row) && keeps_pair (pairView (pair_of row))))
+
+-- the chips of the 84 words, if they keep their rules
+abbrev pub kept_chips : List ℕ → Option (List ℕ × List ℕ × List ℕ)
+kept_chips row = cond (row_keeps row) (Some (io_of row, apic_of row, pair_of row)) None
 
 -- where an image's numbers go: base and size are the same on every board, and the other words that the format hasn't are 0
 unfoldable pub blank : List ℕ

@@ -1,18 +1,17 @@
-// A running guest's chips as an image, and back (document 02, T-11): the board's I/O APIC and local APIC and the pair of 8259s, each in the words that hold it.
+// A running guest's chips as an image, and back (document 02, T-11): the board's I/O APIC and local APIC and the pair of
+// 8259s, each in the words that hold it.
 
 #![tactic(auto)]
 
-ghost use Rattle.std.specs.Prelude.{◌≡◌, ◌+◌, ◌<◌, ◌≤◌, not, eqb, length, take, drop};
+ghost use Rattle.std.specs.Prelude.{◌≡◌, ◌+◌, ◌<◌, ◌≤◌, not, eqb, take, drop};
 ghost use Rattle.types.specs.Reply.{outcome_of, flag};
 ghost use Rattle.image.specs.Words.{chip_word, word_at, gathered};
 ghost use Rattle.image.specs.Save.{save_reply, saved};
-ghost use Rattle.image.specs.Restore.{restore_reply, chips, put_back, restored};
+ghost use Rattle.image.specs.Restore.{restore_reply, chips, kept_chips, restored};
 
 use types::Refusal;
 use vioapic::IoApicVersion;
 use vpic::PicRule;
-
-const WORDS: usize = 84;
 
 // The first words of the local APIC and of the pair.
 const APIC: usize = 32;
@@ -36,10 +35,7 @@ const RULE: usize = 82;
 fn is_x2apic(mode: u64) -> u64
     ensures { result ≡ flag (not (eqb mode 0)) }
 {
-    if mode == 0 {
-        return 0;
-    }
-    1
+    u64::from(mode != 0)
 }
 
 // A chip's word without the bits that stand for nothing by this rule.
@@ -52,41 +48,44 @@ fn chip_word(rule: u64, word: u64) -> u64
     word % 0x1000_0000_0000
 }
 
+// A board's chips, each in the lent words that hold it.
+#[derive(Clone, Copy, Debug)]
+struct Board<'a> {
+    io: &'a [u64; 32],
+    apic: &'a [u64; 48],
+    pair: &'a [u64; 4],
+}
+
 // Word k of the 84.
-fn word_at(io: &[u64; 32], apic: &[u64; 48], pair: &[u64; 4], k: usize) -> u64
+#[tactic(auto, unfolding(crate::specs::Words::word_at))]
+fn word_at(board: Board<'_>, k: usize) -> u64
     requires { k < 84 }
-    ensures { result ≡ word_at io.now apic.now pair.now k }
+    ensures { result ≡ word_at board.entry.io.now board.entry.apic.now board.entry.pair.now k }
 {
-    if k == VERSION {
-        return IoApicVersion::of(io[VERSION]).number();
-    }
-    if k == MODE {
-        return is_x2apic(apic[0]);
-    }
-    if k == RULE {
-        return PicRule::from_number(pair[2]).number();
-    }
-    if k < APIC {
-        return io[k];
-    }
-    if k < PAIR {
-        return apic[k - APIC];
-    }
-    chip_word(pair[2], pair[k - PAIR])
-}
-
-fn gather(io: &[u64; 32], apic: &[u64; 48], pair: &[u64; 4], words: &mut [u64; 84])
-    ensures { words.new ≡ gathered io.now apic.now pair.now }
-{
-    utils::seen(&*words);
-    let mut k = 0;
-    while k < WORDS {
-        words[k] = word_at(io, apic, pair, k);
-        k += 1;
+    match k {
+        VERSION => IoApicVersion::of(board.io[VERSION]).number(),
+        MODE => is_x2apic(board.apic[0]),
+        RULE => PicRule::from_number(board.pair[2]).number(),
+        _ if k < APIC => board.io[k],
+        _ if k < PAIR => board.apic[k - APIC],
+        _ => chip_word(board.pair[2], board.pair[k - PAIR]),
     }
 }
 
-// The image of the chips' state goes to the lent buffer's start.
+// The 84 words.
+fn gather(board: Board<'_>) -> [u64; 84]
+    ensures { result ≡ gathered board.entry.io.now board.entry.apic.now board.entry.pair.now }
+{
+    let mut words = [0; 84];
+    for (k, word) in words.iter_mut().enumerate() {
+        *word = word_at(board, k);
+    }
+    words
+}
+
+/// The image of the chips' state goes to the lent buffer's start: how many bytes it has. Refused with `TooShort` where the
+/// buffer is shorter than an image (628 bytes), which then stays as it was.
+// Stays: the C interface lends the chips' words as three arrays (sillwander_image_save, sillwander_image_restore).
 pub fn save(
     io: &[u64; 32],
     apic: &[u64; 48],
@@ -98,75 +97,63 @@ pub fn save(
     if buf.len() < image_format::IMAGE_SIZE {
         return Err(Refusal::TooShort);
     }
-    let mut words = [0u64; 84];
-    gather(io, apic, pair, &mut words);
-    image_format::write(&words, &mut *buf);
+    let words = gather(Board { io, apic, pair });
+    image_format::write(&words, buf);
     Ok(image_format::IMAGE_SIZE as u64)
 }
 
 // ---- Restoring
 
 // So many words, from `at` on.
-fn copy_from(words: &[u64; 84], at: usize, to: &mut [u64])
-    requires { at + length to.old ≤ 84 }
-    ensures { to.new ≡ take (length to.old) (drop at words.now) }
+fn part<const N: usize>(words: &[u64; 84], at: usize) -> [u64; N]
+    requires { at + N ≤ 84 }
+    ensures { result ≡ take N (drop at words.now) }
 {
-    utils::seen(words);
-    let mut k = 0;
-    while k < to.len() {
-        to[k] = words[at + k];
-        k += 1;
-    }
+    let mut part = [0; N];
+    part.copy_from_slice(&words[at..at + N]);
+    part
 }
 
 // The chips of the 84 words, if they keep their rules.
-fn put_back(
-    words: &[u64; 84],
-    io: &mut [u64; 32],
-    apic: &mut [u64; 48],
-    pair: &mut [u64; 4],
-) -> Result<(), Refusal>
-    ensures { outcome_of (chips io.new apic.new pair.new) (restore_reply result) ≡ put_back words.now (chips io.old apic.old pair.old) }
+#[tactic(auto, unfolding(crate::specs::Restore::row_keeps))]
+fn kept_chips(words: &[u64; 84]) -> Option<([u64; 32], [u64; 48], [u64; 4])>
+    ensures { result ≡ kept_chips words.now }
 {
-    if words[MODE] > 1 {
-        return Err(Refusal::BadImage);
+    let io = part(words, 0);
+    let apic = part(words, APIC);
+    let pair = part(words, PAIR);
+    if words[MODE] < 2
+        && image_rules::ioapic_keeps(&io)
+        && image_rules::apic_keeps(&apic)
+        && image_rules::pair_keeps(&pair)
+    {
+        return Some((io, apic, pair));
     }
-    let mut ioapic = [0u64; 32];
-    copy_from(words, 0, &mut ioapic);
-    if !image_rules::ioapic_keeps(&ioapic) {
-        return Err(Refusal::BadImage);
-    }
-    let mut local = [0u64; 48];
-    copy_from(words, APIC, &mut local);
-    if !image_rules::apic_keeps(&local) {
-        return Err(Refusal::BadImage);
-    }
-    let mut pics = [0u64; 4];
-    copy_from(words, PAIR, &mut pics);
-    if !image_rules::pair_keeps(&pics) {
-        return Err(Refusal::BadImage);
-    }
-    *io = ioapic;
-    *apic = local;
-    *pair = pics;
-    Ok(())
+    None
 }
 
-// The chips' state is the image's, if a state writes it that keeps the chips' rules; else every word stays.
+/// The chips' state is the image's, if a state writes it that keeps the chips' rules; else it is refused with `BadImage`,
+/// and every word stays as it was.
+// Stays: the C interface lends the chips' words as three arrays.
 pub fn restore(
     image: &[u8],
     io: &mut [u64; 32],
     apic: &mut [u64; 48],
     pair: &mut [u64; 4],
 ) -> Result<(), Refusal>
-    ensures { outcome_of (chips io.new apic.new pair.new) (restore_reply result) ≡ restored image.now (chips io.old apic.old pair.old) }
+    ensures { outcome_of (chips io.new apic.new pair.new) (restore_reply result)
+        ≡ restored image.now (chips io.old apic.old pair.old) }
 {
     if !image_format::is_read(image) {
         return Err(Refusal::BadImage);
     }
-    let mut words = [0u64; 84];
+    let mut words = [0; 84];
     words[BASE] = 0xfec0_0000;
     words[SIZE] = 0x1000;
     image_format::load(image, &mut words);
-    put_back(&words, &mut *io, &mut *apic, &mut *pair)
+    let Some(chips) = kept_chips(&words) else {
+        return Err(Refusal::BadImage);
+    };
+    (*io, *apic, *pair) = chips;
+    Ok(())
 }

@@ -1,8 +1,4 @@
 use Rattle.image.proofs.Saving.{saved_short, saved_whole}
-use Rattle.image.proofs.save.Reads as reads
-use Rattle.image.proofs.save.Lts as lts
-use Rattle.image.proofs.gather.Reads as gather-reads
-use Rattle.image_format.proofs.write.Reads as write-reads
 use Rattle.image.proofs.save.Goals as goal
 
 -- src/lib.rt:93:9
@@ -11,4 +7,4 @@ returns-then-buf-lt-IMAGE_SIZE c = saved_short c.args.io.now c.args.apic.now c.a
 
 -- src/lib.rt:89:1
 pub returns : goal.returns
-returns c = saved_whole c.args.io.now c.args.apic.now c.args.pair.now c.args.buf.now _ _ c.if-buf-lt-IMAGE_SIZE.false c.gather.ensures c.write.ensures
+returns c = saved_whole c.args.io.now c.args.apic.now c.args.pair.now c.args.buf.now _ _ c.if-buf-lt-IMAGE_SIZE.false c.gather-words.ensures c.write.ensures
