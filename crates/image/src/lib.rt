@@ -32,13 +32,8 @@ const RULE: usize = 82;
 
 // ---- Saving
 
-fn is_x2apic(mode: u64) -> u64
-    ensures { result ≡ flag (not (eqb mode 0)) }
-{
-    u64::from(mode != 0)
-}
-
 // A chip's word without the bits that stand for nothing by this rule.
+// Stays: the rule is a number in a word that C lends, and the definition `chip_word` reads it as one.
 fn chip_word(rule: u64, word: u64) -> u64
     ensures { result ≡ chip_word rule word }
 {
@@ -64,7 +59,7 @@ fn word_at(board: Board<'_>, k: usize) -> u64
 {
     match k {
         VERSION => IoApicVersion::of(board.io[VERSION]).number(),
-        MODE => is_x2apic(board.apic[0]),
+        MODE => u64::from(board.apic[0] != 0),
         RULE => PicRule::from_number(board.pair[2]).number(),
         _ if k < APIC => board.io[k],
         _ if k < PAIR => board.apic[k - APIC],

@@ -13,6 +13,7 @@ ghost use Rattle.vpic.specs.Words.{view as pairView};
 ghost use Rattle.image_rules.specs.Rules.{same, may_fly, is_v20, entry_keeps, entry_keeps_at, ioapic_keeps, id_kept, errors, legal, kept_of, word_keeps, ppr_keeps, apic_keeps, chip_keeps, cascade_keeps, keeps_pair};
 
 use types::Gsi;
+use utils::Set;
 use vioapic::IoApicVersion;
 use vioapic_entry::Entry;
 use vlapic_regs::{lvt, register};
@@ -28,11 +29,8 @@ fn implies(a: bool, b: bool) -> bool
 
 // ---- The I/O APIC
 
-fn is_busy(word: u64) -> bool
-    ensures { result ≡ bit word 12 }
-{
-    word / 0x1000 % 2 == 1
-}
+// Delivery Status: an entry that waits to be sent.
+const DELIVERY_STATUS: u32 = 12;
 
 // An entry in flight is level, and in version 0x11 fit to be sent.
 fn may_fly(word: u64, version20: bool) -> bool
@@ -48,7 +46,7 @@ fn entry_keeps(e: Entry, flies: bool, version20: bool) -> bool
     flying == flies
         && implies(e.pending_level, flying)
         && implies(flying, may_fly(e.word, version20))
-        && implies(version20, !is_busy(e.word))
+        && implies(version20, !e.word.has(DELIVERY_STATUS))
 }
 
 fn is_20(version: IoApicVersion) -> bool
@@ -61,7 +59,7 @@ fn entry_at_keeps(words: &[u64; 32], g: usize) -> bool
     requires { g < 24 }
     ensures { result ≡ entry_keeps_at (view words.now) g }
 {
-    let flies = utils::set32::has(vioapic::in_flight(words), g as u32);
+    let flies = vioapic::in_flight(words).has(g as u32);
     let e = vioapic::entry(words, Gsi(g));
     entry_keeps(e, flies, is_20(vioapic::version(words)))
 }
@@ -82,20 +80,6 @@ pub fn ioapic_keeps(words: &[u64; 32]) -> bool
 }
 
 // ---- The local APIC
-
-fn word(words: &[u64; 48], k: usize) -> u32
-    requires { k < 48 }
-    ensures { result ≡ word words.now k }
-{
-    (words[k] % 0x1_0000_0000) as u32
-}
-
-#[tactic(auto, unfolding(vlapic_words::specs::Words::view))]
-fn is_x2apic(words: &[u64; 48]) -> bool
-    ensures { result ≡ (apicView words.now).x2apic }
-{
-    words[0] != 0
-}
 
 // The id: a byte in xAPIC mode.
 fn id(x2apic: bool, x: u32) -> u32
@@ -152,20 +136,21 @@ fn kept(x2apic: bool, k: usize, x: u32) -> u32
     }
 }
 
+#[tactic(auto, unfolding(vlapic_words::specs::Words::view))]
 fn word_keeps(words: &[u64; 48], k: usize) -> bool
     requires { k < 48 }
     ensures { result ≡ word_keeps words.now k }
 {
-    let x = word(words, k);
-    kept(is_x2apic(words), k, x) == x
+    let x = utils::low(words, k);
+    kept(words[0] != 0, k, x) == x
 }
 
 fn ppr_keeps(words: &[u64; 48]) -> bool
     ensures { result ≡ ppr_keeps words.now }
 {
     let mut copy = *words;
-    vlapic_requests::write_tpr(&mut copy, word(words, 2));
-    word(&copy, 3) == word(words, 3)
+    vlapic_requests::write_tpr(&mut copy, utils::low(words, 2));
+    utils::low(&copy, 3) == utils::low(words, 3)
 }
 
 #[tactic(auto, unfolding(crate::specs::Rules::all))]
@@ -196,7 +181,7 @@ fn chip_keeps(word: u64, full: bool) -> bool
 fn cascade_keeps(words: &[u64; 4]) -> bool
     ensures { result ≡ cascade_keeps (pairView words.now) }
 {
-    let requested = vpic::master(words).request() / 4 % 2 == 1;
+    let requested = vpic::master(words).request().has(2);
     match vpic::rule(words) {
         PicRule::Latch => true,
         PicRule::Cascade => requested == vpic::slave(words).asks(),

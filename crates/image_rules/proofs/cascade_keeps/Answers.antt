@@ -7,10 +7,10 @@ returns-in-Latch c = cascade_latch c.args.words.now _ c.rule.ensures c.in-Latch.
 
 pub returns-in-Cascade : goal.returns-in-Cascade
 returns-in-Cascade c =
-    cascade_plain c.args.words.now _ _ _ c.master.ensures c.slave.ensures c.request.ensures _ _ _ c.rule.ensures c.in-Cascade.is c.asks.ensures
-    (same_is _ c.asks.result)
+    rw c.has-requested.ensures (cascade_plain c.args.words.now _ _ _ c.master.ensures c.slave.ensures c.request.ensures _ _ _ c.rule.ensures c.in-Cascade.is c.asks.ensures
+    (same_is _ c.asks.result))
 
 pub returns-in-Full : goal.returns-in-Full
 returns-in-Full c =
-    cascade_full c.args.words.now _ _ _ c.master.ensures c.slave-in-Full.ensures c.request.ensures _ _ _ c.rule.ensures c.in-Full.is c.full_asks.ensures
-    (same_is _ c.full_asks.result)
+    rw c.has-requested.ensures (cascade_full c.args.words.now _ _ _ c.master.ensures c.slave-in-Full.ensures c.request.ensures _ _ _ c.rule.ensures c.in-Full.is c.full_asks.ensures
+    (same_is _ c.full_asks.result))

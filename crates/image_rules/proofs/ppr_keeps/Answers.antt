@@ -3,4 +3,4 @@ use Rattle.image_rules.proofs.ppr_keeps.Goals as goal
 
 -- src/lib.rt:201:1
 pub returns : goal.returns
-returns c = ppr_kept c.args.words.now _ _ _ _ c.word.ensures c.write_tpr.ensures.registers c.word-2.ensures c.word-3.ensures
+returns c = ppr_kept c.args.words.now _ _ _ _ c.low.ensures c.write_tpr.ensures.registers c.low-2.ensures c.low-3.ensures
