@@ -1,10 +1,8 @@
 -- A run from where it starts, and its image. Assumes nothing.
-use Rattle.types.specs.declared.Refusal.{Refusal}
-use Rattle.std.specs.Prelude.{Result}
-use Prim.Native.Nat.{ℕ, zero, suc, ◌<◌, ◌≤◌}
+use Prim.Native.Nat.{ℕ, ◌<◌, ◌≤◌}
 use mathlib.Core.Bool.{Bool, true, false, cond}
-use mathlib.Core.List.{List, [], ◌∷◌, ◌++◌, append-nil}
-use mathlib.Core.Path.{◌≡◌, refl, sym, ap, ◌∙◌}
+use mathlib.Core.List.{List, [], ◌∷◌, append-nil}
+use mathlib.Core.Path.{◌≡◌, refl, ap, ◌∙◌}
 use native.Mathlib.Omega.{arith}
 use lib.Dec.{ltb, eqb}
 use lib.ListN.{length, drop, get_or}
@@ -12,18 +10,33 @@ use lib.Seq.{drop-length}
 use borrow.Author.Tests.{lt-ltb, le-ltb}
 use Rattle.io.specs.Counts.{IsPrefixLen}
 use Rattle.io.proofs.Counting.{prefix_len_of_le}
+use Rattle.std.specs.Prelude.{Ok, Err}
+use Rattle.types.specs.declared.Refusal.{Refusal}
+use Rattle.types.specs.declared.Refusal.TheVariants.{BadImage}
 use Rattle.types.specs.Reply.{Outcome, outcome_of}
 use Rattle.image_format.proofs.Rounds.{image_length}
 use Rattle.image_format.specs.Image.{image_of}
+use Rattle.image.specs.declared.SaveAnswer.{SaveAnswer}
 use Rattle.image.specs.Words.{gathered}
 use Rattle.image.specs.Save.{save_reply, saved}
 use Rattle.reply_text.specs.Text.{Puts}
 use Rattle.script_machine.specs.Machine.{Machine}
 use Rattle.script_print.specs.Printed.{printed_from, machine_after}
-use Rattle.script_resume.specs.Resumed.{is_start, start_of, head_size}
+use Rattle.script_resume.specs.Resumed.{is_start, started, start_of, head_size}
 
-pub started_as : (s : List ℕ) (b c : Bool) → b ≡ is_start s → b ≡ c → c ≡ is_start s
-started_as s b c e f = sym f ∙ e
+pub started_ok : (s : List ℕ) (u : Unit {0}) → Ok u ≡ started s → is_start s ≡ true
+started_ok s u e = go (is_start s) e
+  where
+    go : (b : Bool) → Ok u ≡ cond b (Ok (tt {0})) (Err BadImage) → b ≡ true
+    go true p = refl
+    go false p = let z : ◌≡◌ {A = ℕ} 0 1 = cc in absurd (omega arith)
+
+pub started_err : (s : List ℕ) (why : Refusal) → Err why ≡ started s → (is_start s ≡ false) × (why ≡ BadImage)
+started_err s why e = go (is_start s) e
+  where
+    go : (b : Bool) → Err why ≡ cond b (Ok (tt {0})) (Err BadImage) → (b ≡ false) × (why ≡ BadImage)
+    go true p = let z : ◌≡◌ {A = ℕ} 0 1 = cc in absurd (omega arith)
+    go false p = (refl, cc)
 
 pub printed_from_start : (image script text text' : List ℕ) (m : Machine) (end : ℕ) → m ≡ start_of image → Puts text 0 (printed_from script m) text' end → Puts text 0 (printed_from script (start_of image)) text' end
 printed_from_start image script text text' m end e p = rw (← e) p
@@ -32,7 +45,7 @@ pub left_from_start : (image script : List ℕ) (m last : Machine) → m ≡ sta
 left_from_start image script m last e p = rw (← e) p
 
 -- an image that fills its buffer
-pub saved_all : (io apic pair buf after : List ℕ) (a : Result ℕ Refusal) → length buf ≡ 628 → outcome_of after (save_reply a) ≡ saved io apic pair buf → after ≡ image_of (gathered io apic pair)
+pub saved_all : (io apic pair buf after : List ℕ) (a : SaveAnswer) → length buf ≡ 628 → outcome_of after (save_reply a) ≡ saved io apic pair buf → after ≡ image_of (gathered io apic pair)
 unfolding saved
 saved_all io apic pair buf after a n h =
     let z : drop 628 buf ≡ [] = rw (← n) (drop-length buf) in

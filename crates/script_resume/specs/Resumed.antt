@@ -1,5 +1,5 @@
 -- A guest that is moved (document 02, T-11): its board and its pair come from an image, or are new where there is none; a script goes on with them; and there is the image after it.
-use Rattle.std.specs.Prelude.{ℕ, Bool, true, false, cond, ◌&&◌, ◌||◌, List, ◌≡◌, eqb, ltb, get_or, length, take, drop}
+use Rattle.std.specs.Prelude.{ℕ, Bool, true, false, cond, ◌&&◌, ◌||◌, List, ◌≡◌, eqb, ltb, get_or, length, take, drop, Result, Ok, Err}
 use Rattle.vpic.specs.Words.{view}
 use Rattle.board.specs.Board.{board_in}
 use Rattle.image_format.specs.Image.{image_of, image_size}
@@ -7,7 +7,8 @@ use Rattle.image_format.specs.Reading.{is_read}
 use Rattle.image.specs.Words.{gathered}
 use Rattle.image.specs.Restore.{Chips, chips_of, row_in, row_keeps}
 use Rattle.reply_text.specs.Text.{Puts}
-use Rattle.script_machine.specs.declared.Vm.{Vm}
+use Rattle.types.specs.declared.Refusal.{Refusal}
+use Rattle.types.specs.declared.Refusal.TheVariants.{BadImage}
 use Rattle.script_machine.specs.Machine.{Machine, new_machine}
 use Rattle.script_print.specs.Printed.{printed_from, machine_after}
 use Rattle.script_resume.specs.declared.Resumed.{Resumed}
@@ -34,6 +35,10 @@ is_taken image = is_read image && row_keeps (row_in image)
 abbrev pub is_start : List ℕ → Bool
 is_start image = is_none image || is_taken image
 
+-- what is answered: an image that isn't taken is refused with 10
+abbrev pub started : List ℕ → Result (Unit {0}) Refusal
+started image = cond (is_start image) (Ok tt) (Err BadImage)
+
 -- the machine that a run starts with: a new one, with the image's board and pair
 unfoldable pub start_of : List ℕ → Machine
 start_of image = cond (is_none image) new_machine (cond (is_taken image) (moved new_machine (chips_of (row_in image))) new_machine)
@@ -49,17 +54,12 @@ Ran image script text text' after' m c end size =
     × (size ≡ image_size)
 
 -- an image that isn't taken: nothing is run, and nothing put
-abbrev pub NotRun : List ℕ → List ℕ → List ℕ → List ℕ → ℕ → ℕ → Type 0
-NotRun text text' after after' end size = (text' ≡ text) × (after' ≡ after) × (end ≡ 0) × (size ≡ 0)
+abbrev pub NotRun : List ℕ → List ℕ → List ℕ → List ℕ → Type 0
+NotRun text text' after after' = (text' ≡ text) × (after' ≡ after)
 
-abbrev pub by_start : Bool → Type 0 → Type 0 → Type 0
-by_start true ran not = ran
-by_start false ran not = not
-
-abbrev pub Goes : List ℕ → List ℕ → List ℕ → List ℕ → List ℕ → List ℕ → (Vm → Machine) → Chips → Resumed → Type 0
-Goes image script text text' after after' m c r =
-    (r.ok ≡ is_start image)
-    × by_start r.ok (Ran image script text text' after' (m r.vm) c r.end r.size) (NotRun text text' after after' r.end r.size)
+abbrev pub Goes : List ℕ → List ℕ → List ℕ → List ℕ → List ℕ → List ℕ → Machine → Chips → Result Resumed Refusal → Type 0
+Goes image script text text' after after' m c (Ok r) = (is_start image ≡ true) × Ran image script text text' after' m c r.end r.size
+Goes image script text text' after after' m c (Err why) = (is_start image ≡ false) × ((why ≡ BadImage) × NotRun text text' after after')
 
 -- ---- the program's input: an image, which starts with the tag of its group, and a script behind it; or a script
 

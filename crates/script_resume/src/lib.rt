@@ -2,14 +2,16 @@
 
 #![tactic(auto)]
 
-ghost use Rattle.std.specs.Prelude.{◌≡◌};
+ghost use Rattle.std.specs.Prelude.{◌≡◌, IfOk};
 ghost use Rattle.io.specs.Counts.{IsPrefixLen};
 ghost use Rattle.image.specs.Restore.{chips};
-ghost use Rattle.script_machine.specs.Machine.{machine_in};
-ghost use Rattle.script_resume.specs.Resumed.{is_start, start_of, Goes, head_size};
+ghost use Rattle.script_machine.specs.Machine.{machine_of};
+ghost use Rattle.script_resume.specs.Resumed.{started, start_of, Goes, head_size};
 
-use script_machine::{Used, Vm};
+use image::RestoreAnswer;
+use script_machine::Machine;
 use script_print::SPACE;
+use types::Refusal;
 
 // The first byte of every image: the tag of its group.
 const TAG: u8 = 0x80;
@@ -17,111 +19,58 @@ const TAG: u8 = 0x80;
 // The length of every image.
 pub const IMAGE: usize = image_format::IMAGE_SIZE;
 
-// Whether there was a run, what it left beside the chips' words, and how many bytes its text and the image after it have. An image that is refused is refused with 10.
-#[derive(Clone, Copy)]
+// How many bytes the text of a run and the image after it have.
+#[derive(Clone, Copy, Debug, PartialEq, Eq, Hash)]
 pub struct Resumed {
-    pub ok: bool,
-    pub vm: Vm,
     pub end: usize,
     pub size: usize,
 }
 
-// A machine that a run can start with, or that there is none.
-#[derive(Clone, Copy)]
-pub struct Started {
-    pub ok: bool,
-    pub vm: Vm,
-}
-
-// The machine of an image, in these words: its board and its pair, all else new; without an image, a new machine.
-pub fn start(
-    image: &[u8],
-    ioapic: &mut [u64; 32],
-    pic: &mut [u64; 4],
-    apic: &mut [u64; 48],
-    board_ioapic: &mut [u64; 32],
-    board_apic: &mut [u64; 48],
-) -> Started
-    ensures ok_value { result.ok ≡ is_start image.now }
-    ensures vm_after { machine_in ioapic.new pic.new apic.new board_ioapic.new board_apic.new result.vm ≡ start_of image.now }
+// The machine of an image: its board and its pair, all else new; without an image, a new machine, and an image that isn't taken leaves a new one too.
+pub fn start(image: &[u8], machine: &mut Machine) -> Result<(), Refusal>
+    ensures answer { result ≡ started image.now }
+    ensures machine_after { machine_of machine.new ≡ start_of image.now }
 {
-    let vm = script_machine::new(
-        &mut *ioapic,
-        &mut *pic,
-        &mut *apic,
-        &mut *board_ioapic,
-        &mut *board_apic,
-    );
-    if image.len() == 0 {
-        return Started { ok: true, vm };
+    *machine = Machine::new();
+    if image.is_empty() {
+        return Ok(());
     }
-    match image::restore(image, &mut *board_ioapic, &mut *board_apic, &mut *pic) {
-        Ok(()) => Started {
-            ok: true,
-            vm: Vm {
-                vcpu_num: vm.vcpu_num,
-                active_vcpus: vm.active_vcpus,
-                used: Used {
-                    io: vm.used.io,
-                    pic: true,
-                },
-            },
-        },
-        Err(_) => Started { ok: false, vm },
+    match image::restore(
+        image,
+        &mut machine.board_ioapic,
+        &mut machine.board_apic,
+        &mut machine.pic,
+    ) {
+        RestoreAnswer::Restored => {
+            machine.vm.used.pic = true;
+            Ok(())
+        }
+        RestoreAnswer::NotRestored(why) => Err(why),
     }
 }
 
-// Goes on from an image with a script: what is printed goes to the start of `text`, the image after it to `after`.
+// Goes on from an image with a script: what is printed goes to the start of `text`, the image after it to `after`. An image that isn't taken is refused with 10, and nothing is put.
 pub fn go_on(
     image: &[u8],
     script: &[u8],
-    ioapic: &mut [u64; 32],
-    pic: &mut [u64; 4],
-    apic: &mut [u64; 48],
-    board_ioapic: &mut [u64; 32],
-    board_apic: &mut [u64; 48],
+    machine: &mut Machine,
     text: &mut [u8; SPACE],
     after: &mut [u8; IMAGE],
-) -> Resumed
-    ensures goes { Goes image.now script.now text.old text.new after.old after.new (machine_in ioapic.new pic.new apic.new board_ioapic.new board_apic.new) (chips board_ioapic.new board_apic.new pic.new) result }
-    ensures prefix_len { IsPrefixLen result.end text.new }
-    ensures prefix_len_2 { IsPrefixLen result.size after.new }
+) -> Result<Resumed, Refusal>
+    ensures goes { Goes image.now script.now text.old text.new after.old after.new (machine_of machine.new) (chips machine.new.board_ioapic machine.new.board_apic machine.new.pic) result }
+    ensures prefix_len { IfOk result (λ resumed. IsPrefixLen resumed.end text.new) }
+    ensures prefix_len_2 { IfOk result (λ resumed. IsPrefixLen resumed.size after.new) }
 {
-    let started = start(
-        image,
-        &mut *ioapic,
-        &mut *pic,
-        &mut *apic,
-        &mut *board_ioapic,
-        &mut *board_apic,
+    start(image, machine)?;
+    let end = script_print::print_from(machine, script, text);
+    image::save(
+        &machine.board_ioapic,
+        &machine.board_apic,
+        &machine.pic,
+        after,
     );
-    let vm = started.vm;
-    if !started.ok {
-        return Resumed {
-            ok: false,
-            vm,
-            end: 0,
-            size: 0,
-        };
-    }
-    let printed = script_print::print_from(
-        &mut *ioapic,
-        &mut *pic,
-        &mut *apic,
-        &mut *board_ioapic,
-        &mut *board_apic,
-        vm,
-        script,
-        text,
-    );
-    image::save(&*board_ioapic, &*board_apic, &*pic, after);
-    let left = printed.vm;
-    Resumed {
-        ok: true,
-        vm: left,
-        end: printed.end,
-        size: IMAGE,
-    }
+    let size = IMAGE;
+    Ok(Resumed { end, size })
 }
 
 // How many bytes of the program's input are an image.
@@ -129,10 +78,7 @@ pub fn head_size(input: &[u8]) -> usize
     ensures value { result ≡ head_size input.now }
     ensures prefix_len { IsPrefixLen result input.now }
 {
-    if input.len() == 0 {
-        return 0;
-    }
-    if input[0] != TAG {
+    if input.is_empty() || input[0] != TAG {
         return 0;
     }
     if input.len() < IMAGE {
