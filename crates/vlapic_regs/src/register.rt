@@ -9,18 +9,23 @@ ghost use Rattle.std.specs.Prelude.{◌≡◌};
 ghost use Rattle.vlapic_regs.specs.Register.{id_word, low_byte, top_byte, model_bits, errors_shown, illegal_noted, priority, broadcast};
 
 use types::Vector;
+use utils::Set;
 
 // The error status register's bit "send illegal vector".
 const SEND_ILLEGAL_VECTOR: u32 = 5;
+
+// The spurious-interrupt vector register's bit "suppress EOI broadcasts".
+const SUPPRESS_EOI_BROADCASTS: u32 = 12;
 
 // The ID register's word.
 pub fn id(x2apic: bool, vapic_id: u32) -> u32
     ensures { result ≡ id_word x2apic vapic_id }
 {
     if x2apic {
-        return vapic_id;
+        vapic_id
+    } else {
+        vapic_id % 256 * 0x1000000
     }
-    vapic_id % 256 * 0x1000000
 }
 
 // What TPR keeps of a value.
@@ -59,7 +64,7 @@ pub fn icr_hi(val: u32) -> u32
 }
 
 // ESR, and the errors since it was last written.
-#[derive(Clone, Copy)]
+#[derive(Clone, Copy, Debug, PartialEq, Eq, Hash)]
 pub struct Errors {
     pub esr: u32,
     pub esr_pending: u32,
@@ -79,14 +84,14 @@ pub fn esr(esr_pending: u32) -> Errors
 pub fn illegal_noted(esr_pending: u32) -> u32
     ensures { result ≡ illegal_noted esr_pending }
 {
-    utils::set32::with(esr_pending, SEND_ILLEGAL_VECTOR)
+    esr_pending.with(SEND_ILLEGAL_VECTOR)
 }
 
 // PPR by TPR and the highest vector in service.
 pub fn ppr(tpr: u32, isrv: Vector) -> u32
     ensures { result ≡ priority tpr isrv.0 }
 {
-    let class = utils::prio(isrv.0 as u32) * 16;
+    let class = utils::prio(u32::from(isrv.0)) * 16;
     // So is its class, for the class above has subclass 0.
     if tpr % 256 >= class {
         return tpr;
@@ -98,8 +103,5 @@ pub fn ppr(tpr: u32, isrv: Vector) -> u32
 pub fn is_eoi_broadcast(level_triggered: bool, svr: u32) -> bool
     ensures { result ≡ broadcast level_triggered svr }
 {
-    if level_triggered {
-        return svr / 4096 % 2 != 1;
-    }
-    false
+    level_triggered && !svr.has(SUPPRESS_EOI_BROADCASTS)
 }
