@@ -2,17 +2,15 @@
 use mathlib.Core.Bool.{Bool, true, false, cond}
 use mathlib.Core.List.{List, [], ◌∷◌, ◌++◌, append_assoc}
 use mathlib.Core.Path.{◌≡◌, refl, sym, ap, ◌∙◌}
-use Prim.Native.Nat.{ℕ, suc, ◌+◌, ◌-◌, ◌%◌, ◌≤◌, ◌<◌}
-use native.Mathlib.Nat.{mod-eq_of_lt}
+use Prim.Native.Nat.{ℕ, suc, ◌+◌, ◌-◌, ◌≤◌, ◌<◌}
 use native.Mathlib.Numerals.{add-one}
 use native.Mathlib.Omega.{arith}
 use lib.ListN.{length, take, get_or, set, length-append}
-use lib.Seq.{sets, take-suc, take_all, length-take-le}
+use lib.Seq.{sets, take-suc}
 use lib.Dec.{ltb}
-use borrow.Author.Tests.{lt-ltb, le-ltb}
-use Rattle.io.specs.Digits.{hex_digit_ascii, last_digits, IsDigitCount}
-use Rattle.reply_text.specs.Text.{Puts, decimal_in, decimal, space, newline, words_text, words_line}
-use Rattle.reply_text.proofs.Digits.{digits_decimal}
+use borrow.Author.Tests.{le-ltb}
+use Rattle.io.specs.Digits.{hex_digit_ascii}
+use Rattle.reply_text.specs.Text.{Puts, decimal, space, words_text}
 
 sets_append : (l : List ℕ) (i : ℕ) (vs ws : List ℕ) → sets l i (vs ++ ws) ≡ sets (sets l i vs) (i + length vs) ws
 sets_append l i [] ws = let z : i + 0 ≡ i = omega arith in rw z
@@ -39,10 +37,6 @@ put_is e p = rw e at p
 pub put_as : {l m : List ℕ} {at end : ℕ} {vs ws : List ℕ} → vs ≡ ws → Puts l at vs m end → Puts l at ws m end
 put_as e p = rw e at p
 
--- one byte
-pub one_put : {l : List ℕ} {at b : ℕ} → Puts l at (b ∷ []) (set l at b) (at + 1)
-one_put = record { buffer = refl; end = refl }
-
 -- a line where there is room, and none where there isn't
 pub put_room : {l m : List ℕ} {at end : ℕ} {vs : List ℕ} {b : Bool} → b ≡ true → Puts l at vs m end → Puts l at (cond b vs []) m end
 put_room e p = rw e p
@@ -54,31 +48,6 @@ put_no_room vs e = rw e (record { buffer = refl; end = omega arith })
 pub digit_letter : (d : ℕ) → 10 ≤ d → 97 + (d - 10) ≡ hex_digit_ascii d
 digit_letter d h = let t : ltb d 10 ≡ false = le-ltb d 10 h in rw t (omega arith)
 
--- ---- decimals
-
-pub small_decimal : (n : ℕ) → n < 10 → hex_digit_ascii (n % 16) ∷ [] ≡ decimal n
-unfolding decimal_in
-small_decimal n h =
-    let t : ltb n 10 ≡ true = lt-ltb n 10 h in
-    let m : n % 16 ≡ n = mod-eq_of_lt (omega arith) in
-    rw (m, t)
-
--- digits copied one by one
-pub copied_none : (l : List ℕ) (at : ℕ) (d : List ℕ) → l ≡ sets l at (take 0 d)
-copied_none l at d = refl
-
-pub copied_more : (l m : List ℕ) (at k : ℕ) (d : List ℕ) → k < length d → m ≡ sets l at (take k d) → set m (at + k) (get_or d k 0) ≡ sets l at (take (k + 1) d)
-copied_more l m at k d h e =
-    let n : length (take k d) ≡ k = length-take-le k d (omega arith) in
-    rw (add-one k, take-suc d k 0, sets_append l at (take k d) (get_or d k 0 ∷ []), n, e)
-
-pub copied_all : (l m : List ℕ) (at n k : ℕ) (d : List ℕ) → k ≤ length d → m ≡ sets l at (take k d) → IsDigitCount 10 1 n k → k ≤ 20 → take k d ≡ last_digits 10 k n
-    → Puts l at (decimal n) m (at + k)
-copied_all l m at n k d h e f s t =
-    let w : take k d ≡ decimal n = t ∙ digits_decimal k 20 n f s in
-    let z : k ≡ length (decimal n) = sym (length-take-le k d h) ∙ ap length w in
-    record { buffer = e ∙ ap (sets l at) w; end = ap (λ (x : ℕ). at + x) z }
-
 -- ---- words
 
 words_append : (us ws : List ℕ) → words_text (us ++ ws) ≡ words_text us ++ words_text ws
@@ -87,26 +56,8 @@ words_append [] ws = refl
 words_append (u ∷ us) ws =
     ap (λ (x : List ℕ). decimal u ++ (space ∷ x)) (words_append us ws) ∙ sym (append_assoc (decimal u) (space ∷ words_text us) (words_text ws))
 
-one_more_word : (ws : List ℕ) (k : ℕ) → k < length ws → words_text (take k ws) ++ (decimal (get_or ws k 0) ++ (space ∷ [])) ≡ words_text (take (k + 1) ws)
+pub one_more_word : (ws : List ℕ) (k : ℕ) → k < length ws → words_text (take k ws) ++ (decimal (get_or ws k 0) ++ (space ∷ [])) ≡ words_text (take (k + 1) ws)
 unfolding words_text
 one_more_word ws k h =
     let t : take (k + 1) ws ≡ take k ws ++ (get_or ws k 0 ∷ []) = rw (add-one k) (take-suc ws k 0 h) in
     sym (ap words_text t ∙ words_append (take k ws) (get_or ws k 0 ∷ []))
-
--- words put one by one
-pub no_words : {l : List ℕ} {at : ℕ} (ws : List ℕ) → Puts l at (words_text (take 0 ws)) l at
-unfolding words_text
-no_words ws = record { buffer = refl; end = omega arith }
-
-pub more_words : {l m n o : List ℕ} {at i j e : ℕ} (ws : List ℕ) (k : ℕ) → k < length ws
-    → Puts l at (words_text (take k ws)) m i
-    → Puts m i (decimal (get_or ws k 0)) n j
-    → Puts n j (space ∷ []) o e
-    → Puts l at (words_text (take (k + 1) ws)) o e
-more_words ws k h p q r = put_as (one_more_word ws k h) (then_put p (then_put q r))
-
-pub all_words : {l m n : List ℕ} {at i e : ℕ} (ws : List ℕ) (k : ℕ) → length ws ≤ k
-    → Puts l at (words_text (take k ws)) m i
-    → Puts m i (newline ∷ []) n e
-    → Puts l at (words_line ws) n e
-all_words ws k h p q = then_put (put_as (ap words_text (take_all k ws h)) p) q

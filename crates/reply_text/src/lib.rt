@@ -1,12 +1,14 @@
-// Replies in the words of document 01, "Scripts": the refusal's number, a space, and the values joined by commas, or `-` where there are none. Text is gathered in
-// a lent buffer: a function that puts some takes the place where it starts and answers where it ends. A line is put where the buffer has room for the longest one; where
-// it hasn't, nothing is put, and the place is answered as it came.
+// Replies in the words of document 01, "Scripts": the refusal's number, a space, and the values joined by commas, or `-`
+// where there are none. Text is gathered in a lent buffer: a function that puts some takes the place where it starts and
+// answers where it ends. A line is put where the buffer has room for the longest one; where it hasn't, nothing is put, and
+// the place is answered as it came.
 
 #![tactic(auto)]
 
 ghost use Rattle.std.specs.Prelude.{◌+◌, ◌*◌, ◌%◌, ◌≤◌, ◌<◌, ◌≡◌, [], ◌∷◌, length, leb};
 ghost use Rattle.io.specs.Digits.{hex_digit_ascii};
 ghost use Rattle.types.specs.Reply.{reply_values};
+ghost use Rattle.reply_text.specs.Pages.{PutsOn};
 ghost use Rattle.reply_text.specs.Text.{Puts, in_room, decimal, values, reply_text, line, bad_line, too_long_line, words_line, words_in_room};
 
 use std::io::{Result, Write};
@@ -25,15 +27,14 @@ pub fn print_text<W: Write>(out: &mut W, text: &[u8]) -> Result<()> {
 }
 
 pub fn print_reply<W: Write>(out: &mut W, reply: Reply) -> Result<()> {
-    let mut space = [0u8; 80];
-    print_in(out, &mut space, reply)
-}
-
-fn print_in<W: Write>(out: &mut W, space: &mut [u8], reply: Reply) -> Result<()>
-    requires { 80 ≤ length space.old }
-{
-    let end = put_reply(space, 0, reply);
-    print_text(out, &space[..end])
+    let mut space = [0; LINE];
+    let mut page = Page {
+        out: &mut space,
+        end: 0,
+    };
+    page.put_reply(reply);
+    let end = page.end;
+    out.write_all(&space[..end])
 }
 
 // ---- lines
@@ -46,7 +47,9 @@ pub fn put_line(out: &mut [u8], at: usize, tag: u8, reply: Reply) -> usize
     if !has_room(out.len(), at) {
         return at;
     }
-    line_into(out, at, tag, reply)
+    let mut page = Page { out, end: at };
+    page.put_field(tag, reply);
+    page.end
 }
 
 // The line of a bad field, by its tag's place.
@@ -57,7 +60,9 @@ pub fn put_bad(out: &mut [u8], at: usize, place: usize) -> usize
     if !has_room(out.len(), at) {
         return at;
     }
-    bad_into(out, at, place)
+    let mut page = Page { out, end: at };
+    page.put_bad(place);
+    page.end
 }
 
 // The line of a script that is too long.
@@ -68,7 +73,9 @@ pub fn put_too_long(out: &mut [u8], at: usize) -> usize
     if !has_room(out.len(), at) {
         return at;
     }
-    too_long_into(out, at)
+    let mut page = Page { out, end: at };
+    page.put_too_long();
+    page.end
 }
 
 // A line of words: each in decimal digits with a space behind it, and the end of the line. It is put where the buffer has 21 bytes left for each word, and one more.
@@ -79,158 +86,163 @@ pub fn put_words(out: &mut [u8], at: usize, words: &[u64]) -> usize
     if !has_room_for(out.len(), at, words.len()) {
         return at;
     }
-    words_into(out, at, words)
+    let mut page = Page { out, end: at };
+    page.put_words(words);
+    page.end
 }
 
 // Whether a buffer of that length has room for so many words from a place on.
 fn has_room_for(length: usize, at: usize, count: usize) -> bool
     ensures { result ≡ leb (at + 21 * count + 1) length }
 {
-    if length <= at {
-        return false;
-    }
-    (length - at - 1) / WORD >= count
+    at < length && (length - at - 1) / WORD >= count
 }
 
 // Whether a buffer of that length has room for a line from a place on.
 fn has_room(length: usize, at: usize) -> bool
     ensures { result ≡ leb (at + 80) length }
 {
-    if length < LINE {
-        return false;
+    LINE <= length && at <= length - LINE
+}
+
+// ---- a page: a lent buffer, and where its text ends. Each of these puts what there is room for.
+
+#[derive(Drop)]
+struct Page<'a> {
+    out: &'a mut [u8],
+    end: usize,
+}
+
+impl Page<'_> {
+    fn put_field(&mut self, tag: u8, reply: Reply)
+        requires { self.old.end + 80 ≤ length self.old.out.now }
+        ensures puts { PutsOn self.old (line tag reply) self.new }
+        ensures upper_bound { self.new.end ≤ self.old.end + 80 }
+        ensures same { self.new.out.ghost_name ≡ self.old.out.ghost_name }
+    {
+        self.put(digit(tag / 16));
+        self.put(digit(tag));
+        self.put(b' ');
+        self.put_reply(reply);
     }
-    if length - LINE < at {
-        return false;
+
+    fn put_bad(&mut self, place: usize)
+        requires { self.old.end + 80 ≤ length self.old.out.now }
+        ensures puts { PutsOn self.old (bad_line place) self.new }
+        ensures upper_bound { self.new.end ≤ self.old.end + 80 }
+        ensures same { self.new.out.ghost_name ≡ self.old.out.ghost_name }
+    {
+        self.put_text(b"bad ");
+        self.put_decimal(place as u64);
+        self.put(b'\n');
     }
-    true
-}
 
-// ---- lines, where there is room
-
-fn line_into(out: &mut [u8], at: usize, tag: u8, reply: Reply) -> usize
-    requires { at + 80 ≤ length out.old }
-    ensures puts { Puts out.old at (line tag reply) out.new result }
-    ensures upper_bound { result ≤ at + 80 }
-{
-    let mut end = put(out, at, digit(tag / 16));
-    end = put(out, end, digit(tag));
-    end = put(out, end, b' ');
-    put_reply(out, end, reply)
-}
-
-fn bad_into(out: &mut [u8], at: usize, place: usize) -> usize
-    requires { at + 80 ≤ length out.old }
-    ensures puts { Puts out.old at (bad_line place) out.new result }
-    ensures upper_bound { result ≤ at + 80 }
-{
-    let mut end = put(out, at, b'b');
-    end = put(out, end, b'a');
-    end = put(out, end, b'd');
-    end = put(out, end, b' ');
-    end = put_decimal(out, end, place as u64);
-    put(out, end, b'\n')
-}
-
-fn too_long_into(out: &mut [u8], at: usize) -> usize
-    requires { at + 80 ≤ length out.old }
-    ensures puts { Puts out.old at too_long_line out.new result }
-    ensures upper_bound { result ≤ at + 80 }
-{
-    let end = put_decimal(out, at, Refusal::ScriptTooLong.number() as u64);
-    put(out, end, b'\n')
-}
-
-fn words_into(out: &mut [u8], at: usize, words: &[u64]) -> usize
-    requires { at + 21 * length words.now + 1 ≤ length out.old }
-    ensures puts { Puts out.old at (words_line words.now) out.new result }
-    ensures upper_bound { result ≤ at + 21 * length words.now + 1 }
-{
-    let mut end = at;
-    let mut k = 0;
-    while k < words.len() {
-        end = put_decimal(out, end, words[k]);
-        end = put(out, end, b' ');
-        k += 1;
+    fn put_too_long(&mut self)
+        requires { self.old.end + 80 ≤ length self.old.out.now }
+        ensures puts { PutsOn self.old too_long_line self.new }
+        ensures upper_bound { self.new.end ≤ self.old.end + 80 }
+        ensures same { self.new.out.ghost_name ≡ self.old.out.ghost_name }
+    {
+        self.put_decimal(u64::from(Refusal::ScriptTooLong.number()));
+        self.put(b'\n');
     }
-    put(out, end, b'\n')
-}
 
-// ---- parts of a line
+    fn put_words(&mut self, words: &[u64])
+        requires { self.old.end + 21 * length words.now + 1 ≤ length self.old.out.now }
+        ensures puts { PutsOn self.old (words_line words.now) self.new }
+        ensures upper_bound { self.new.end ≤ self.old.end + 21 * length words.now + 1 }
+        ensures same { self.new.out.ghost_name ≡ self.old.out.ghost_name }
+    {
+        for word in words {
+            self.put_decimal(*word);
+            self.put(b' ');
+        }
+        self.put(b'\n');
+    }
 
-// The number, the values, and the end of the line.
-fn put_reply(out: &mut [u8], at: usize, reply: Reply) -> usize
-    requires { at + 70 ≤ length out.old }
-    ensures puts { Puts out.old at (reply_text reply) out.new result }
-    ensures upper_bound { result ≤ at + 70 }
-{
-    let mut end = put_decimal(out, at, reply.number() as u64);
-    end = put(out, end, b' ');
-    end = put_values(out, end, reply);
-    put(out, end, b'\n')
-}
+    // The number, the values, and the end of the line.
+    fn put_reply(&mut self, reply: Reply)
+        requires { self.old.end + 70 ≤ length self.old.out.now }
+        ensures puts { PutsOn self.old (reply_text reply) self.new }
+        ensures upper_bound { self.new.end ≤ self.old.end + 70 }
+        ensures same { self.new.out.ghost_name ≡ self.old.out.ghost_name }
+    {
+        self.put_decimal(u64::from(reply.number()));
+        self.put(b' ');
+        self.put_values(reply);
+        self.put(b'\n');
+    }
 
-fn put_values(out: &mut [u8], at: usize, reply: Reply) -> usize
-    requires { at + 62 ≤ length out.old }
-    ensures puts { Puts out.old at (values (reply_values reply)) out.new result }
-    ensures upper_bound { result ≤ at + 62 }
-{
-    match reply {
-        Reply::Refused(_) => put(out, at, b'-'),
-        Reply::Nothing => put(out, at, b'-'),
-        Reply::One(a) => put_decimal(out, at, a),
-        Reply::Two(a, b) => put_pair(out, at, a, b),
-        Reply::Three(a, b, c) => {
-            let mut end = put_decimal(out, at, a);
-            end = put(out, end, b',');
-            put_pair(out, end, b, c)
+    fn put_values(&mut self, reply: Reply)
+        requires { self.old.end + 62 ≤ length self.old.out.now }
+        ensures puts { PutsOn self.old (values (reply_values reply)) self.new }
+        ensures upper_bound { self.new.end ≤ self.old.end + 62 }
+        ensures same { self.new.out.ghost_name ≡ self.old.out.ghost_name }
+    {
+        match reply {
+            Reply::Refused(_) => self.put(b'-'),
+            Reply::Nothing => self.put(b'-'),
+            Reply::One(a) => self.put_decimal(a),
+            Reply::Two(a, b) => self.put_pair(a, b),
+            Reply::Three(a, b, c) => {
+                self.put_decimal(a);
+                self.put(b',');
+                self.put_pair(b, c);
+            }
         }
     }
-}
 
-fn put_pair(out: &mut [u8], at: usize, a: u64, b: u64) -> usize
-    requires { at + 41 ≤ length out.old }
-    ensures puts { Puts out.old at (values (a ∷ b ∷ [])) out.new result }
-    ensures upper_bound { result ≤ at + 41 }
-{
-    let mut end = put_decimal(out, at, a);
-    end = put(out, end, b',');
-    put_decimal(out, end, b)
-}
-
-// A number in decimal digits: at most 20 of them.
-fn put_decimal(out: &mut [u8], at: usize, n: u64) -> usize
-    requires { at + 20 ≤ length out.old }
-    ensures puts { Puts out.old at (decimal n) out.new result }
-    ensures upper_bound { result ≤ at + 20 }
-{
-    if n < 10 {
-        return put(out, at, digit(n as u8));
+    fn put_pair(&mut self, a: u64, b: u64)
+        requires { self.old.end + 41 ≤ length self.old.out.now }
+        ensures puts { PutsOn self.old (values (a ∷ b ∷ [])) self.new }
+        ensures upper_bound { self.new.end ≤ self.old.end + 41 }
+        ensures same { self.new.out.ghost_name ≡ self.old.out.ghost_name }
+    {
+        self.put_decimal(a);
+        self.put(b',');
+        self.put_decimal(b);
     }
-    let mut digits = [0u8; 20];
-    let count = io::decimal(n, &mut digits);
-    let mut k = 0;
-    while k < count {
-        out[at + k] = digits[k];
-        k += 1;
+
+    // A number in decimal digits: at most 20 of them.
+    fn put_decimal(&mut self, n: u64)
+        requires { self.old.end + 20 ≤ length self.old.out.now }
+        ensures puts { PutsOn self.old (decimal n) self.new }
+        ensures upper_bound { self.new.end ≤ self.old.end + 20 }
+        ensures same { self.new.out.ghost_name ≡ self.old.out.ghost_name }
+    {
+        let mut digits = [0; 20];
+        let count = io::decimal(n, &mut digits);
+        self.put_text(&digits[..count]);
     }
-    at + count
+
+    fn put_text(&mut self, text: &[u8])
+        requires { self.old.end + length text.now ≤ length self.old.out.now }
+        ensures puts { PutsOn self.old text.now self.new }
+        ensures same { self.new.out.ghost_name ≡ self.old.out.ghost_name }
+    {
+        let end = self.end + text.len();
+        self.out[self.end..end].copy_from_slice(text);
+        self.end = end;
+    }
+
+    fn put(&mut self, byte: u8)
+        requires { self.old.end < length self.old.out.now }
+        ensures puts { PutsOn self.old (byte ∷ []) self.new }
+        ensures same { self.new.out.ghost_name ≡ self.old.out.ghost_name }
+    {
+        self.out[self.end] = byte;
+        self.end += 1;
+    }
 }
 
-fn put(out: &mut [u8], at: usize, byte: u8) -> usize
-    requires { at < length out.old }
-    ensures puts { Puts out.old at (byte ∷ []) out.new result }
-    ensures value { result ≡ at + 1 }
-{
-    out[at] = byte;
-    at + 1
-}
-
+// A hexadecimal digit, of the low half of a byte.
 fn digit(d: u8) -> u8
     ensures { result ≡ hex_digit_ascii (d % 16) }
 {
     let low = d % 16;
     if low < 10 {
-        return b'0' + low;
+        b'0' + low
+    } else {
+        b'a' + (low - 10)
     }
-    b'a' + (low - 10)
 }

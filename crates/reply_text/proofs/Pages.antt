@@ -1,0 +1,59 @@
+-- Texts on a page, one put behind the other. Assumes nothing.
+use mathlib.Core.List.{List, [], ◌∷◌, ◌++◌, append_assoc}
+use mathlib.Core.Path.{◌≡◌, refl, sym, ap, ◌∙◌}
+use Prim.Native.Nat.{ℕ, ◌+◌, ◌-◌, ◌^◌, ◌≤◌, ◌<◌}
+use native.Mathlib.Omega.{arith}
+use lib.ListN.{length, take, get_or, drop}
+use lib.Seq.{sets, length-sets, take_all}
+use borrow.Rule.Slice.PartMut.{put_mid, Post-is}
+use Rattle.std.proofs.lemmas.List.Edits.{sets-eq}
+use Rattle.io.specs.Digits.{last_digits, IsDigitCount}
+use Rattle.reply_text.specs.declared.Page.{Page}
+use Rattle.reply_text.specs.Text.{Puts, decimal, space, newline, words_text, words_line}
+use Rattle.reply_text.specs.Pages.{PutsOn}
+use Rattle.reply_text.proofs.Digits.{at_most_20, digits_decimal}
+use Rattle.reply_text.proofs.Puts.{then_put, one_more_word}
+
+-- bytes behind others
+pub then_text : {p q r : Page} {vs ws : List ℕ} → PutsOn p vs q → PutsOn q ws r → PutsOn p (vs ++ ws) r
+then_text a b = record { puts = then_put a.puts b.puts; long = b.long ∙ a.long }
+
+pub then_byte : {p q r : Page} {b : ℕ} {ws : List ℕ} → PutsOn p (b ∷ []) q → PutsOn q ws r → PutsOn p (b ∷ ws) r
+then_byte a b = then_text a b
+
+-- bytes in their other name
+pub text_is : {p q : Page} {vs ws : List ℕ} → vs ≡ ws → PutsOn p vs q → PutsOn p ws q
+text_is e a = rw e at a
+
+pub byte_is : {p q : Page} {b c : ℕ} → b ≡ c → PutsOn p (b ∷ []) q → PutsOn p (c ∷ []) q
+byte_is e a = rw e at a
+
+-- a text copied onto the page
+module _ (l m b : List ℕ) (at : ℕ) (copied : m ≡ b) (fits : at + length b ≤ length l) where
+  copied_is : put_mid at (at + length b - at) l m ≡ sets l at b
+  copied_is =
+      ap (put_mid at (at + length b - at) l) copied
+      ∙ ap (λ (rest : List ℕ). take at l ++ (b ++ rest)) (Post-is at (at + length b) l (omega arith))
+      ∙ sym (sets-eq b l at fits ∙ append_assoc (take at l) b (drop (at + length b) l))
+
+  pub copied_puts : Puts l at b (put_mid at (at + length b - at) l m) (at + length b)
+  copied_puts = record { buffer = copied_is; end = refl }
+
+  pub copied_long : length (put_mid at (at + length b - at) l m) ≡ length l
+  copied_long = ap length copied_is ∙ length-sets l at b
+
+-- a number's digits
+pub digits_are : (n k : ℕ) (d : List ℕ) → n < 2 ^ 64 → d ≡ last_digits 10 k n → IsDigitCount 10 1 n k → d ≡ decimal n
+digits_are n k d fits e count = e ∙ digits_decimal k 20 n count (at_most_20 n k fits count)
+
+-- words put one by one
+pub no_words : {p : Page} (ws : List ℕ) → PutsOn p (words_text (take 0 ws)) p
+unfolding words_text
+no_words ws = record { puts = record { buffer = refl; end = omega arith }; long = refl }
+
+pub more_words : {p q r s : Page} (ws : List ℕ) (k : ℕ) → k < length ws → PutsOn p (words_text (take k ws)) q
+    → PutsOn q (decimal (get_or ws k 0)) r → PutsOn r (space ∷ []) s → PutsOn p (words_text (take (k + 1) ws)) s
+more_words ws k h a b c = text_is (one_more_word ws k h) (then_text a (then_text b c))
+
+pub all_words : {p q r : Page} (ws : List ℕ) (k : ℕ) → length ws ≤ k → PutsOn p (words_text (take k ws)) q → PutsOn q (newline ∷ []) r → PutsOn p (words_line ws) r
+all_words ws k h a b = then_text (text_is (ap words_text (take_all k ws h)) a) b
