@@ -59,7 +59,7 @@ impl fmt::Display for BadRow {
 }
 
 // Why a text has no lines to plan.
-#[derive(Debug, Drop)]
+#[derive(Debug, Drop, PartialEq, Eq)]
 pub enum Trouble {
     Row(BadRow),
     Memory(AllocError),
