@@ -78,9 +78,6 @@ pub length_giving : (r t : List ℕ) (d : ℕ) → length (giving r t d) ≡ 24
 length_giving r t zero = length-replicate {A = ℕ} 24 0
 length_giving r t (suc d) = length_give r t (giving r t d) (32 + d) ∙ length_giving r t d
 
-pub length_after : (r t given after : List ℕ) (v : ℕ) → after ≡ give r t given v → length given ≡ 24 → length after ≡ 24
-length_after r t given after v e h = ap length e ∙ length_give r t given v ∙ h
-
 -- after 255, the last, all are given
 pub giving_last : (r t given after : List ℕ) (v : ℕ) → given ≡ giving r t (v - 32) → v ≡ 255 → after ≡ give r t given v → after ≡ planned r t
 unfolding planned

@@ -23,19 +23,21 @@ pub mod shortage;
 pub fn range(lowest: Vector, highest: Vector) -> u16
     ensures { result ≡ lowest.0 + 256 * highest.0 }
 {
-    u16::from(lowest.0) + 256 * u16::from(highest.0)
+    u16::from_le_bytes([lowest.0, highest.0])
 }
 
 pub fn lowest(range: u16) -> Vector
     ensures { result.0 ≡ lowest_of range }
 {
-    Vector((range % 256) as u8)
+    let [lowest, _] = range.to_le_bytes();
+    Vector(lowest)
 }
 
 pub fn highest(range: u16) -> Vector
     ensures { result.0 ≡ highest_of range }
 {
-    Vector((range / 256) as u8)
+    let [_, highest] = range.to_le_bytes();
+    Vector(highest)
 }
 
 pub fn is_taken(taken: &[u64; 4], vector: Vector) -> bool
