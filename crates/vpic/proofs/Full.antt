@@ -22,9 +22,9 @@ use Rattle.vpic_chip.specs.Chip.{asks, driven, acknowledged, is_polled, polled, 
 use Rattle.vpic.specs.declared.PicInterruptClaim.{PicInterruptClaim}
 use Rattle.vpic.specs.declared.PicPort.{PicPort}
 use Rattle.vpic.specs.Words.{PicState, is_full, plain_view, full_view, view}
-use Rattle.vpic.specs.Pair.{is_cascade, chips, settled, latched_at, latched, StateClaim, state_claim, master_claim, slave_claim, pending_place, claim_at, claim_pending, claim_irq, restored_at, restored, restore_interrupt, Port, master_command, master_data, slave_command, slave_data, no_port, port_at, is_there, written_to, written_at, is_port, master_read, slave_read, left_after, port_read, port_left, port_written, value_reply, handle_read, handle_write, claim_vector, with_claim, with_vector, claim_outcome, vector_outcome, done_outcome, value_outcome, at_port, port_found, read_from}
-use Rattle.vpic.specs.Claim.{claim_in, claim_number, numbered, with_number, master_taken, slave_taken, is_quiet, outcome_at, byte_shown, plain_shown}
-use Rattle.vpic.proofs.Laws.{settle_off, settle_on, claim_known, irq_reply, irq_vector, pending_vector, quiet, unasked, restore_way, restore_done, write_settled, write_out, write_done, read_master_command, read_master_data, read_slave_command, read_slave_data, port_there, port_missing}
+use Rattle.vpic.specs.Pair.{is_cascade, chips, settled, latched_at, latched, StateClaim, state_claim, master_claim, slave_claim, pending_place, claim_at, claim_pending, claim_irq, restored_at, restored, restore_interrupt, Port, master_command, master_data, slave_command, slave_data, no_port, port_at, is_there, written_to, written_at, is_port, master_read, slave_read, left_after, port_read, port_left, port_written, value_reply, handle_read, handle_write, claim_vector, with_claim, with_vector, claim_outcome, vector_outcome, done_outcome, value_outcome, at_port, port_found, read_from, done_reply}
+use Rattle.vpic.specs.Claim.{claim_in, claim_number, numbered, with_number, master_taken, slave_taken, is_quiet, port_outcome, settled_outcome, byte_shown, plain_shown}
+use Rattle.vpic.proofs.Laws.{settle_off, settle_on, claim_known, irq_reply, irq_vector, pending_vector, quiet, unasked, restore_way, restore_done, write_by}
 
 -- ---- the full road
 
@@ -237,17 +237,23 @@ module _ (l m : List ℕ) (b : Bool) (c : PicInterruptClaim) (o : Option PicPlac
       restore_full n (e ∙ ap (λ (y : Option PicPlace). settled (restored_at (full_view l) y c.master_in_service c.slave_in_service)) (low ∙ sym eo ∙ ex))
 
 -- a port written, by either road
-module _ (l m : List ℕ) (port width value byte : ℕ) (b : Bool) (x : Result PicPort Refusal) (a : PicPort) (h : width ≡ 1) (eb : b ≡ is_full (view l).rule) (ex : x ≡ port_found port) (ea : x ≡ Ok a)
-    (ey : byte ≡ value % 256) where
-  pub write_plain : (q : PicState) → b ≡ false → q ≡ written_to (plain_view l) (at_port a) byte → plain_view m ≡ settled q → done_outcome (view m) (Ok tt) ≡ handle_write (view l) port width value
-  write_plain q n e em =
-      write_done port x ex (view l) width value byte a h ea ey (view m)
-      (by_plain l m (λ p. port_written p port (value % 256)) (written_rule port (value % 256)) (sym eb ∙ n) (write_settled port x ex (plain_view l) width value byte a h ea ey (plain_view m) (em ∙ ap settled e)))
+settled_rule_of : (port byte : ℕ) (p : PicState) → (settled_outcome p port byte).state.rule ≡ p.rule
+settled_rule_of port byte p = both (λ (o : Outcome PicState). o.state.rule ≡ p.rule) (is_port port) _ _ (written_rule port byte p) refl
 
-  pub write_full : b ≡ true → full_view m ≡ settled (written_to (full_view l) (at_port a) byte) → done_outcome (view m) (Ok tt) ≡ handle_write (view l) port width value
+module _ (l m : List ℕ) (port width value byte : ℕ) (b : Bool) (d : Result (Unit {0}) Refusal) (h : width ≡ 1) (eb : b ≡ is_full (view l).rule) (ey : byte ≡ value % 256) where
+  pub write_plain : b ≡ false → done_outcome (plain_view m) d ≡ settled_outcome (plain_view l) port byte → done_outcome (view m) d ≡ handle_write (view l) port width value
+  write_plain n e =
+      let f : is_full (view l).rule ≡ false = sym eb ∙ n in
+      let s : view m ≡ (settled_outcome (view l) port byte).state = by_plain l m (λ p. (settled_outcome p port byte).state) (settled_rule_of port byte) f (ap (λ (o : Outcome PicState). o.state) e) in
+      let r : done_reply d ≡ (settled_outcome (view l) port byte).reply = ap (λ (o : Outcome PicState). o.reply) e ∙ ap (λ (p : PicState). (settled_outcome p port byte).reply) (sym (view_plain l f)) in
+      write_by (view l) _ port width value byte h ey (λ i. record { state = s i; reply = r i })
+
+  pub write_full : b ≡ true → done_outcome (full_view m) d ≡ settled_outcome (full_view l) port byte → done_outcome (view m) d ≡ handle_write (view l) port width value
   write_full n e =
-      write_done port x ex (view l) width value byte a h ea ey (view m)
-      (by_full l m (λ p. port_written p port (value % 256)) (written_rule port (value % 256)) (sym eb ∙ n) (write_settled port x ex (full_view l) width value byte a h ea ey (full_view m) e))
+      let f : is_full (view l).rule ≡ true = sym eb ∙ n in
+      let s : view m ≡ (settled_outcome (view l) port byte).state = by_full l m (λ p. (settled_outcome p port byte).state) (settled_rule_of port byte) f (ap (λ (o : Outcome PicState). o.state) e) in
+      let r : done_reply d ≡ (settled_outcome (view l) port byte).reply = ap (λ (o : Outcome PicState). o.reply) e ∙ ap (λ (p : PicState). (settled_outcome p port byte).reply) (sym (view_full l f)) in
+      write_by (view l) _ port width value byte h ey (λ i. record { state = s i; reply = r i })
 
 -- a port read, by either road
 left_rule : (port : ℕ) (p : PicState) → (port_left p port).rule ≡ p.rule
@@ -279,41 +285,28 @@ plain_left l port = go (port_at port)
     go slave_data = refl
     go no_port = refl
 
-module _ (l : List ℕ) (port width : ℕ) (b : Bool) (w : width ≡ 1) (eb : b ≡ is_full (view l).rule) where
-  by_port : (v : Result ℕ Refusal) → b ≡ false → v ≡ port_read (plain_view l) port → value_outcome (view l) v ≡ handle_read (view l) port width
-  by_port v n e =
+module _ (l : List ℕ) (port width : ℕ) (b : Bool) (v : Result ℕ Refusal) (w : width ≡ 1) (eb : b ≡ is_full (view l).rule) where
+  pub read_plain : b ≡ false → v ≡ port_read (plain_view l) port → value_outcome (view l) v ≡ handle_read (view l) port width
+  read_plain n e =
       let q : view l ≡ plain_view l = view_plain l (sym eb ∙ n) in
       rw w (ap₂ value_outcome (q ∙ sym (plain_left l port) ∙ ap (λ (p : PicState). port_left p port) (sym q)) (e ∙ ap (λ (p : PicState). port_read p port) (sym q)))
 
-  module _ (x : Result PicPort Refusal) (a : PicPort) (n : ℕ) (ex : x ≡ port_found port) (ea : x ≡ Ok a) where
-    pub read_plain : b ≡ false → Ok n ≡ read_from (plain_view l) (at_port a) → value_outcome (view l) (Ok n) ≡ handle_read (view l) port width
-    unfolding port_read
-    read_plain f e = by_port (Ok n) f (e ∙ ap (read_from (plain_view l)) (sym (port_there port x ex a ea)))
-
-    pub read_full : (m : List ℕ) → b ≡ true → value_outcome (full_view m) (Ok n) ≡ outcome_at (full_view l) (at_port a) → value_outcome (view m) (Ok n) ≡ handle_read (view l) port width
-    unfolding port_left port_read
-    read_full m t e' =
-        let e : value_outcome (full_view m) (Ok n) ≡ outcome_at (full_view l) (port_at port) = e' ∙ ap (outcome_at (full_view l)) (sym (port_there port x ex a ea)) in
-        let f : is_full (view l).rule ≡ true = sym eb ∙ t in
-        let s : view m ≡ port_left (view l) port = by_full l m (λ p. port_left p port) (left_rule port) f (ap (λ (o : Outcome PicState). o.state) e) in
-        let r : value_reply (Ok n) ≡ value_reply (port_read (view l) port) = ap (λ (o : Outcome PicState). o.reply) e ∙ ap (λ (p : PicState). value_reply (port_read p port)) (sym (view_full l f)) in
-        rw w (λ i. record { state = s i; reply = r i })
+  pub read_full : (m : List ℕ) → b ≡ true → value_outcome (full_view m) v ≡ port_outcome (full_view l) port → value_outcome (view m) v ≡ handle_read (view l) port width
+  read_full m n e =
+      let f : is_full (view l).rule ≡ true = sym eb ∙ n in
+      let s : view m ≡ port_left (view l) port = by_full l m (λ p. port_left p port) (left_rule port) f (ap (λ (o : Outcome PicState). o.state) e) in
+      let r : value_reply v ≡ value_reply (port_read (view l) port) = ap (λ (o : Outcome PicState). o.reply) e ∙ ap (λ (p : PicState). value_reply (port_read p port)) (sym (view_full l f)) in
+      rw w (λ i. record { state = s i; reply = r i })
 
 -- what a read shows where that is all that it does
 module _ (l : List ℕ) (port : ℕ) (b : Bool) (eb : b ≡ is_full (view l).rule) where
   pub shown_full : b ≡ true → None ≡ plain_shown (view l) port
   shown_full t = ap (λ (x : Bool). cond x None (byte_shown (port_read (view l) port))) (sym t ∙ eb)
 
-  pub shown_plain : (n : ℕ) (x : Result PicPort Refusal) (a : PicPort) → b ≡ false → x ≡ port_found port → x ≡ Ok a → Ok n ≡ read_from (plain_view l) (at_port a) → Some n ≡ plain_shown (view l) port
-  unfolding port_read
-  shown_plain n x a f ex ea e =
+  pub shown_plain : (v : Result ℕ Refusal) (o : Option ℕ) → b ≡ false → v ≡ port_read (plain_view l) port → o ≡ byte_shown v → o ≡ plain_shown (view l) port
+  shown_plain v o f e eo =
       let z : is_full (view l).rule ≡ false = sym eb ∙ f in
-      ap byte_shown (e ∙ ap (read_from (plain_view l)) (sym (port_there port x ex a ea))) ∙ ap (λ (p : PicState). byte_shown (port_read p port)) (sym (view_plain l z))
-      ∙ ap (λ (x : Bool). cond x None (byte_shown (port_read (view l) port))) (sym z)
-
-pub shown_nowhere : (p : PicState) (port : ℕ) (x : Result PicPort Refusal) (why : Refusal) → x ≡ port_found port → x ≡ Err why → None ≡ plain_shown p port
-unfolding port_read
-shown_nowhere p port x why ex h = rw ((port_missing port x ex why h).0) (both (λ (o : Option ℕ). None ≡ o) (is_full p.rule) _ _ refl refl)
+      eo ∙ ap byte_shown e ∙ ap (λ (p : PicState). byte_shown (port_read p port)) (sym (view_plain l z)) ∙ ap (λ (x : Bool). cond x None (byte_shown (port_read (view l) port))) (sym z)
 
 -- where it shows a byte, the read is that
 pub shown_read : (l : List ℕ) (port n : ℕ) (o : Option ℕ) → o ≡ plain_shown (view l) port → o ≡ Some n → value_outcome (view l) (Ok n) ≡ handle_read (view l) port 1
@@ -326,4 +319,4 @@ shown_read l port n o e h = go (is_full (view l).rule) refl (sym h ∙ e)
     go : (b : Bool) → is_full (view l).rule ≡ b → Some n ≡ cond b None (byte_shown (port_read (view l) port)) → value_outcome (view l) (Ok n) ≡ handle_read (view l) port 1
     go true f q = let z : ◌≡◌ {A = ℕ} 0 1 = cc in absurd (omega (arith, z))
     go false f q =
-        by_port l port 1 false refl (sym f) (Ok n) refl (value (port_read (view l) port) q ∙ ap (λ (p : PicState). port_read p port) (view_plain l f))
+        read_plain l port 1 false (Ok n) refl (sym f) refl (value (port_read (view l) port) q ∙ ap (λ (p : PicState). port_read p port) (view_plain l f))

@@ -33,8 +33,8 @@ use Rattle.vpic.specs.declared.PicPort.{PicPort}
 use Rattle.vpic.specs.declared.PicPort.TheVariants.{MasterCommand, MasterData, SlaveCommand, SlaveData}
 use Rattle.types.specs.declared.Refusal.{Refusal}
 use Rattle.vpic.specs.Words.{PicState, plain_view, view}
-use Rattle.vpic.specs.Pair.{rule_number, rule_in, drives, chips, is_cascade, settled, Keeps, is_place, latched_at, latched, StateClaim, state_claim, grew, claim_of, master_claim, slave_claim, pending_place, claim_at, claim_pending, claim_irq, restored_at, restored, restore_interrupt, Port, master_command, master_data, slave_command, slave_data, no_port, port_at, is_there, written_to, written_at, is_port, port_written, handle_write, master_read, slave_read, port_read, port_left, new_state, claim_vector, with_claim, with_vector, claim_outcome, vector_outcome, done_outcome, value_outcome, at_port, found_at, port_found, read_from, left_after, handle_read}
-use Rattle.vpic.specs.Claim.{master_taken, slave_taken, taken_at, is_quiet, ReadOf, outcome_at}
+use Rattle.vpic.specs.Pair.{rule_number, rule_in, drives, chips, is_cascade, settled, Keeps, is_place, latched_at, latched, StateClaim, state_claim, grew, claim_of, master_claim, slave_claim, pending_place, claim_at, claim_pending, claim_irq, restored_at, restored, restore_interrupt, Port, master_command, master_data, slave_command, slave_data, no_port, port_at, is_there, written_to, written_at, is_port, port_written, handle_write, master_read, slave_read, port_read, port_left, new_state, claim_vector, with_claim, with_vector, claim_outcome, vector_outcome, done_outcome, value_outcome, at_port, found_at, port_found, read_from, left_after, handle_read, value_reply, refused, done_reply}
+use Rattle.vpic.specs.Claim.{master_taken, slave_taken, taken_at, is_quiet, ReadOf, port_outcome, write_outcome, settled_outcome}
 use Rattle.vpic.proofs.Ready.{ready_master, ready_slave, low_slave}
 use Rattle.vpic.proofs.Settled.{settled_kept, settled_twice, master_leaves, slave_leaves}
 
@@ -411,6 +411,10 @@ module _ (p q : PicState) (a : PicPort) (v : ℕ) (m d : Chip) where
   pub write_slave_data : a ≡ SlaveData → m ≡ p.slave → d ≡ fed m v → q ≡ chips p p.master d → q ≡ written_to p (at_port a) v
   write_slave_data h em ed eq = rw h (cc)
 
+-- a read of a port, by where it stands
+abbrev outcome_at : PicState → Port → Outcome PicState
+outcome_at p a = record { state = left_after p a; reply = value_reply (read_from p a) }
+
 -- a port that is found stands there, and one that isn't nowhere
 module _ (port : ℕ) (x : Result PicPort Refusal) (ex : x ≡ port_found port) where
   pub port_there : (a : PicPort) → x ≡ Ok a → port_at port ≡ at_port a
@@ -433,15 +437,19 @@ module _ (port : ℕ) (x : Result PicPort Refusal) (ex : x ≡ port_found port) 
       go slave_data e = let z : ◌≡◌ {A = ℕ} 0 1 = cc in absurd (omega (arith, z))
       go no_port e = let k : Unsupported ≡ why = cc in (refl, sym k)
 
-  module _ (p : PicState) (width : ℕ) (why : Refusal) (w : width ≡ 1) (h : x ≡ Err why) where
-    pub write_out : (value : ℕ) → done_outcome p (Err Unsupported) ≡ handle_write p port width value
-    write_out value = rw (w, (port_missing why h).0)
+  module _ (p : PicState) (why : Refusal) (h : x ≡ Err why) where
+    pub write_out : (byte : ℕ) → done_outcome p (Err why) ≡ write_outcome p port byte
+    write_out byte = let m = port_missing why h in rw (m.0, m.1)
 
-    pub read_out : value_outcome p (Err Unsupported) ≡ handle_read p port width
+    pub read_out : Err why ≡ port_read p port
+    unfolding port_read
+    read_out = let m = port_missing why h in rw (m.0, m.1)
+
+    pub full_read_out : value_outcome p (Err why) ≡ port_outcome p port
     unfolding port_left port_read
-    read_out = rw (w, (port_missing why h).0)
+    full_read_out = let m = port_missing why h in rw (m.0, m.1)
 
-  module _ (p : PicState) (width value byte : ℕ) (a : PicPort) (w : width ≡ 1) (h : x ≡ Ok a) (eb : byte ≡ value % 256) where
+  module _ (p : PicState) (a : PicPort) (h : x ≡ Ok a) where
     there_port : is_port port ≡ true
     there_port = ap is_there (port_there a h) ∙ go a
       where
@@ -451,12 +459,52 @@ module _ (port : ℕ) (x : Result PicPort Refusal) (ex : x ≡ port_found port) 
         go SlaveCommand = refl
         go SlaveData = refl
 
-    pub write_settled : (r : PicState) → r ≡ settled (written_to p (at_port a) byte) → r ≡ port_written p port (value % 256)
-    unfolding port_written written_at
-    write_settled r er = er ∙ ap₂ (λ (c : Port) (v : ℕ). settled (written_to p c v)) (sym (port_there a h)) eb
+    pub write_found : (q : PicState) (byte : ℕ) → q ≡ written_to p (at_port a) byte → done_outcome q (Ok tt) ≡ write_outcome p port byte
+    unfolding written_at
+    write_found q byte e = rw there_port (ap (λ (s : PicState). done_outcome s (Ok tt)) (e ∙ ap (λ (c : Port). written_to p c byte) (sym (port_there a h))))
 
-    pub write_done : (q : PicState) → q ≡ port_written p port (value % 256) → done_outcome q (Ok tt) ≡ handle_write p port width value
-    write_done q e = rw (w, there_port) (ap (λ (s : PicState). done_outcome s (Ok tt)) e)
+    pub read_found : (v : ℕ) → Ok v ≡ read_from p (at_port a) → Ok v ≡ port_read p port
+    unfolding port_read
+    read_found v e = e ∙ ap (read_from p) (sym (port_there a h))
+
+    pub full_read_found : (q : PicState) (v : ℕ) → value_outcome q (Ok v) ≡ outcome_at p (at_port a) → value_outcome q (Ok v) ≡ port_outcome p port
+    unfolding port_left port_read
+    full_read_found q v e = e ∙ ap (outcome_at p) (sym (port_there a h))
+
+-- what is written is settled
+module _ (p q r : PicState) (port byte : ℕ) (d : Result (Unit {0}) Refusal) (e : done_outcome q d ≡ write_outcome p port byte) where
+  written_known : (b : Bool) → is_port port ≡ b → done_outcome q d ≡ cond b (record { state = written_at p port byte; reply = reply.Nothing }) (refused p Unsupported)
+  written_known b f = e ∙ ap (λ (x : Bool). cond x (record { state = written_at p port byte; reply = reply.Nothing }) (refused p Unsupported)) f
+
+  -- refused exactly where the pair hasn't that port
+  pub write_refused : (why : Refusal) → d ≡ Err why → (q ≡ p) × (is_port port ≡ false)
+  write_refused why h = go (is_port port) refl
+    where
+      go : (b : Bool) → is_port port ≡ b → (q ≡ p) × (is_port port ≡ false)
+      go true f =
+          let z : ◌≡◌ {A = Reply} (reply.Refused why) reply.Nothing = ap done_reply (sym h) ∙ ap (λ (o : Outcome PicState). o.reply) (written_known true f) in
+          let y : ◌≡◌ {A = ℕ} 0 1 = cc in absurd (omega (arith, y))
+      go false f = (ap (λ (o : Outcome PicState). o.state) (written_known false f), f)
+
+  pub write_made : (u : Unit {0}) → d ≡ Ok u → (q ≡ written_at p port byte) × (is_port port ≡ true)
+  write_made u h = go (is_port port) refl
+    where
+      go : (b : Bool) → is_port port ≡ b → (q ≡ written_at p port byte) × (is_port port ≡ true)
+      go true f = (ap (λ (o : Outcome PicState). o.state) (written_known true f), f)
+      go false f =
+          let z : ◌≡◌ {A = Reply} reply.Nothing (reply.Refused Unsupported) = ap done_reply (sym h) ∙ ap (λ (o : Outcome PicState). o.reply) (written_known false f) in
+          let y : ◌≡◌ {A = ℕ} 0 1 = cc in absurd (omega (arith, y))
+
+  pub settle_refused : (why : Refusal) → d ≡ Err why → done_outcome q (Err why) ≡ settled_outcome p port byte
+  settle_refused why h = ap (done_outcome q) (sym h) ∙ e ∙ rw ((write_refused why h).1)
+
+  pub settle_made : (u : Unit {0}) → d ≡ Ok u → r ≡ settled q → done_outcome r (Ok tt) ≡ settled_outcome p port byte
+  unfolding port_written
+  settle_made u h er = let f = write_made u h in rw (f.1) (ap (λ (s : PicState). done_outcome s (Ok tt)) (er ∙ ap settled f.0))
+
+-- so a write of the value's low byte
+pub write_by : (p : PicState) (o : Outcome PicState) (port width value byte : ℕ) → width ≡ 1 → byte ≡ value % 256 → o ≡ settled_outcome p port byte → o ≡ handle_write p port width value
+write_by p o port width value byte w ey e = rw w (e ∙ ap (settled_outcome p port) ey)
 
 -- a read without a poll shows its register
 module _ (p : PicState) (a : PicPort) (v : ℕ) (m : Chip) (f : m.full ≡ false) where

@@ -7,12 +7,14 @@ use Rattle.utils.specs.Set.{bit}
 use Rattle.types.specs.declared.PicLine.{PicLine}
 use Rattle.types.specs.declared.PicPlace.{PicPlace}
 use Rattle.types.specs.declared.PicPlace.TheVariants.{Master, Slave}
+use Rattle.types.specs.declared.Refusal.TheVariants.{Unsupported}
+use Rattle.types.specs.declared.Reply.TheVariants as reply
 use Rattle.types.specs.Reply.{Outcome}
 use Rattle.reply_code.specs.Lent.{reply_code}
 use Rattle.vpic_chip.specs.Registers.{Chip}
 use Rattle.vpic_chip.specs.Chip.{cascade_irq, acknowledged, read_shown}
 use Rattle.vpic.specs.Words.{PicState, is_full}
-use Rattle.vpic.specs.Pair.{StateClaim, state_claim, chips, nothing_claimed, master_claim, slave_claim, claim_reply, Port, left_after, read_from, port_read, value_reply}
+use Rattle.vpic.specs.Pair.{StateClaim, state_claim, chips, nothing_claimed, master_claim, slave_claim, claim_reply, port_left, port_read, is_port, written_at, port_written, refused, value_reply}
 
 -- the vector in bits 0 to 7, the line in 16 to 23, and the two flags in 32 and 33
 abbrev pub claim_in : ℕ → Option PicInterruptClaim
@@ -60,8 +62,15 @@ pub record ReadOf (c : Chip) (left q : PicState) (register shown : ℕ) : Type 0
   pub answer : shown ≡ read_shown c register
 
 -- a read of a port, of one byte
-abbrev pub outcome_at : PicState → Port → Outcome PicState
-outcome_at p a = record { state = left_after p a; reply = value_reply (read_from p a) }
+abbrev pub port_outcome : PicState → ℕ → Outcome PicState
+port_outcome p port = record { state = port_left p port; reply = value_reply (port_read p port) }
+
+-- a write, before and after the pair is settled
+abbrev pub write_outcome : PicState → ℕ → ℕ → Outcome PicState
+write_outcome p port byte = cond (is_port port) (record { state = written_at p port byte; reply = reply.Nothing }) (refused p Unsupported)
+
+abbrev pub settled_outcome : PicState → ℕ → ℕ → Outcome PicState
+settled_outcome p port byte = cond (is_port port) (record { state = port_written p port byte; reply = reply.Nothing }) (refused p Unsupported)
 
 -- what a read of a port, of one byte, shows where that is all that it does, and nothing elsewhere: a full pair's read may be a poll's, and a port that the pair hasn't is refused
 abbrev pub byte_shown : Result ℕ Refusal → Option ℕ

@@ -6,14 +6,14 @@
 
 #![tactic(auto)]
 
-ghost use Rattle.std.specs.Prelude.{◌≡◌, true, false, not, eqb, Some, Ok};
+ghost use Rattle.std.specs.Prelude.{◌≡◌, true, false, not, eqb, Some};
 ghost use Rattle.types.specs.Counters.{place_of};
 ghost use Rattle.types.specs.declared.PicPlace.TheVariants as place;
 ghost use Rattle.vpic_chip.specs.Registers.{chip_in, full_in, placed};
 ghost use Rattle.vpic.specs.Words.{is_full, plain_view, full_view, view};
-ghost use Rattle.vpic.specs.Claim.{claim_in, claim_number, numbered, with_number, master_taken, slave_taken, taken_at, is_quiet, ReadOf, outcome_at, plain_shown};
+ghost use Rattle.vpic.specs.Claim.{claim_in, claim_number, numbered, with_number, master_taken, slave_taken, taken_at, is_quiet, ReadOf, port_outcome, write_outcome, settled_outcome, plain_shown};
 ghost use Rattle.vpic.specs.declared.PicRule.TheVariants as rules;
-ghost use Rattle.vpic.specs.Pair.{rule_in, rule_number, is_rule, chips, is_cascade, settled, latched_at, state_claim, claim_of, slave_claim, pending_place, claim_pending, claim_irq, restored_at, at_port, port_found, read_from, master_read, slave_read, written_to, rule_of, claim_flags, interrupt_reply, claim_vector, with_claim, with_vector, claim_outcome, vector_outcome, done_outcome, value_outcome, new_state, port_ranges, restore_interrupt, handle_read, handle_write};
+ghost use Rattle.vpic.specs.Pair.{rule_in, rule_number, is_rule, chips, is_cascade, settled, latched_at, state_claim, claim_of, slave_claim, pending_place, claim_pending, claim_irq, restored_at, port_found, port_read, master_read, slave_read, rule_of, claim_flags, interrupt_reply, claim_vector, with_claim, with_vector, claim_outcome, vector_outcome, done_outcome, value_outcome, new_state, port_ranges, restore_interrupt, handle_read, handle_write};
 
 use types::{PicLine, PicPlace, Refusal, Reply, ToReply, Vector};
 use utils::seen;
@@ -568,14 +568,15 @@ impl TryFrom<u64> for PicPort {
 }
 
 // What a byte read of a port shows, where no poll can wait.
-fn read_port(words: &[u64; 4], port: PicPort) -> u8
-    ensures { Ok result ≡ read_from (plain_view words.now) (at_port port) }
+fn read_port(words: &[u64; 4], port: u64) -> Result<u8, Refusal>
+    ensures { result ≡ port_read (plain_view words.now) port }
 {
+    let port = PicPort::try_from(port)?;
     match port {
-        PicPort::MasterCommand => master(words).read_command(),
-        PicPort::MasterData => master(words).mask(),
-        PicPort::SlaveCommand => slave(words).read_command(),
-        PicPort::SlaveData => slave(words).mask(),
+        PicPort::MasterCommand => Ok(master(words).read_command()),
+        PicPort::MasterData => Ok(master(words).mask()),
+        PicPort::SlaveCommand => Ok(slave(words).read_command()),
+        PicPort::SlaveData => Ok(slave(words).mask()),
     }
 }
 
@@ -586,48 +587,47 @@ pub fn handle_read(words: &mut [u64; 4], port: u64, width: u64) -> Result<u8, Re
     if width != 1 {
         return Err(Refusal::Unsupported);
     }
-    let Ok(port) = PicPort::try_from(port) else {
-        return Err(Refusal::Unsupported);
-    };
     if is_full(words) {
-        return Ok(full_read(words, port));
+        return full_read(words, port);
     }
-    Ok(read_port(words, port))
+    read_port(words, port)
 }
 
 // What a byte read of a port shows, and nothing where that isn't all: the pair may have a poll that waits, or hasn't that port.
 pub fn plain_read(words: &[u64; 4], port: u64) -> Option<u8>
     ensures { result ≡ plain_shown (view words.now) port }
 {
-    let Ok(port) = PicPort::try_from(port) else {
-        return None;
-    };
     if is_full(words) {
         return None;
     }
-    Some(read_port(words, port))
+    read_port(words, port).ok()
 }
 
 // A byte is written to a port.
-fn write_at(words: &mut [u64; 4], port: PicPort, byte: u8)
-    ensures { plain_view words.new ≡ written_to (plain_view words.old) (at_port port) byte }
+fn write_at(words: &mut [u64; 4], port: u64, byte: u8) -> Result<(), Refusal>
+    ensures { done_outcome (plain_view words.new) result ≡ write_outcome (plain_view words.old) port byte }
 {
+    let port = PicPort::try_from(port)?;
     match port {
         PicPort::MasterCommand => {
             let written = master(words).command(byte);
             set_master(words, written);
+            Ok(())
         }
         PicPort::MasterData => {
             let written = master(words).data(byte);
             set_master(words, written);
+            Ok(())
         }
         PicPort::SlaveCommand => {
             let written = slave(words).command(byte);
             set_slave(words, written);
+            Ok(())
         }
         PicPort::SlaveData => {
             let written = slave(words).data(byte);
             set_slave(words, written);
+            Ok(())
         }
     }
 }
@@ -639,20 +639,15 @@ pub fn handle_write(words: &mut [u64; 4], port: u64, width: u64, value: u64) -> 
     if width != 1 {
         return Err(Refusal::Unsupported);
     }
-    let Ok(port) = PicPort::try_from(port) else {
-        return Err(Refusal::Unsupported);
-    };
     let byte = (value % 256) as u8;
     if is_full(words) {
         // In two arms, as above.
         if value >= 256 {
-            full_write(words, port, byte);
-            return Ok(());
+            return full_write(words, port, byte);
         }
-        full_write(words, port, byte);
-        return Ok(());
+        return full_write(words, port, byte);
     }
-    write_at(words, port, byte);
+    write_at(words, port, byte)?;
     settle(words);
     Ok(())
 }
@@ -816,25 +811,30 @@ fn full_restore_at(words: &mut [u64; 4], place: PicPlace, claim: PicInterruptCla
     }
 }
 
-fn full_write_at(words: &mut [u64; 4], port: PicPort, byte: u8)
-    ensures { full_view words.new ≡ written_to (full_view words.old) (at_port port) byte }
+fn full_write_at(words: &mut [u64; 4], port: u64, byte: u8) -> Result<(), Refusal>
+    ensures { done_outcome (full_view words.new) result ≡ write_outcome (full_view words.old) port byte }
 {
+    let port = PicPort::try_from(port)?;
     match port {
         PicPort::MasterCommand => {
             let written = full_master(words).full_command(byte);
             full_set_master(words, written);
+            Ok(())
         }
         PicPort::MasterData => {
             let written = full_master(words).full_data(byte);
             full_set_master(words, written);
+            Ok(())
         }
         PicPort::SlaveCommand => {
             let written = full_slave(words).full_command(byte);
             full_set_slave(words, written);
+            Ok(())
         }
         PicPort::SlaveData => {
             let written = full_slave(words).full_data(byte);
             full_set_slave(words, written);
+            Ok(())
         }
     }
 }
@@ -873,34 +873,37 @@ fn full_read_slave(words: &mut [u64; 4], register: u8) -> u8
     shown
 }
 
-fn full_read(words: &mut [u64; 4], port: PicPort) -> u8
-    ensures { value_outcome (full_view words.new) (Ok result) ≡ outcome_at (full_view words.old) (at_port port) }
+fn full_read(words: &mut [u64; 4], port: u64) -> Result<u8, Refusal>
+    ensures { value_outcome (full_view words.new) result ≡ port_outcome (full_view words.old) port }
 {
+    let port = PicPort::try_from(port)?;
     match port {
         PicPort::MasterCommand => {
             let status = full_master(words).read_command();
-            full_read_master(words, status)
+            Ok(full_read_master(words, status))
         }
         PicPort::MasterData => {
             let mask = full_master(words).mask();
-            full_read_master(words, mask)
+            Ok(full_read_master(words, mask))
         }
         PicPort::SlaveCommand => {
             let status = full_slave(words).read_command();
-            full_read_slave(words, status)
+            Ok(full_read_slave(words, status))
         }
         PicPort::SlaveData => {
             let mask = full_slave(words).mask();
-            full_read_slave(words, mask)
+            Ok(full_read_slave(words, mask))
         }
     }
 }
 
-fn full_write(words: &mut [u64; 4], port: PicPort, byte: u8)
-    ensures { full_view words.new ≡ settled (written_to (full_view words.old) (at_port port) byte) }
+// A write of a byte, and the settling after it.
+fn full_write(words: &mut [u64; 4], port: u64, byte: u8) -> Result<(), Refusal>
+    ensures { done_outcome (full_view words.new) result ≡ settled_outcome (full_view words.old) port byte }
 {
-    full_write_at(words, port, byte);
+    full_write_at(words, port, byte)?;
     full_settle(words);
+    Ok(())
 }
 
 // ---- The same by value: a pair lends its words, and is handed back.
