@@ -255,6 +255,10 @@ module _ (l m : List ℕ) (port width value byte : ℕ) (b : Bool) (d : Result (
       let r : done_reply d ≡ (settled_outcome (view l) port byte).reply = ap (λ (o : Outcome PicState). o.reply) e ∙ ap (λ (p : PicState). (settled_outcome p port byte).reply) (sym (view_full l f)) in
       write_by (view l) _ port width value byte h ey (λ i. record { state = s i; reply = r i })
 
+pub write_plain_refused : (l m : List ℕ) (port width value byte : ℕ) (b : Bool) (why : Refusal) → width ≡ 1 → b ≡ is_full (view l).rule → byte ≡ value % 256 → b ≡ false
+    → done_outcome (plain_view m) (Err why) ≡ settled_outcome (plain_view l) port byte → done_outcome (view m) (Err why) ≡ handle_write (view l) port width value
+write_plain_refused l m port width value byte b why h eb ey n e = write_plain l m port width value byte b (Err why) h eb ey n e
+
 -- a port read, by either road
 left_rule : (port : ℕ) (p : PicState) → (port_left p port).rule ≡ p.rule
 unfolding port_left
