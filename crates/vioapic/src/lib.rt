@@ -90,7 +90,8 @@ impl IoApicVersion {
         }
     }
 
-    // That of a lent word, where any number but 0x20 stands for 0x11. What a caller names goes by `try_from`, which refuses a number of no version.
+    // That of a lent word, where any number but 0x20 stands for 0x11. What a caller names goes by `try_from`, which
+    // refuses a number of no version.
     // Stays: what may not change (`version_of`; a lent word is never refused).
     pub fn of(number: u64) -> IoApicVersion
         ensures { result ≡ version_of number }
@@ -221,6 +222,7 @@ impl From<Option<Eoi>> for Written {
 }
 
 // Whether there is a version of that number.
+// Stays: the new form is no plainer: the scripts' table and the images' rules ask whether, and not which.
 #[tactic(auto, using(crate::proofs::Ways::names_ok))]
 pub fn is_version(number: u64) -> bool
     ensures { result ≡ is_version number }
@@ -244,8 +246,6 @@ impl ToReply for AddressRange {
 }
 
 // ---- The words
-//
-// Stays: the C interface lends them, and what isn't looked at in them stays as it is (`Leaves`): so each function takes the words beside a place.
 
 pub fn base(words: &[u64; 32]) -> u64
     ensures { result ≡ (view words.now).base }
@@ -292,6 +292,8 @@ pub fn entry(words: &[u64; 32], gsi: Gsi) -> Entry
     }
 }
 
+// Stays: the C interface lends the words, and what isn't looked at in them stays as it is (`Leaves`): so each function
+// takes them beside a place.
 fn entry_in(words: &[u64; 32], place: Place) -> Entry
     ensures { result ≡ entry_at (view words.now) place.index }
 {
@@ -316,7 +318,6 @@ fn set_flag(words: &mut [u64; 32], at: usize, place: Place, up: bool)
 }
 
 // What is done to an entry, part by part. `word` is its register, which the caller has read.
-// Stays: the new form is no plainer: that `word` is the entry's register is a fact of two arguments, and a type of both would have to borrow the words.
 
 fn set_deferred(words: &mut [u64; 32], place: Place, deferred: bool)
     ensures { Keeps words.old words.new (view words.new ≡ put (view words.old) place.index (with_deferred (entry_at (view words.old) place.index) deferred)) }
@@ -331,6 +332,8 @@ fn set_input(words: &mut [u64; 32], place: Place, up: bool)
 }
 
 // Remote IRR is set, and the line is in flight.
+// Stays: the new form is no plainer: that `word` is the entry's register is a fact of two arguments, and a type of both
+// would have to borrow the words.
 fn fly(words: &mut [u64; 32], place: Place, word: u64)
     requires { (word ≡ (entry_at (view words.old) place.index).word) × (remote_irr word ≡ false) }
     ensures { Keeps words.old words.new (view words.new ≡ put (view words.old) place.index (with_word (entry_at (view words.old) place.index) (with_remote_irr word))) }
@@ -354,6 +357,7 @@ fn is_deferred(words: &[u64; 32], place: Place) -> bool
     words[PENDING].has(place.index as u32)
 }
 
+// Stays: the new form is no plainer: it converts nothing, but reads a bit of the words.
 fn is_up(words: &[u64; 32], place: Place) -> bool
     ensures { result ≡ (entry_at (view words.now) place.index).input_level }
 {
@@ -722,7 +726,9 @@ fn write_low(words: &mut [u64; 32], place: Place, value: u32)
 }
 
 // Version 0x20: the register takes a low word. First as one that isn't in flight, whatever it was: so it is one store of the lower half. `word` is the register before.
-// Stays: the new form is no plainer: between its answers it stores. Answers whether that is all, as mostly of an entry in flight: it stays in flight, and nothing is there to be forgotten.
+// Answers whether that is all, as mostly of an entry in flight: it stays in flight, and nothing is there to be forgotten.
+// Stays: the new form is no plainer: between its answers it stores, and that `word` is the register is a fact of two
+// arguments.
 fn lay(words: &mut [u64; 32], selected: u32, place: Place, word: u64, value: u32) -> bool
     requires { (is_entry_word selected ≡ true) × (place.index ≡ entry_of selected) × (word ≡ (entry_at (view words.old) place.index).word) }
     ensures { Keeps words.old words.new (view words.new ≡ put (view words.old) place.index (with_word (entry_at (view words.old) place.index) (replace_low20 word value))) × (result ≡ true → Flown word (entry_at (view words.old) place.index)) }
@@ -904,6 +910,7 @@ fn put_new(words: &mut [u64; 32], version: IoApicVersion, base: u64, size: u64)
 }
 
 // Create a new IO APIC, of either version: its range alone can be refused.
+// Stays: the C interface has base and size beside one another, as the Rust's `new` has them.
 pub fn new_version(
     words: &mut [u64; 32],
     base: u64,
@@ -942,8 +949,8 @@ pub fn new_default_version(words: &mut [u64; 32], version: IoApicVersion) -> Res
 
 // ---- What the registers say
 
-// IOAPICVER. Of a lent word's number, which may be of no version.
-// Stays: what may not change (`version_word`, `read_fixed`).
+// IOAPICVER.
+// Stays: what may not change (`version_word`: of a lent word, which may be the number of no version).
 fn version_word(version: u64) -> u64
     ensures { result ≡ version_word version }
 {
@@ -953,7 +960,8 @@ fn version_word(version: u64) -> u64
     IOAPIC_VERSION_VALUE
 }
 
-// The registers that can't be written. The version as it is lent.
+// The registers that can't be written.
+// Stays: what may not change (`read_fixed`: the version as it is lent, and any number as the selector).
 #[tactic(auto, unfolding(crate::specs::Registers::read_fixed))]
 fn read_fixed(version: u64, selector: u32) -> u64
     ensures { result ≡ read_fixed version selector }

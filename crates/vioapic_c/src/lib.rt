@@ -14,6 +14,7 @@ use reply_code::{code, is_up};
 use types::{Gsi, Refusal, Reply, ToReply, Vector};
 use vioapic::{IOAPIC_BASE, IOAPIC_SIZE, IoApicVersion};
 
+// Stays: the C interface: a version comes as its number.
 #[unsafe(no_mangle)]
 pub extern "C" fn sillwander_ioapic_new_version(
     words: &mut [u64; 32],
@@ -43,6 +44,7 @@ pub extern "C" fn sillwander_ioapic_new_default(words: &mut [u64; 32]) -> u64
     code(vioapic::new_default(words).reply())
 }
 
+// Stays: the C interface: a version comes as its number.
 #[unsafe(no_mangle)]
 pub extern "C" fn sillwander_ioapic_new_default_version(words: &mut [u64; 32], version: u64) -> u64
     ensures { Made words.old words.new result (new_number (view words.old) 0xfec00000 0x1000 version) (new_words version 0xfec00000 0x1000) }

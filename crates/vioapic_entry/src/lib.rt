@@ -86,8 +86,9 @@ pub fn without_remote_irr(word: u64) -> u64
     word.without(REMOTE_IRR)
 }
 
-// Unmasked, of fixed delivery, with a vector that can be delivered. Stays: what may not change (DECISIONS, "Two tests became one comparison"): the mask, the delivery mode and the vector's upper half in one
+// Unmasked, of fixed delivery, with a vector that can be delivered: the mask, the delivery mode and the vector's upper half in one
 // number, since every send asks it.
+// Stays: what may not change (DECISIONS, "Two tests became one comparison").
 pub fn is_fit(word: u64) -> bool
     ensures { result ≡ is_fit word }
 {
@@ -98,6 +99,9 @@ pub fn is_fit(word: u64) -> bool
     fields < 0x100
 }
 
+// Whether the low word written is the one that is there, Remote IRR apart.
+// Stays: the new form is no plainer: a register, and the value that the guest writes over half of it, belong together in
+// one call alone.
 pub fn same_low(word: u64, value: u64) -> bool
     ensures { result ≡ same_low word value }
 {
@@ -154,8 +158,9 @@ pub fn keeps_deferred(word: u64, value: u32) -> bool
 }
 
 impl Entry {
-    // Whether an EOI of the vector ends it: level, in flight and of that vector. Stays: what may not change (DECISIONS, "Two tests became
-    // one comparison"), since an EOI asks it of every entry in flight.
+    // Whether an EOI of the vector ends it: level, in flight and of that vector, all in one comparison, since an EOI asks it of every
+    // entry in flight.
+    // Stays: what may not change (DECISIONS, "Two tests became one comparison").
     pub fn awaits(self, vector: Vector) -> bool
         ensures { result ≡ awaits vector self }
     {

@@ -28,6 +28,9 @@ fn write(chip: EmulatedIoApic, value: u64) -> EmulatedIoApic {
     chip
 }
 
+// IOWIN is read, and the reply told; the calls below tell theirs likewise.
+// Stays: the new form is no plainer: a struct of the writer and a chip would hide that a chip by value goes in and comes
+// out.
 fn read<W: Write>(out: &mut W, chip: EmulatedIoApic) -> io::Result<()> {
     say(out, b"read", chip.handle_read(IOWIN, 4).reply())
 }
