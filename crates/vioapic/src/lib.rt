@@ -247,24 +247,28 @@ impl ToReply for AddressRange {
 
 // ---- The words
 
+#[tactic(auto, unfolding(crate::specs::State::view))]
 pub fn base(words: &[u64; 32]) -> u64
     ensures { result ≡ (view words.now).base }
 {
     words[BASE]
 }
 
+#[tactic(auto, unfolding(crate::specs::State::view))]
 pub fn size(words: &[u64; 32]) -> u64
     ensures { result ≡ (view words.now).size }
 {
     words[SIZE]
 }
 
+#[tactic(auto, using(crate::proofs::Ways::version_held))]
 pub fn version(words: &[u64; 32]) -> IoApicVersion
     ensures { result ≡ version_of (view words.now).version }
 {
     IoApicVersion::of(words[VERSION])
 }
 
+#[tactic(auto, unfolding(crate::specs::State::view))]
 pub fn selector(words: &[u64; 32]) -> u32
     ensures { result ≡ (view words.now).selector }
 {
@@ -294,6 +298,7 @@ pub fn entry(words: &[u64; 32], gsi: Gsi) -> Entry
 
 // Stays: the C interface lends the words, and what isn't looked at in them stays as it is (`Leaves`): so each function
 // takes them beside a place.
+#[tactic(auto, using(crate::proofs::Words::entry_is))]
 fn entry_in(words: &[u64; 32], place: Place) -> Entry
     ensures { result ≡ entry_at (view words.now) place.index }
 {
@@ -304,6 +309,7 @@ fn entry_in(words: &[u64; 32], place: Place) -> Entry
     }
 }
 
+#[tactic(auto, using(crate::proofs::Words::word_at_lem))]
 fn word_at(words: &[u64; 32], place: Place) -> u64
     ensures { result ≡ (entry_at (view words.now) place.index).word }
 {
@@ -351,6 +357,7 @@ fn rest(words: &mut [u64; 32], place: Place, word: u64)
     set_flag(words, IN_FLIGHT, place, false);
 }
 
+#[tactic(auto, using(crate::proofs::Words::deferred_at))]
 fn is_deferred(words: &[u64; 32], place: Place) -> bool
     ensures { result ≡ (entry_at (view words.now) place.index).pending_level }
 {
@@ -358,6 +365,7 @@ fn is_deferred(words: &[u64; 32], place: Place) -> bool
 }
 
 // Stays: the new form is no plainer: it converts nothing, but reads a bit of the words.
+#[tactic(auto, using(crate::proofs::Words::input_at))]
 fn is_up(words: &[u64; 32], place: Place) -> bool
     ensures { result ≡ (entry_at (view words.now) place.index).input_level }
 {
@@ -464,6 +472,7 @@ pub fn vector_for_gsi(words: &[u64; 32], gsi: Gsi) -> Option<Vector>
 
 // ---- EOIs
 
+#[tactic(auto, using(crate::proofs::Ways::version_is))]
 fn is_version_20(words: &[u64; 32]) -> bool
     ensures { result ≡ is_version20 (view words.now) }
 {
@@ -471,6 +480,7 @@ fn is_version_20(words: &[u64; 32]) -> bool
 }
 
 // Whether an entry awaits the EOI: its flags aren't looked at.
+#[tactic(auto, using(crate::proofs::Words::awaits_is))]
 fn awaits_at(words: &[u64; 32], place: Place, vector: Vector) -> bool
     ensures { result ≡ awaits vector (entry_at (view words.now) place.index) }
 {

@@ -86,8 +86,8 @@ pub fn without_remote_irr(word: u64) -> u64
     word.without(REMOTE_IRR)
 }
 
-// Unmasked, of fixed delivery, with a vector that can be delivered: the mask, the delivery mode and the vector's upper half in one
-// number, since every send asks it.
+// Unmasked, of fixed delivery, with a vector that can be delivered: the mask, the delivery mode and the vector's upper
+// half in one number, since every send asks it.
 // Stays: what may not change (DECISIONS, "Two tests became one comparison").
 pub fn is_fit(word: u64) -> bool
     ensures { result ≡ is_fit word }
@@ -158,8 +158,8 @@ pub fn keeps_deferred(word: u64, value: u32) -> bool
 }
 
 impl Entry {
-    // Whether an EOI of the vector ends it: level, in flight and of that vector, all in one comparison, since an EOI asks it of every
-    // entry in flight.
+    // Whether an EOI of the vector ends it: level, in flight and of that vector, all in one comparison, since an EOI asks
+    // it of every entry in flight.
     // Stays: what may not change (DECISIONS, "Two tests became one comparison").
     pub fn awaits(self, vector: Vector) -> bool
         ensures { result ≡ awaits vector self }
