@@ -2,7 +2,7 @@
 use Rattle.types.specs.declared.Vector.{Vector}
 use Rattle.std.specs.Prelude.{Option, Some, None}
 use Prim.Native.Nat.{ℕ, ◌<◌, ◌^◌}
-use mathlib.Core.Bool.{Bool, true, false, cond}
+use mathlib.Core.Bool.{Bool, true, false}
 use mathlib.Core.List.{List}
 use mathlib.Core.Path.{◌≡◌, refl, sym, ap₂, ◌∙◌}
 use native.Mathlib.Omega.{arith}
@@ -21,7 +21,7 @@ use Rattle.vlapic.specs.declared.VirtualApicRegs.{VirtualApicRegs}
 use Rattle.vlapic_regs.specs.Vectors.{highest_from}
 use Rattle.vlapic_regs.proofs.Highest.{served}
 use Rattle.vlapic_requests.specs.Requests as apic
-use Rattle.board.specs.Board.{Board, board_in, told_to, set_gsi_level, accept_interrupt, handle_eoi, handle_write}
+use Rattle.board.specs.Board.{Board, told_to, set_gsi_level, accept_interrupt, handle_eoi, handle_write}
 use Rattle.board.specs.Promise.{acceptance_reply}
 use Rattle.board.specs.Calls.{Call, SetGsiLevel, AcceptInterrupt, HandleEoi, WriteTpr, HandleWrite, Receive, outcome}
 use Rattle.board_c.specs.Calls.{Coded, receive_number}
