@@ -12,7 +12,7 @@ use lib.Dec.{ltb}
 use Rattle.utils.proofs.Bools.{never, and_true, not_is}
 use Rattle.types.specs.declared.Gsi.{Gsi}
 use Rattle.types.specs.declared.Vector.{Vector}
-use Rattle.vioapic_entry.specs.Redirection.{vector_of, remote_irr, is_level, awaits}
+use Rattle.vioapic_entry.specs.Redirection.{vector_of, is_level, awaits}
 use Rattle.vioapic_entry.specs.declared.Entry.{Entry}
 use Rattle.vioapic_entry.specs.declared.IoApicInterrupt.{IoApicInterrupt}
 use Rattle.vioapic.specs.Table.{no_entry, entry_at, set_level}

@@ -106,7 +106,7 @@ accept_trace s k v l = go (is_acceptable s) refl
         let q : class_of s.ppr < class_of (highest s.irr) = ltb-true (class_of s.ppr) (class_of (highest s.irr)) e in
         omega arith
 
-    go : (b : Bool) → is_acceptable s ≡ b → trace v (cond b (apic.after (taken s (highest s.irr)) (Some (record { 0 = highest s.irr }))) (apic.after s None)).state ≡ trace v s
+    go : (b : Bool) → is_acceptable s ≡ b → trace v (cond b (apic.after {A = Option Vector} (taken s (highest s.irr)) (Some (record { 0 = highest s.irr }))) (apic.after s None)).state ≡ trace v s
     go true e = taken_trace s k v l (highest s.irr) (highest_in s.irr (some e))
     go false e = refl
 

@@ -134,7 +134,7 @@ module _ (s : VirtualApicRegs) (k : LocalRules s) where
           let l : class_of s.ppr < class_of (highest s.irr) = ltb-true (class_of s.ppr) (class_of (highest s.irr)) e in
           omega arith
 
-      go : (b : Bool) → is_acceptable s ≡ b → LocalRules (cond b (apic.after (taken s (highest s.irr)) (Some (record { 0 = highest s.irr }))) (apic.after s None)).state
+      go : (b : Bool) → is_acceptable s ≡ b → LocalRules (cond b (apic.after {A = Option Vector} (taken s (highest s.irr)) (Some (record { 0 = highest s.irr }))) (apic.after s None)).state
       go true e = taken_keeps (highest s.irr) (highest_legal s.irr (some e))
       go false e = k
 
@@ -328,7 +328,7 @@ accept_svr : (s : VirtualApicRegs) → (apic.accept s).state.svr ≡ s.svr
 unfolding apic.accept ranked
 accept_svr s = go (is_acceptable s)
   where
-    go : (b : Bool) → (cond b (apic.after (taken s (highest s.irr)) (Some (record { 0 = highest s.irr }))) (apic.after s None)).state.svr ≡ s.svr
+    go : (b : Bool) → (cond b (apic.after {A = Option Vector} (taken s (highest s.irr)) (Some (record { 0 = highest s.irr }))) (apic.after s None)).state.svr ≡ s.svr
     go true = refl
     go false = refl
 

@@ -1,10 +1,9 @@
 -- Which vector is accepted, and which is ended (document 02, T-07): on any board, whether it keeps the rules or not.
 -- Intel SDM volume 3, the APIC chapter: interrupt, task and processor priority; interrupt acceptance for fixed interrupts; signaling interrupt servicing completion.
-use Rattle.core.specs.declared.option.Option.TheVariants as option
+use Rattle.std.specs.declared.option.Option.TheVariants as option
 use Rattle.std.specs.Prelude.{ℕ, ◌<◌, Bool, true, false, cond, ◌&&◌, ◌≡◌, leb, ltb}
 use Rattle.utils.specs.Vectors.{class_of}
 use Rattle.types.specs.declared.Vector.{Vector}
-use Rattle.vioapic.specs.declared.Eoi.TheVariants as ioapic
 use Rattle.vlapic.specs.declared.VirtualApicRegs.{VirtualApicRegs}
 use Rattle.vlapic.specs.Priority.{broadcasts}
 use Rattle.vlapic_regs.specs.Vectors.{in_words}
