@@ -5,7 +5,7 @@ use Rattle.std.specs.Prelude.{ℕ, zero, suc, ◌*◌, ◌/◌, ◌%◌, Bool, t
 use Rattle.utils.specs.Set.{bit}
 use Rattle.vioapic_entry.specs.Redirection.{remote_irr, is_level, is_fit}
 use Rattle.vioapic_entry.specs.declared.Entry.{Entry}
-use Rattle.vioapic.specs.State.{IoApicState}
+use Rattle.vioapic.specs.State.{IoApicState, view as io_view}
 use Rattle.vioapic.specs.Table.{is_version20, entry_at}
 use Rattle.vioapic.specs.IoApic.{is_version}
 use Rattle.vioapic.specs.declared.IoApicVersion.{IoApicVersion}
@@ -39,6 +39,10 @@ entry_keeps version20 flies e = same (remote_irr e.word) flies && (entry_rules v
 
 abbrev pub entry_keeps_at : IoApicState → ℕ → Bool
 entry_keeps_at s g = entry_keeps (is_version20 s) (bit s.in_flight g) (entry_at s g)
+
+-- of the I/O APIC's words
+unfoldable pub entry_kept : List ℕ → ℕ → Bool
+entry_kept words g = entry_keeps_at (io_view words) g
 
 unfoldable pub ioapic_keeps : IoApicState → Bool
 ioapic_keeps s = is_version s.version && all 24 (entry_keeps_at s)

@@ -2,7 +2,7 @@
 
 #![tactic(auto)]
 
-ghost use Rattle.std.specs.Prelude.{◌≡◌, cond, ◌<◌};
+ghost use Rattle.std.specs.Prelude.{◌≡◌, ◌↔◌, ℕ, cond, true, ◌<◌, IsTrue};
 ghost use Rattle.utils.specs.Set.{bit};
 ghost use Rattle.vioapic_theorems.specs.Rules.{implies};
 ghost use Rattle.vioapic.specs.State.{view};
@@ -10,7 +10,7 @@ ghost use Rattle.vlapic_words.specs.Words.{word, view as apicView};
 ghost use Rattle.vlapic_regs.specs.Register.{top_byte};
 ghost use Rattle.vpic_chip.specs.Registers.{chip_in, full_in};
 ghost use Rattle.vpic.specs.Words.{view as pairView};
-ghost use Rattle.image_rules.specs.Rules.{same, may_fly, is_v20, entry_keeps, entry_keeps_at, ioapic_keeps, id_kept, errors, legal, kept_of, word_keeps, ppr_keeps, apic_keeps, chip_keeps, cascade_keeps, keeps_pair};
+ghost use Rattle.image_rules.specs.Rules.{same, may_fly, is_v20, entry_keeps, entry_kept, ioapic_keeps, id_kept, errors, legal, kept_of, word_keeps, ppr_keeps, apic_keeps, chip_keeps, cascade_keeps, keeps_pair};
 
 use types::Gsi;
 use utils::Set;
@@ -55,28 +55,28 @@ fn is_20(version: IoApicVersion) -> bool
     matches!(version, IoApicVersion::V20)
 }
 
+#[tactic(auto, unfolding(crate::specs::Rules::entry_kept))]
 fn entry_at_keeps(words: &[u64; 32], g: usize) -> bool
     requires { g < 24 }
-    ensures { result ≡ entry_keeps_at (view words.now) g }
+    ensures { result ≡ entry_kept words.now g }
 {
     let flies = vioapic::in_flight(words).has(g as u32);
     let e = vioapic::entry(words, Gsi(g));
     entry_keeps(e, flies, is_20(vioapic::version(words)))
 }
 
-#[tactic(auto, unfolding(crate::specs::Rules::all, crate::specs::Rules::ioapic_keeps, vioapic::specs::State::view))]
+// Each entry of the table keeps the rules of entries.
+fn entries_keep(words: &[u64; 32]) -> bool
+    ensures { IsTrue result ↔ ((g : ℕ) → g < 24 → entry_kept words.now g ≡ true) }
+{
+    (0..24).all(|g| entry_at_keeps(words, g))
+}
+
+/// Whether an I/O APIC's words keep its rules: a version, and each entry's.
 pub fn ioapic_keeps(words: &[u64; 32]) -> bool
     ensures { result ≡ ioapic_keeps (view words.now) }
 {
-    if !vioapic::is_version(words[29]) {
-        return false;
-    }
-    for g in 0..24 {
-        if !entry_at_keeps(words, g) {
-            return false;
-        }
-    }
-    true
+    IoApicVersion::try_from(words[29]).is_ok() && entries_keep(words)
 }
 
 // ---- The local APIC
@@ -153,20 +153,23 @@ fn ppr_keeps(words: &[u64; 48]) -> bool
     utils::low(&copy, 3) == utils::low(words, 3)
 }
 
-#[tactic(auto, unfolding(crate::specs::Rules::all))]
+// Each of the first 42 words keeps its register's rule.
+fn words_keep(words: &[u64; 48]) -> bool
+    ensures { IsTrue result ↔ ((k : ℕ) → k < 42 → word_keeps words.now k ≡ true) }
+{
+    (0..42).all(|k| word_keeps(words, k))
+}
+
+/// Whether a local APIC's words keep its rules: each register's, and PPR's.
 pub fn apic_keeps(words: &[u64; 48]) -> bool
     ensures { result ≡ apic_keeps words.now }
 {
-    for k in 0..42 {
-        if !word_keeps(words, k) {
-            return false;
-        }
-    }
-    ppr_keeps(words)
+    words_keep(words) && ppr_keeps(words)
 }
 
 // ---- The pair
 
+// Stays: `full` chooses which bits stand for nothing, and no step; a type parameter or a closure is no plainer.
 #[tactic(auto, unfolding(vpic_chip::specs::Registers::chip_in))]
 fn chip_keeps(word: u64, full: bool) -> bool
     ensures { result ≡ chip_keeps (cond full (full_in word) (chip_in word)) }
@@ -189,6 +192,7 @@ fn cascade_keeps(words: &[u64; 4]) -> bool
     }
 }
 
+/// Whether a pair's words keep its rules: a rule of the pair, each chip's, and the cascade's.
 #[tactic(auto, using(crate::proofs::Pair::chip_placed), unfolding(crate::specs::Rules::keeps_pair, vpic::specs::Words::view))]
 pub fn pair_keeps(words: &[u64; 4]) -> bool
     ensures { result ≡ keeps_pair (pairView words.now) }

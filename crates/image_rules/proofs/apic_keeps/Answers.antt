@@ -1,9 +1,12 @@
-use Rattle.image_rules.proofs.Tests.{apic_word, apic_all}
-use Rattle.std.proofs.Common.{arith}
+use Rattle.std.proofs.Common.{sym, ◌∙◌}
+use Rattle.image_rules.specs.Rules.{word_keeps, apic_keeps}
+use Rattle.image_rules.proofs.Tests.{all_by}
 use Rattle.image_rules.proofs.apic_keeps.Goals as goal
 
-pub returns-then-not-word_keeps : goal.returns-then-not-word_keeps
-returns-then-not-word_keeps c = apic_word _ _ _ c.loop-k-test.true c.word_keeps.ensures c.if-not-word_keeps.true
+pub returns-then-words_keep : goal.returns-then-words_keep
+unfolding apic_keeps
+returns-then-words_keep c = rw (sym (all_by 42 (word_keeps c.args.words.now) _ c.words_keep.ensures) ∙ c.if-words_keep.true) c.ppr_keeps.ensures
 
-pub returns : goal.returns
-returns c = apic_all _ _ _ (omega arith) c.loop-k.invariant c.ppr_keeps.ensures
+pub returns-else-words_keep : goal.returns-else-words_keep
+unfolding apic_keeps
+returns-else-words_keep c = let e = sym (all_by 42 (word_keeps c.args.words.now) _ c.words_keep.ensures) ∙ c.if-words_keep.false in rw e c.if-words_keep.false
