@@ -12,7 +12,7 @@ use vioapic::{IoApicVersion, is_version};
 use vpic::{PicInterruptClaim, PicRule};
 
 // Calls of the I/O APIC.
-#[derive(Clone, Copy)]
+#[derive(Clone, Copy, Debug, PartialEq, Eq, Hash)]
 pub enum IoCall {
     HandleRead { addr: u64, width: u8 },
     HandleWrite { addr: u64, width: u8, value: u64 },
@@ -22,7 +22,7 @@ pub enum IoCall {
 }
 
 // Calls of the pair of 8259s.
-#[derive(Clone, Copy)]
+#[derive(Clone, Copy, Debug, PartialEq, Eq, Hash)]
 pub enum PicCall {
     HandleRead { port: u16, width: u8 },
     HandleWrite { port: u16, width: u8, value: u64 },
@@ -32,7 +32,7 @@ pub enum PicCall {
 }
 
 // Calls of the local APIC. Setup also says how many vCPUs the VM has, and which of them are active.
-#[derive(Clone, Copy)]
+#[derive(Clone, Copy, Debug, PartialEq, Eq, Hash)]
 pub enum ApicCall {
     AcceptInterrupt(Vector, bool),
     HandleWrite {
@@ -51,7 +51,7 @@ pub enum ApicCall {
 }
 
 // Calls of the board.
-#[derive(Clone, Copy)]
+#[derive(Clone, Copy, Debug, PartialEq, Eq, Hash)]
 pub enum BoardCall {
     SetGsiLevel(Gsi, bool),
     AcceptInterrupt,
@@ -62,7 +62,7 @@ pub enum BoardCall {
 }
 
 // A call of a chip, or a choice, which makes a new one: of the I/O APIC's version, of the pair's rule.
-#[derive(Clone, Copy)]
+#[derive(Clone, Copy, Debug, PartialEq, Eq, Hash)]
 pub enum Call {
     Io(IoCall),
     IoVersion(IoApicVersion),
@@ -122,9 +122,9 @@ pub struct BadField;
 
 // ---- numbers in a body, the low byte first; past its end there are only zeros
 
-// A byte of a body.
+// A byte of a body, or 0 past its end.
 #[tactic(auto, unfolding(crate::specs::Format::number_at))]
-pub fn byte(body: &[u8], k: usize) -> u8
+pub fn byte_at(body: &[u8], k: usize) -> u8
     ensures { result ≡ number_at body.now k 1 }
 {
     match body.get(k) {
@@ -134,27 +134,27 @@ pub fn byte(body: &[u8], k: usize) -> u8
 }
 
 #[tactic(auto, unfolding(crate::specs::Format::number_at))]
-fn two_bytes(body: &[u8], k: usize) -> u16
+fn u16_at(body: &[u8], k: usize) -> u16
     requires { k + 1 < 2 ^ 64 }
     ensures { result ≡ number_at body.now k 2 }
 {
-    u16::from_le_bytes([byte(body, k), byte(body, k + 1)])
+    u16::from_le_bytes([byte_at(body, k), byte_at(body, k + 1)])
 }
 
 #[tactic(auto, unfolding(crate::specs::Format::number_at))]
-fn eight_bytes(body: &[u8], k: usize) -> u64
+fn u64_at(body: &[u8], k: usize) -> u64
     requires { k + 7 < 2 ^ 64 }
     ensures { result ≡ number_at body.now k 8 }
 {
     u64::from_le_bytes([
-        byte(body, k),
-        byte(body, k + 1),
-        byte(body, k + 2),
-        byte(body, k + 3),
-        byte(body, k + 4),
-        byte(body, k + 5),
-        byte(body, k + 6),
-        byte(body, k + 7),
+        byte_at(body, k),
+        byte_at(body, k + 1),
+        byte_at(body, k + 2),
+        byte_at(body, k + 3),
+        byte_at(body, k + 4),
+        byte_at(body, k + 5),
+        byte_at(body, k + 6),
+        byte_at(body, k + 7),
     ])
 }
 
@@ -178,41 +178,43 @@ fn checked(body: &[u8], size: usize, may_start: bool, call: Call) -> Option<Call
 }
 
 // A body of the I/O APIC's fields by its tag: its size, whether its first number may stand there, and its call.
+// Stays: the tag is a number, the byte that stands in the script: `decoded` has an answer for each of the 256.
 fn decode_io(tag: u8, body: &[u8]) -> Option<Call>
     ensures { result ≡ decoded_in io_formats tag body.now }
 {
     match tag {
         0x01 => {
-            let width = byte(body, 0);
+            let width = byte_at(body, 0);
             let call = IoCall::HandleRead {
-                addr: eight_bytes(body, 1),
+                addr: u64_at(body, 1),
                 width,
             };
             checked(body, 9, is_width(width), Call::Io(call))
         }
         0x02 => {
-            let width = byte(body, 0);
+            let width = byte_at(body, 0);
             let call = IoCall::HandleWrite {
-                addr: eight_bytes(body, 1),
+                addr: u64_at(body, 1),
                 width,
-                value: eight_bytes(body, 9),
+                value: u64_at(body, 9),
             };
             checked(body, 17, is_width(width), Call::Io(call))
         }
         0x03 => {
-            let call = IoCall::SetGsiLevel(Gsi(usize::from(byte(body, 0))), byte(body, 1) != 0);
+            let gsi = Gsi(usize::from(byte_at(body, 0)));
+            let call = IoCall::SetGsiLevel(gsi, byte_at(body, 1) != 0);
             checked(body, 2, true, Call::Io(call))
         }
         0x04 => {
-            let call = IoCall::AssertGsi(Gsi(usize::from(byte(body, 0))));
+            let call = IoCall::AssertGsi(Gsi(usize::from(byte_at(body, 0))));
             checked(body, 1, true, Call::Io(call))
         }
         0x05 => {
-            let call = IoCall::EndOfInterrupt(Vector(byte(body, 0)));
+            let call = IoCall::EndOfInterrupt(Vector(byte_at(body, 0)));
             checked(body, 1, true, Call::Io(call))
         }
         0x06 => {
-            let number = u64::from(byte(body, 0));
+            let number = u64::from(byte_at(body, 0));
             let call = Call::IoVersion(IoApicVersion::of(number));
             checked(body, 1, is_version(number), call)
         }
@@ -221,29 +223,30 @@ fn decode_io(tag: u8, body: &[u8]) -> Option<Call>
 }
 
 // Of the pair's.
+// Stays: the tag, as at `decode_io`.
 fn decode_pic(tag: u8, body: &[u8]) -> Option<Call>
     ensures { result ≡ decoded_in pic_formats tag body.now }
 {
     match tag {
         0x10 => {
-            let width = byte(body, 0);
+            let width = byte_at(body, 0);
             let call = PicCall::HandleRead {
-                port: two_bytes(body, 1),
+                port: u16_at(body, 1),
                 width,
             };
             checked(body, 3, is_width(width), Call::Pic(call))
         }
         0x11 => {
-            let width = byte(body, 0);
+            let width = byte_at(body, 0);
             let call = PicCall::HandleWrite {
-                port: two_bytes(body, 1),
+                port: u16_at(body, 1),
                 width,
-                value: eight_bytes(body, 3),
+                value: u64_at(body, 3),
             };
             checked(body, 11, is_width(width), Call::Pic(call))
         }
         0x12 => {
-            let call = PicCall::ClaimIrq(PicLine(byte(body, 0)));
+            let call = PicCall::ClaimIrq(PicLine(byte_at(body, 0)));
             checked(body, 1, true, Call::Pic(call))
         }
         0x13 => {
@@ -251,17 +254,17 @@ fn decode_pic(tag: u8, body: &[u8]) -> Option<Call>
             checked(body, 0, true, Call::Pic(call))
         }
         0x14 => {
-            let flags = byte(body, 2);
+            let flags = byte_at(body, 2);
             let call = PicCall::RestoreInterrupt(PicInterruptClaim {
-                vector: Vector(byte(body, 0)),
-                irq: PicLine(byte(body, 1)),
+                vector: Vector(byte_at(body, 0)),
+                irq: PicLine(byte_at(body, 1)),
                 master_in_service: flags % 2 == 1,
                 slave_in_service: flags / 2 % 2 == 1,
             });
             checked(body, 3, true, Call::Pic(call))
         }
         0x16 => {
-            let number = u64::from(byte(body, 0));
+            let number = u64::from(byte_at(body, 0));
             let call = Call::PicRule(PicRule::from_number(number));
             checked(body, 1, PicRule::is_number(number), call)
         }
@@ -270,20 +273,21 @@ fn decode_pic(tag: u8, body: &[u8]) -> Option<Call>
 }
 
 // Of the local APIC's.
+// Stays: the tag, as at `decode_io`.
 fn decode_apic(tag: u8, body: &[u8]) -> Option<Call>
     ensures { result ≡ decoded_in apic_formats tag body.now }
 {
     match tag {
         0x20 => {
-            let call = ApicCall::AcceptInterrupt(Vector(byte(body, 0)), byte(body, 1) != 0);
+            let call = ApicCall::AcceptInterrupt(Vector(byte_at(body, 0)), byte_at(body, 1) != 0);
             checked(body, 2, true, Call::Apic(call))
         }
         0x21 => {
-            let width = byte(body, 0);
+            let width = byte_at(body, 0);
             let call = ApicCall::HandleWrite {
-                offset: u64::from(two_bytes(body, 1)),
+                offset: u64::from(u16_at(body, 1)),
                 width,
-                value: eight_bytes(body, 3),
+                value: u64_at(body, 3),
             };
             checked(body, 11, is_width(width), Call::Apic(call))
         }
@@ -292,15 +296,15 @@ fn decode_apic(tag: u8, body: &[u8]) -> Option<Call>
             checked(body, 0, true, Call::Apic(call))
         }
         0x23 => {
-            let call = ApicCall::HandleRead(u64::from(two_bytes(body, 0)));
+            let call = ApicCall::HandleRead(u64::from(u16_at(body, 0)));
             checked(body, 2, true, Call::Apic(call))
         }
         0x24 => {
             let call = ApicCall::Setup {
-                x2apic: byte(body, 0) != 0,
-                vcpu_id: VcpuId(usize::from(byte(body, 1))),
-                vcpu_num: usize::from(byte(body, 2)),
-                active_vcpus: eight_bytes(body, 3),
+                x2apic: byte_at(body, 0) != 0,
+                vcpu_id: VcpuId(usize::from(byte_at(body, 1))),
+                vcpu_num: usize::from(byte_at(body, 2)),
+                active_vcpus: u64_at(body, 3),
             };
             checked(body, 11, true, Call::Apic(call))
         }
@@ -309,12 +313,14 @@ fn decode_apic(tag: u8, body: &[u8]) -> Option<Call>
 }
 
 // Of the board's.
+// Stays: the tag, as at `decode_io`.
 fn decode_board(tag: u8, body: &[u8]) -> Option<Call>
     ensures { result ≡ decoded_in board_formats tag body.now }
 {
     match tag {
         0x30 => {
-            let call = BoardCall::SetGsiLevel(Gsi(usize::from(byte(body, 0))), byte(body, 1) != 0);
+            let gsi = Gsi(usize::from(byte_at(body, 0)));
+            let call = BoardCall::SetGsiLevel(gsi, byte_at(body, 1) != 0);
             checked(body, 2, true, Call::Board(call))
         }
         0x31 => {
@@ -326,20 +332,20 @@ fn decode_board(tag: u8, body: &[u8]) -> Option<Call>
             checked(body, 0, true, Call::Board(call))
         }
         0x33 => {
-            let call = BoardCall::WriteTpr(byte(body, 0));
+            let call = BoardCall::WriteTpr(byte_at(body, 0));
             checked(body, 1, true, Call::Board(call))
         }
         0x34 => {
-            let width = byte(body, 0);
+            let width = byte_at(body, 0);
             let call = BoardCall::HandleWrite {
-                addr: eight_bytes(body, 1),
+                addr: u64_at(body, 1),
                 width,
-                value: eight_bytes(body, 9),
+                value: u64_at(body, 9),
             };
             checked(body, 17, is_width(width), Call::Board(call))
         }
         0x35 => {
-            let call = BoardCall::Receive(Vector(byte(body, 0)), byte(body, 1) != 0);
+            let call = BoardCall::Receive(Vector(byte_at(body, 0)), byte_at(body, 1) != 0);
             checked(body, 2, true, Call::Board(call))
         }
         _ => None,
@@ -347,6 +353,7 @@ fn decode_board(tag: u8, body: &[u8]) -> Option<Call>
 }
 
 // A body by its tag.
+// Stays: the tag, as at `decode_io`.
 pub fn decode(tag: u8, body: &[u8]) -> Option<Call>
     ensures { result ≡ decoded tag body.now }
 {
@@ -365,6 +372,7 @@ pub fn decode(tag: u8, body: &[u8]) -> Option<Call>
 // ---- a field
 
 // A field with this tag, if its body says a call; it ends where the next one starts.
+// Stays: the tag, as at `decode_io`.
 pub fn field_of<C: Copy>(
     tag: u8,
     body: Option<C>,
@@ -390,7 +398,7 @@ impl Cursor {
             return Err(BadField);
         }
         let tag = script[at];
-        let size = usize::from(two_bytes(script, at + 1));
+        let size = usize::from(u16_at(script, at + 1));
         let start = at + 3;
         if script.len() - start < size {
             return Err(BadField);

@@ -15,7 +15,7 @@ ghost use Rattle.waiting_claims.specs.Claims.{host};
 ghost use Rattle.script_lists.specs.Fields.{checked, decoded, list_field_at};
 ghost use Rattle.script_lists.specs.Steps.{list_outcome, host_step, host_step_in, lists_text, lists_said};
 
-use script_format::{BadField, Cursor, Field, byte, field_of};
+use script_format::{BadField, Cursor, Field, byte_at, field_of};
 use script_machine::{Did, Machine, Stop};
 use types::{PicLine, Reply, ToReply, VcpuId, Vector};
 
@@ -26,7 +26,7 @@ pub const BYTES: usize = 264;
 pub const SPACE: usize = 5460;
 
 // Calls of the lists, each for a vCPU.
-#[derive(Clone, Copy)]
+#[derive(Clone, Copy, Debug, PartialEq, Eq, Hash)]
 pub enum ListCall {
     Take(VcpuId, Vector),
     Deliver(VcpuId),
@@ -71,8 +71,8 @@ fn checked(body: &[u8], size: usize, call: ListCall) -> Option<ListCall>
 fn decode(tag: u8, body: &[u8]) -> Option<ListCall>
     ensures { result ≡ decoded tag body.now }
 {
-    let vcpu = VcpuId(usize::from(byte(body, 0)));
-    let number = byte(body, 1);
+    let vcpu = VcpuId(usize::from(byte_at(body, 0)));
+    let number = byte_at(body, 1);
     match tag {
         0x40 => checked(body, 2, ListCall::Take(vcpu, Vector(number))),
         0x41 => checked(body, 1, ListCall::Deliver(vcpu)),
@@ -90,7 +90,7 @@ fn length_at(script: &[u8], at: usize) -> u16
     requires { at + 2 < 2 ^ 64 }
     ensures { result ≡ length_at script.now at }
 {
-    u16::from_le_bytes([byte(script, at + 1), byte(script, at + 2)])
+    u16::from_le_bytes([byte_at(script, at + 1), byte_at(script, at + 2)])
 }
 
 // What stands at a place of the script: a field of the lists, or nothing of theirs.

@@ -1,10 +1,13 @@
 -- A call on the local APIC in its VM, from what it does to the words. Assumes nothing.
-use mathlib.Core.Path.{◌≡◌, sym, ap, ◌∙◌}
+use mathlib.Core.Path.{◌≡◌, refl, sym, ap, ◌∙◌}
 use mathlib.Core.Bool.{Bool, true, false}
 use mathlib.Core.List.{List}
 use Prim.Native.Nat.{ℕ}
 use lib.Dec.{eqb}
 use borrow.Author.Tests.{eq-eqb, ne_eqb}
+use Rattle.std.specs.Prelude.{Option, Some, None, Ok}
+use Rattle.vlapic_icr.specs.declared.Ipi.{Ipi}
+use Rattle.vlapic.specs.Answers.{write_reply}
 use Rattle.types.specs.Reply.{Outcome, outcome_of, reply_number}
 use Rattle.types.specs.declared.Reply.{Reply}
 use Rattle.types.specs.declared.VcpuId.{VcpuId}
@@ -24,6 +27,11 @@ module _ (l kept m : List ℕ) (vm : Vm) (r q : Reply) (o : Outcome VirtualApicR
 
   replied_by : r ≡ o.reply
   replied_by = e ∙ ap (λ (x : Outcome VirtualApicRegs). x.reply) h.outcome
+
+-- what isn't refused has the number 0
+pub sent_number : (ipi : Option Ipi) → 0 ≡ reply_number (write_reply (Ok ipi))
+sent_number (Some i) = refl
+sent_number None = refl
 
 -- setup, done and refused
 module _ (l m : List ℕ) (vm : Vm) (r q : Reply) (x2apic : Bool) (id : VcpuId) (num active k : ℕ) (e : r ≡ q) (h : Leaves l l m q (vlapic.setup (view l) x2apic id num)) (n : k ≡ reply_number r) where

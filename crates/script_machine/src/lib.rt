@@ -7,6 +7,7 @@ ghost use Rattle.types.specs.Reply.{outcome_of};
 ghost use Rattle.vioapic.specs.State as io-words;
 ghost use Rattle.vioapic.specs.Calls.{outcome};
 ghost use Rattle.vpic.specs.Words as pic-words;
+ghost use Rattle.vlapic.specs.Answers.{write_reply};
 ghost use Rattle.board.specs.Board.{board_in};
 ghost use Rattle.board.specs.Calls as board;
 ghost use Rattle.script_format.specs.declared.ApicCall.TheVariants as local;
@@ -17,6 +18,7 @@ ghost use Rattle.script_machine.specs.Run.{step_of, step_in, stop_reply, run_out
 use script_format::{ApicCall, BadField, BoardCall, Call, Chip, Cursor, Field, IoCall, PicCall};
 use types::{Refusal, Reply, ToReply, VcpuId};
 use vioapic::{IOAPIC_BASE, IOAPIC_SIZE};
+use vlapic_icr::Ipi;
 
 // Whether a field of the I/O APIC, or of the pair, was performed.
 #[derive(Clone, Copy, Debug, PartialEq, Eq, Hash)]
@@ -76,21 +78,20 @@ pub enum Stop {
     End,
 }
 
-impl Stop {
-    // In document 01's numbers: 6 for a bad field.
-    pub fn reply(self) -> Reply
-        ensures { result ≡ stop_reply self }
-    {
+// In document 01's numbers: 6 for a bad field.
+impl ToReply for Stop {
+    ghost reply_of = { stop_reply };
+
+    fn reply(self) -> Reply {
         match self {
-            Stop::Allowance => Reply::Nothing,
+            Stop::Allowance | Stop::End => Reply::Nothing,
             Stop::BadField => Reply::Refused(Refusal::BadField),
-            Stop::End => Reply::Nothing,
         }
     }
 }
 
 // A field was performed: its tag, and what its call said back.
-#[derive(Clone, Copy)]
+#[derive(Clone, Copy, Debug, PartialEq, Eq, Hash)]
 pub struct Did {
     pub tag: u8,
     pub reply: Reply,
@@ -113,10 +114,10 @@ fn call_ioapic(ioapic: &mut [u64; 32], call: IoCall) -> Reply
         IoCall::HandleRead { addr, width } => vioapic::handle_read(
             ioapic,
             addr,
-            width as u64,
+            u64::from(width),
         ).reply(),
         IoCall::HandleWrite { addr, width, value } => {
-            vioapic::handle_write(ioapic, addr, width as u64, value).reply()
+            vioapic::handle_write(ioapic, addr, u64::from(width), value).reply()
         }
         IoCall::SetGsiLevel(gsi, up) => vioapic::set_gsi_level(ioapic, gsi, up).reply(),
         IoCall::AssertGsi(gsi) => vioapic::assert_gsi(ioapic, gsi).reply(),
@@ -130,11 +131,11 @@ fn call_pic(pic: &mut [u64; 4], call: PicCall) -> Reply
     match call {
         PicCall::HandleRead { port, width } => vpic::handle_read(
             pic,
-            port as u64,
-            width as u64,
+            u64::from(port),
+            u64::from(width),
         ).reply(),
         PicCall::HandleWrite { port, width, value } => {
-            vpic::handle_write(pic, port as u64, width as u64, value).reply()
+            vpic::handle_write(pic, u64::from(port), u64::from(width), value).reply()
         }
         PicCall::ClaimIrq(irq) => vpic::claim_irq(pic, irq).reply(),
         PicCall::ClaimPendingInterrupt => vpic::claim_pending_interrupt(pic).reply(),
@@ -150,17 +151,14 @@ fn set_up(
     vcpu_id: VcpuId,
     vcpu_num: usize,
     active_vcpus: u64,
-) -> Reply
-    ensures reply_after { outcome_of (local_in apic.new vm.new) result ≡ local_outcome (local_in apic.old vm.old) (local.Setup x2apic vcpu_id vcpu_num active_vcpus) }
+) -> Result<Option<Ipi>, Refusal>
+    ensures reply_after { outcome_of (local_in apic.new vm.new) (write_reply result) ≡ local_outcome (local_in apic.old vm.old) (local.Setup x2apic vcpu_id vcpu_num active_vcpus) }
     ensures used_value { vm.new.used ≡ vm.old.used }
 {
-    let reply = vlapic_words::setup(apic, x2apic, vcpu_id, vcpu_num).reply();
-    if reply.number() != 0 {
-        return reply;
-    }
+    let ipi = vlapic_words::setup(apic, x2apic, vcpu_id, vcpu_num)?;
     vm.vcpu_num = vcpu_num;
     vm.active_vcpus = active_vcpus;
-    reply
+    Ok(ipi)
 }
 
 fn call_apic(apic: &mut [u64; 48], vm: &mut Vm, call: ApicCall) -> Reply
@@ -193,7 +191,7 @@ fn call_apic(apic: &mut [u64; 48], vm: &mut Vm, call: ApicCall) -> Reply
             vcpu_id,
             vcpu_num,
             active_vcpus,
-        } => set_up(apic, vm, x2apic, vcpu_id, vcpu_num, active_vcpus),
+        } => set_up(apic, vm, x2apic, vcpu_id, vcpu_num, active_vcpus).reply(),
     }
 }
 
@@ -205,14 +203,14 @@ fn call_board(ioapic: &mut [u64; 32], apic: &mut [u64; 48], call: BoardCall) -> 
         BoardCall::AcceptInterrupt => board::accept_interrupt(apic).reply(),
         BoardCall::HandleEoi => board::handle_eoi(ioapic, apic).reply(),
         BoardCall::WriteTpr(value) => {
-            board::write_tpr(apic, value as u32);
+            board::write_tpr(apic, u32::from(value));
             Reply::Nothing
         }
         BoardCall::HandleWrite { addr, width, value } => board::handle_write(
             ioapic,
             apic,
             addr,
-            width as u64,
+            u64::from(width),
             value,
         ).reply(),
         BoardCall::Receive(vector, level) => {
@@ -276,7 +274,8 @@ impl Machine {
                 },
             },
         };
-        vioapic::new_default(&mut machine.ioapic);
+        // It fits at its usual address, so that it is never refused (`Makes`).
+        let _made = vioapic::new_default(&mut machine.ioapic);
         vpic::new(&mut machine.pic);
         vlapic_words::new(&mut machine.apic);
         board::new(&mut machine.board_ioapic, &mut machine.board_apic);

@@ -19,11 +19,11 @@ returns-in-HandleEoi c = rw c.in-HandleEoi.is (board_gives _ _ _ _ eoi_reply _ _
 
 pub returns-in-WriteTpr : goal.returns-in-WriteTpr
 unfolding outcome
-returns-in-WriteTpr c = rw c.in-WriteTpr.is (board_becomes _ _ _ _ _ (c.write_tpr.ensures c.args.ioapic.now))
+returns-in-WriteTpr c = rw (c.in-WriteTpr.is, ← c.from.ensures) (board_becomes _ _ _ _ _ (c.write_tpr.ensures c.args.ioapic.now))
 
 pub returns-in-HandleWrite : goal.returns-in-HandleWrite
 unfolding outcome
-returns-in-HandleWrite c = rw c.in-HandleWrite.is (board_gives _ _ _ _ written_reply _ _ _ c.reply-in-HandleWrite.ensures c.handle_write.ensures)
+returns-in-HandleWrite c = rw (c.in-HandleWrite.is, ← c.from-in-HandleWrite.ensures) (board_gives _ _ _ _ written_reply _ _ _ c.reply-in-HandleWrite.ensures c.handle_write.ensures)
 
 pub returns-in-Receive : goal.returns-in-Receive
 unfolding outcome

@@ -7,11 +7,11 @@ use Rattle.script_machine.proofs.call_ioapic.Goals as goal
 
 pub returns-in-HandleRead : goal.returns-in-HandleRead
 unfolding outcome
-returns-in-HandleRead c = rw c.in-HandleRead.is (ap (outcome_of _) (c.reply.ensures ∙ c.handle_read.ensures))
+returns-in-HandleRead c = rw (c.in-HandleRead.is, ← c.from.ensures) (ap (outcome_of _) (c.reply.ensures ∙ c.handle_read.ensures))
 
 pub returns-in-HandleWrite : goal.returns-in-HandleWrite
 unfolding outcome handle_write
-returns-in-HandleWrite c = rw c.in-HandleWrite.is (replied _ _ _ _ c.reply-in-HandleWrite.ensures (ap writing_outcome c.handle_write.ensures.outcome))
+returns-in-HandleWrite c = rw (c.in-HandleWrite.is, ← c.from-in-HandleWrite.ensures) (replied _ _ _ _ c.reply-in-HandleWrite.ensures (ap writing_outcome c.handle_write.ensures.outcome))
 
 pub returns-in-SetGsiLevel : goal.returns-in-SetGsiLevel
 unfolding outcome

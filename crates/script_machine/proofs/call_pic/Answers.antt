@@ -4,11 +4,11 @@ use Rattle.script_machine.proofs.call_pic.Goals as goal
 
 pub returns-in-HandleRead : goal.returns-in-HandleRead
 unfolding pic_outcome
-returns-in-HandleRead c = rw c.in-HandleRead.is (replied _ _ _ _ c.reply.ensures c.handle_read.ensures)
+returns-in-HandleRead c = rw (c.in-HandleRead.is, ← c.from.ensures, ← c.from-in-HandleRead.ensures) (replied _ _ _ _ c.reply.ensures c.handle_read.ensures)
 
 pub returns-in-HandleWrite : goal.returns-in-HandleWrite
 unfolding pic_outcome
-returns-in-HandleWrite c = rw c.in-HandleWrite.is (replied _ _ _ _ c.reply-in-HandleWrite.ensures c.handle_write.ensures)
+returns-in-HandleWrite c = rw (c.in-HandleWrite.is, ← c.from-in-HandleWrite.ensures, ← c.from-in-HandleWrite-2.ensures) (replied _ _ _ _ c.reply-in-HandleWrite.ensures c.handle_write.ensures)
 
 pub returns-in-ClaimIrq : goal.returns-in-ClaimIrq
 unfolding pic_outcome
