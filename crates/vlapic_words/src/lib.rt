@@ -4,7 +4,7 @@
 #![tactic(auto)]
 
 ghost use Rattle.std.specs.Prelude.{◌+◌, ◌*◌, ◌≤◌, ◌<◌, false, ◌≡◌, set};
-ghost use Rattle.utils.specs.Set.{marked, last_set32};
+ghost use Rattle.utils.specs.Set.{last_set32};
 ghost use Rattle.types.specs.declared.Reply.TheVariants.{Nothing};
 ghost use Rattle.vlapic_regs.specs.Vectors.{in_words};
 ghost use Rattle.vlapic_regs.specs.Register.{errors_shown};
@@ -18,7 +18,7 @@ ghost use Rattle.vlapic_words.specs.Calls.{Leaves, IsNew, command_stored, icr_re
 ghost use Rattle.vlapic_words.specs.Steps.{start_words, served, marked_in, ranked, ended};
 
 use types::{Refusal, VcpuId, Vector};
-use utils::seen;
+use utils::{holds, low, mark, put};
 use vlapic::consts;
 use vlapic_icr::{IcrAnswer, InterruptCommand, Ipi, fields};
 use vlapic_regs::{lvt, register};
@@ -67,24 +67,10 @@ const ISR: usize = 18;
 
 const TMR: usize = 26;
 
-fn word(words: &[u64; 48], k: usize) -> u32
-    requires { k < 48 }
-    ensures { result ≡ word words.now k }
-{
-    (words[k] % 0x1_0000_0000) as u32
-}
-
 fn is_x2apic(words: &[u64; 48]) -> bool
     ensures { result ≡ (view words.now).x2apic }
 {
     words[X2APIC] != 0
-}
-
-fn put(words: &mut [u64; 48], k: usize, x: u32)
-    requires { k < 48 }
-    ensures { words.new ≡ set words.old k x }
-{
-    words[k] = x as u64;
 }
 
 // A register of one word, written.
@@ -92,8 +78,7 @@ fn store(words: &mut [u64; 48], k: usize, x: u32) -> Result<Option<Ipi>, Refusal
     requires { (1 ≤ k) × (k < 18) }
     ensures { Leaves words.old words.old words.new (write_reply result) (done (with_word (view words.old) k x)) }
 {
-    seen(&*words);
-    put(&mut *words, k, x);
+    put(words, k, x);
     Ok(None)
 }
 
@@ -102,10 +87,10 @@ fn store_in_xapic(words: &mut [u64; 48], k: usize, x: u32) -> Result<Option<Ipi>
     requires { (1 ≤ k) × (k < 18) }
     ensures { Leaves words.old words.old words.new (write_reply result) (in_xapic (view words.old) (with_word (view words.old) k x)) }
 {
-    if is_x2apic(&*words) {
+    if is_x2apic(words) {
         return Err(Refusal::InvalidRegister);
     }
-    store(&mut *words, k, x)
+    store(words, k, x)
 }
 
 // ---- New, and set up
@@ -121,8 +106,8 @@ fn reset(words: &mut [u64; 48], x2apic: bool, vapic_id: u32, spare: [u64; 6])
     ensures { words.new ≡ start_words x2apic vapic_id spare }
 {
     *words = [
-        types::flag(x2apic),
-        vapic_id as u64,
+        u64::from(x2apic),
+        u64::from(vapic_id),
         0,
         0,
         0,
@@ -176,7 +161,7 @@ fn reset(words: &mut [u64; 48], x2apic: bool, vapic_id: u32, spare: [u64; 6])
 pub fn new(words: &mut [u64; 48])
     ensures { IsNew words.new }
 {
-    reset(&mut *words, false, 0, [0, 0, 0, 0, 0, 0]);
+    reset(words, false, 0, [0, 0, 0, 0, 0, 0]);
 }
 
 // A new local APIC in the place of this one: mode, own id, and how many vCPUs the VM has.
@@ -194,13 +179,14 @@ pub fn setup(
     let spare = [
         words[42], words[43], words[44], words[45], words[46], words[47],
     ];
-    reset(&mut *words, x2apic, vcpu_id.apic_id(), spare);
+    reset(words, x2apic, vcpu_id.apic_id(), spare);
     Ok(None)
 }
 
 // ---- Vectors
 
 // The highest vector of a word that isn't empty.
+#[tactic(auto, using(crate::proofs::Search::small))]
 fn in_word(w: u8, held: u32) -> Vector
     requires { (w < 8) × (held ≡ 0 → ⊥) }
     ensures { result.0 ≡ w * 32 + last_set32 held }
@@ -208,17 +194,21 @@ fn in_word(w: u8, held: u32) -> Vector
     Vector(w * 32 + utils::fls32(held) as u8)
 }
 
-// The highest vector in service, or 0: that of the highest word that isn't empty. Words 6 to 4 are looked at together; word 0 isn't searched.
+// The highest vector in service, or 0: that of the highest word that isn't empty. Words 6 to 4 are looked at together;
+// word 0 isn't searched.
+// Stays: what may not change (the clause: `served` is 0 where there is none) keeps 0 for none; a plain loop was tried
+// and misses a bar of speed: "accept and local EOI" of 0x31 took 151 instructions and of 0x51 over 0x31 146, where the
+// original takes 146 and 142 (docs/SPEED.md, limit 1.0).
 fn find_isrv(words: &[u64; 48]) -> Vector
     ensures { result.0 ≡ served words.now }
 {
-    let w7 = word(words, ISR + 7);
+    let w7 = low(words, ISR + 7);
     if w7 != 0 {
         return in_word(7, w7);
     }
-    let w6 = word(words, ISR + 6);
-    let w5 = word(words, ISR + 5);
-    let w4 = word(words, ISR + 4);
+    let w6 = low(words, ISR + 6);
+    let w5 = low(words, ISR + 5);
+    let w4 = low(words, ISR + 4);
     if w6 | w5 | w4 != 0 {
         if w6 != 0 {
             return in_word(6, w6);
@@ -228,88 +218,57 @@ fn find_isrv(words: &[u64; 48]) -> Vector
         }
         return in_word(4, w4);
     }
-    let w3 = word(words, ISR + 3);
+    let w3 = low(words, ISR + 3);
     if w3 != 0 {
         return in_word(3, w3);
     }
-    let w2 = word(words, ISR + 2);
+    let w2 = low(words, ISR + 2);
     if w2 != 0 {
         return in_word(2, w2);
     }
-    let w1 = word(words, ISR + 1);
+    let w1 = low(words, ISR + 1);
     if w1 != 0 {
         return in_word(1, w1);
     }
     Vector(0)
 }
 
-fn marked(set: u32, k: u32, up: bool) -> u32
-    requires { k < 32 }
-    ensures { result ≡ marked set k up }
-{
-    if up {
-        return utils::set32::with(set, k);
-    }
-    utils::set32::without(set, k)
-}
-
-// A vector up or down in the eight words from `base` on.
-fn mark(words: &mut [u64; 48], base: usize, vector: Vector, up: bool)
-    requires { base < 41 }
-    ensures { words.new ≡ marked_in words.old base vector.0 up }
-{
-    let at = utils::extract_index_and_bitpos_u32(vector.0 as u32);
-    let k = base + at.index;
-    let held = word(&*words, k);
-    put(&mut *words, k, marked(held, at.bitpos, up));
-}
-
-fn has(words: &[u64; 48], base: usize, vector: Vector) -> bool
-    requires { base < 41 }
-    ensures { result ≡ in_words (eight words.now base) vector.0 }
-{
-    let at = utils::extract_index_and_bitpos_u32(vector.0 as u32);
-    utils::set32::has(word(words, base + at.index), at.bitpos)
-}
-
 // PPR by the highest vector in service.
 fn rank(words: &mut [u64; 48])
     ensures { words.new ≡ ranked words.old }
 {
-    let isrv = find_isrv(&*words);
-    let ppr = register::ppr(word(&*words, TPR), isrv);
-    put(&mut *words, PPR, ppr);
+    let isrv = find_isrv(words);
+    let ppr = register::ppr(low(words, TPR), isrv);
+    put(words, PPR, ppr);
 }
 
 // Records that the processor accepted an interrupt.
 pub fn accept_interrupt(words: &mut [u64; 48], vector: Vector, level_triggered: bool)
     ensures { Leaves words.old words.old words.new Nothing (accept_interrupt (view words.old) vector level_triggered) }
 {
-    seen(&*words);
-    mark(&mut *words, ISR, vector, true);
-    mark(&mut *words, TMR, vector, level_triggered);
-    rank(&mut *words);
+    mark(words, ISR, vector.0, true);
+    mark(words, TMR, vector.0, level_triggered);
+    rank(words);
 }
 
 // Ends a vector.
 fn end(words: &mut [u64; 48], vector: Vector)
     ensures { words.new ≡ ended words.old vector.0 }
 {
-    mark(&mut *words, ISR, vector, false);
-    rank(&mut *words);
+    mark(words, ISR, vector.0, false);
+    rank(words);
 }
 
 // A guest's EOI, and the vector that it broadcasts to the I/O APICs.
 pub fn handle_eoi(words: &mut [u64; 48]) -> Option<Vector>
     ensures { Leaves words.old words.old words.new (eoi_reply result) (handle_eoi (view words.old)) }
 {
-    seen(&*words);
-    let vector = find_isrv(&*words);
+    let vector = find_isrv(words);
     if vector.0 == 0 {
         return None;
     }
-    let is_told = register::is_eoi_broadcast(has(&*words, TMR, vector), word(&*words, SVR));
-    end(&mut *words, vector);
+    let is_told = register::is_eoi_broadcast(holds(words, TMR, vector.0), low(words, SVR));
+    end(words, vector);
     if is_told {
         return Some(vector);
     }
@@ -369,28 +328,29 @@ pub fn handle_read(words: &[u64; 48], offset: u64) -> Result<u32, Refusal>
     Err(Refusal::InvalidRegister)
 }
 
+#[tactic(auto, unfolding(vlapic::specs::Registers::handle_read, crate::specs::Words::view))]
 fn read_at(words: &[u64; 48], at: u64) -> Result<u32, Refusal>
     ensures { read_reply result ≡ handle_read (view words.now) (at * 16) }
 {
     match at {
-        AT_ID => Ok(register::id(is_x2apic(words), word(words, VAPIC_ID))),
-        AT_TPR => Ok(word(words, TPR)),
-        AT_PPR => Ok(word(words, PPR)),
-        AT_LDR => Ok(word(words, LDR)),
-        AT_DFR => Ok(word(words, DFR)),
-        AT_SIVR => Ok(word(words, SVR)),
-        AT_ESR => Ok(word(words, ESR)),
-        AT_LVT_CMCI => Ok(word(words, LVT_CMCI)),
-        AT_ICR_LOW => Ok(word(words, ICR_LO)),
-        AT_ICR_HI => Ok(word(words, ICR_HI)),
-        AT_LVT_TIMER => Ok(word(words, LVT_TIMER)),
-        AT_LVT_THERMAL => Ok(word(words, LVT_THERMAL)),
-        AT_LVT_PMC => Ok(word(words, LVT_PMI)),
-        AT_LVT_LINT0 => Ok(word(words, LVT_LINT0)),
-        AT_LVT_LINT1 => Ok(word(words, LVT_LINT1)),
-        AT_LVT_ERR => Ok(word(words, LVT_ERROR)),
+        AT_ID => Ok(register::id(is_x2apic(words), low(words, VAPIC_ID))),
+        AT_TPR => Ok(low(words, TPR)),
+        AT_PPR => Ok(low(words, PPR)),
+        AT_LDR => Ok(low(words, LDR)),
+        AT_DFR => Ok(low(words, DFR)),
+        AT_SIVR => Ok(low(words, SVR)),
+        AT_ESR => Ok(low(words, ESR)),
+        AT_LVT_CMCI => Ok(low(words, LVT_CMCI)),
+        AT_ICR_LOW => Ok(low(words, ICR_LO)),
+        AT_ICR_HI => Ok(low(words, ICR_HI)),
+        AT_LVT_TIMER => Ok(low(words, LVT_TIMER)),
+        AT_LVT_THERMAL => Ok(low(words, LVT_THERMAL)),
+        AT_LVT_PMC => Ok(low(words, LVT_PMI)),
+        AT_LVT_LINT0 => Ok(low(words, LVT_LINT0)),
+        AT_LVT_LINT1 => Ok(low(words, LVT_LINT1)),
+        AT_LVT_ERR => Ok(low(words, LVT_ERROR)),
         // ISR and TMR stand side by side, there as here.
-        AT_ISR..=AT_TMR_LAST => Ok(word(words, at as usize + 2)),
+        AT_ISR..=AT_TMR_LAST => Ok(low(words, at as usize + 2)),
         _ => Err(Refusal::InvalidRegister),
     }
 }
@@ -401,33 +361,33 @@ fn read_at(words: &[u64; 48], at: u64) -> Result<u32, Refusal>
 fn show_errors(words: &mut [u64; 48]) -> Result<Option<Ipi>, Refusal>
     ensures { Leaves words.old words.old words.new (write_reply result) (done (with_errors (view words.old) (errors_shown (view words.old).esr_pending))) }
 {
-    seen(&*words);
-    let errors = register::esr(word(&*words, ESR_PENDING));
-    put(&mut *words, ESR, errors.esr);
-    put(&mut *words, ESR_PENDING, errors.esr_pending);
+    let errors = register::esr(low(words, ESR_PENDING));
+    put(words, ESR, errors.esr);
+    put(words, ESR_PENDING, errors.esr_pending);
     Ok(None)
 }
 
 // Writes a register that only stores the value.
+#[tactic(auto, using(crate::proofs::Ways::same), unfolding(vlapic::specs::Registers::write_stored, vlapic::specs::Registers::stored))]
 fn write_register(words: &mut [u64; 48], at: u64, val: u32) -> Result<Option<Ipi>, Refusal>
     ensures { Leaves words.old words.old words.new (write_reply result) (write_stored (view words.old) (at * 16) val) }
 {
     match at {
         // Force APIC ID to be read-only.
         AT_ID => Ok(None),
-        AT_TPR => store(&mut *words, TPR, register::tpr(val)),
-        AT_LDR => store_in_xapic(&mut *words, LDR, register::ldr(val)),
-        AT_DFR => store_in_xapic(&mut *words, DFR, register::dfr(val)),
-        AT_SIVR => store(&mut *words, SVR, register::svr(val)),
-        AT_ESR => show_errors(&mut *words),
-        AT_ICR_HI => store_in_xapic(&mut *words, ICR_HI, register::icr_hi(val)),
-        AT_LVT_CMCI => store(&mut *words, LVT_CMCI, lvt::monitor(val)),
-        AT_LVT_TIMER => store(&mut *words, LVT_TIMER, lvt::timer(val)),
-        AT_LVT_THERMAL => store(&mut *words, LVT_THERMAL, lvt::monitor(val)),
-        AT_LVT_PMC => store(&mut *words, LVT_PMI, lvt::monitor(val)),
-        AT_LVT_LINT0 => store(&mut *words, LVT_LINT0, lvt::pin(val)),
-        AT_LVT_LINT1 => store(&mut *words, LVT_LINT1, lvt::pin(val)),
-        AT_LVT_ERR => store(&mut *words, LVT_ERROR, lvt::error(val)),
+        AT_TPR => store(words, TPR, register::tpr(val)),
+        AT_LDR => store_in_xapic(words, LDR, register::ldr(val)),
+        AT_DFR => store_in_xapic(words, DFR, register::dfr(val)),
+        AT_SIVR => store(words, SVR, register::svr(val)),
+        AT_ESR => show_errors(words),
+        AT_ICR_HI => store_in_xapic(words, ICR_HI, register::icr_hi(val)),
+        AT_LVT_CMCI => store(words, LVT_CMCI, lvt::monitor(val)),
+        AT_LVT_TIMER => store(words, LVT_TIMER, lvt::timer(val)),
+        AT_LVT_THERMAL => store(words, LVT_THERMAL, lvt::monitor(val)),
+        AT_LVT_PMC => store(words, LVT_PMI, lvt::monitor(val)),
+        AT_LVT_LINT0 => store(words, LVT_LINT0, lvt::pin(val)),
+        AT_LVT_LINT1 => store(words, LVT_LINT1, lvt::pin(val)),
+        AT_LVT_ERR => store(words, LVT_ERROR, lvt::error(val)),
         _ => Err(Refusal::InvalidRegister),
     }
 }
@@ -440,8 +400,8 @@ fn answer(words: &mut [u64; 48], answer: Result<IcrAnswer, Refusal>) -> Result<O
     match answer? {
         IcrAnswer::Nothing => Ok(None),
         IcrAnswer::SendIllegalVector => {
-            let noted = register::illegal_noted(word(&*words, ESR_PENDING));
-            store(&mut *words, ESR_PENDING, noted)
+            let noted = register::illegal_noted(low(words, ESR_PENDING));
+            store(words, ESR_PENDING, noted)
         }
         IcrAnswer::Ipi(ipi) => Ok(Some(ipi)),
     }
@@ -457,18 +417,17 @@ fn write_icr(
 ) -> Result<Option<Ipi>, Refusal>
     ensures { Leaves words.old (command_stored words.old lo hi) words.new (write_reply result) (write_icr (view words.old) lo hi vcpu_num active_vcpus) }
 {
-    seen(&*words);
     let command = InterruptCommand {
-        x2apic: is_x2apic(&*words),
-        vapic_id: word(&*words, VAPIC_ID),
-        ldr: word(&*words, LDR),
-        dfr: word(&*words, DFR),
+        x2apic: is_x2apic(words),
+        vapic_id: low(words, VAPIC_ID),
+        ldr: low(words, LDR),
+        dfr: low(words, DFR),
         icr_lo: fields::idle(lo),
         icr_hi: hi,
     };
-    put(&mut *words, ICR_LO, command.icr_lo);
-    put(&mut *words, ICR_HI, hi);
-    answer(&mut *words, command.carry_out(vcpu_num, active_vcpus))
+    put(words, ICR_LO, command.icr_lo);
+    put(words, ICR_HI, hi);
+    answer(words, command.carry_out(vcpu_num, active_vcpus))
 }
 
 // A write of the ICR's low word; in x2APIC mode of both words.
@@ -481,11 +440,11 @@ fn write_icr_low(
 ) -> Result<Option<Ipi>, Refusal>
     ensures { Leaves words.old (icr_refused words.old val width) words.new (write_reply result) (write_icr_low (view words.old) val width vcpu_num active_vcpus) }
 {
-    let x2apic = is_x2apic(&*words);
+    let x2apic = is_x2apic(words);
     if fields::is_icr_width(x2apic, u64::from(width)) {
         let lo = (val % 0x1_0000_0000) as u32;
-        let hi = fields::icr_high(x2apic, val, word(&*words, ICR_HI));
-        return write_icr(&mut *words, lo, hi, vcpu_num, active_vcpus);
+        let hi = fields::icr_high(x2apic, val, low(words, ICR_HI));
+        return write_icr(words, lo, hi, vcpu_num, active_vcpus);
     }
     Err(Refusal::InvalidRegister)
 }
@@ -494,10 +453,10 @@ fn write_icr_low(
 fn write_self_ipi(words: &mut [u64; 48], val: u64) -> Result<Option<Ipi>, Refusal>
     ensures { Leaves words.old words.old words.new (write_reply result) (write_self_ipi (view words.old) val) }
 {
-    if is_x2apic(&*words) {
+    if is_x2apic(words) {
         let vector = Vector((val % 256) as u8);
-        let id = VcpuId::of_apic(word(&*words, VAPIC_ID));
-        return answer(&mut *words, Ok(vlapic_icr::handle_self_ipi(id, vector)));
+        let id = VcpuId::of_apic(low(words, VAPIC_ID));
+        return answer(words, Ok(vlapic_icr::handle_self_ipi(id, vector)));
     }
     Err(Refusal::InvalidRegister)
 }
@@ -506,12 +465,11 @@ fn write_self_ipi(words: &mut [u64; 48], val: u64) -> Result<Option<Ipi>, Refusa
 fn write_eoi(words: &mut [u64; 48]) -> Result<Option<Ipi>, Refusal>
     ensures { Leaves words.old words.old words.new (write_reply result) (done (handle_eoi (view words.old)).state) }
 {
-    seen(&*words);
-    let vector = find_isrv(&*words);
+    let vector = find_isrv(words);
     if vector.0 == 0 {
         return Ok(None);
     }
-    end(&mut *words, vector);
+    end(words, vector);
     Ok(None)
 }
 
@@ -526,11 +484,11 @@ pub fn handle_write(
 ) -> Result<Option<Ipi>, Refusal>
     ensures { Leaves words.old (refused_words words.old offset val width vcpu_num) words.new (write_reply result) (handle_write (view words.old) offset val width vcpu_num active_vcpus) }
 {
-    if vlapic::is_out_of_range(vcpu_num, VcpuId::of_apic(word(&*words, VAPIC_ID))) {
+    if vlapic::is_out_of_range(vcpu_num, VcpuId::of_apic(low(words, VAPIC_ID))) {
         return Err(Refusal::OutOfRange);
     }
     if offset % 16 == 0 {
-        return write_at(&mut *words, offset / 16, val, width, vcpu_num, active_vcpus);
+        return write_at(words, offset / 16, val, width, vcpu_num, active_vcpus);
     }
     Err(Refusal::InvalidRegister)
 }
@@ -547,9 +505,9 @@ fn write_at(
     ensures { Leaves words.old (refused_words words.old (at * 16) val width vcpu_num) words.new (write_reply result) (handle_write (view words.old) (at * 16) val width vcpu_num active_vcpus) }
 {
     match at {
-        AT_EOI => write_eoi(&mut *words),
-        AT_ICR_LOW => write_icr_low(&mut *words, val, width, vcpu_num, active_vcpus),
-        AT_SELF_IPI => write_self_ipi(&mut *words, val),
-        _ => write_register(&mut *words, at, (val % 0x1_0000_0000) as u32),
+        AT_EOI => write_eoi(words),
+        AT_ICR_LOW => write_icr_low(words, val, width, vcpu_num, active_vcpus),
+        AT_SELF_IPI => write_self_ipi(words, val),
+        _ => write_register(words, at, (val % 0x1_0000_0000) as u32),
     }
 }
