@@ -22,10 +22,13 @@ const WORD: usize = 21;
 
 // ---- printing
 
+// Stays: the new form is no plainer: one write of bytes that are there.
 pub fn print_text<W: Write>(out: &mut W, text: &[u8]) -> Result<()> {
     out.write_all(text)
 }
 
+// The line of `put_reply`, which promises its bytes.
+// Stays: the new form is no plainer: a Display would say the bytes of `put_reply` once more.
 pub fn print_reply<W: Write>(out: &mut W, reply: Reply) -> Result<()> {
     let mut space = [0; LINE];
     let mut page = Page {
@@ -40,6 +43,7 @@ pub fn print_reply<W: Write>(out: &mut W, reply: Reply) -> Result<()> {
 // ---- lines
 
 // A field's line: the tag in two hexadecimal digits, a space, and the reply.
+// Stays: what may not change: the signature, and the clause `puts`; `write!` says what it wrote only where it is Ok.
 pub fn put_line(out: &mut [u8], at: usize, tag: u8, reply: Reply) -> usize
     ensures puts { Puts out.old at (in_room (length out.old) at (line tag reply)) out.new result }
     ensures upper_bound { result ≤ at + 80 }
@@ -53,6 +57,7 @@ pub fn put_line(out: &mut [u8], at: usize, tag: u8, reply: Reply) -> usize
 }
 
 // The line of a bad field, by its tag's place.
+// Stays: what may not change: the signature, and the clause `puts`; `write!` says what it wrote only where it is Ok.
 pub fn put_bad(out: &mut [u8], at: usize, place: usize) -> usize
     ensures puts { Puts out.old at (in_room (length out.old) at (bad_line place)) out.new result }
     ensures upper_bound { result ≤ at + 80 }
@@ -66,6 +71,7 @@ pub fn put_bad(out: &mut [u8], at: usize, place: usize) -> usize
 }
 
 // The line of a script that is too long.
+// Stays: what may not change: the signature, and the clause `puts`; `write!` says what it wrote only where it is Ok.
 pub fn put_too_long(out: &mut [u8], at: usize) -> usize
     ensures puts { Puts out.old at (in_room (length out.old) at too_long_line) out.new result }
     ensures upper_bound { result ≤ at + 80 }
@@ -79,6 +85,7 @@ pub fn put_too_long(out: &mut [u8], at: usize) -> usize
 }
 
 // A line of words: each in decimal digits with a space behind it, and the end of the line. It is put where the buffer has 21 bytes left for each word, and one more.
+// Stays: what may not change: the signature, and the clause `puts`; `write!` says what it wrote only where it is Ok.
 pub fn put_words(out: &mut [u8], at: usize, words: &[u64]) -> usize
     ensures puts { Puts out.old at (words_in_room (length out.old) at words.now) out.new result }
     ensures upper_bound { result ≤ at + 21 * length words.now + 1 }
@@ -107,13 +114,15 @@ fn has_room(length: usize, at: usize) -> bool
 
 // ---- a page: a lent buffer, and where its text ends. Each of these puts what there is room for.
 
-#[derive(Drop)]
+// Stays: the new form is no plainer: it holds a lent buffer, so that it isn't Copy, and no two pages are compared.
+#[derive(Debug, Drop)]
 struct Page<'a> {
     out: &'a mut [u8],
     end: usize,
 }
 
 impl Page<'_> {
+    // Stays: what may not change: the clause `puts` of the four above, by which `write!` falls out.
     fn put_field(&mut self, tag: u8, reply: Reply)
         requires { self.old.end + 80 ≤ length self.old.out.now }
         ensures puts { PutsOn self.old (line tag reply) self.new }
@@ -126,6 +135,7 @@ impl Page<'_> {
         self.put_reply(reply);
     }
 
+    // Stays: what may not change: the clause `puts` of the four above, by which `write!` falls out.
     fn put_bad(&mut self, place: usize)
         requires { self.old.end + 80 ≤ length self.old.out.now }
         ensures puts { PutsOn self.old (bad_line place) self.new }
@@ -137,6 +147,7 @@ impl Page<'_> {
         self.put(b'\n');
     }
 
+    // Stays: what may not change: the clause `puts` of the four above, by which `write!` falls out.
     fn put_too_long(&mut self)
         requires { self.old.end + 80 ≤ length self.old.out.now }
         ensures puts { PutsOn self.old too_long_line self.new }
@@ -147,6 +158,7 @@ impl Page<'_> {
         self.put(b'\n');
     }
 
+    // Stays: what may not change: the clause `puts` of the four above, by which `write!` falls out.
     fn put_words(&mut self, words: &[u64])
         requires { self.old.end + 21 * length words.now + 1 ≤ length self.old.out.now }
         ensures puts { PutsOn self.old (words_line words.now) self.new }
@@ -161,6 +173,7 @@ impl Page<'_> {
     }
 
     // The number, the values, and the end of the line.
+    // Stays: what may not change: the clause `puts` of the four above, by which `write!` falls out.
     fn put_reply(&mut self, reply: Reply)
         requires { self.old.end + 70 ≤ length self.old.out.now }
         ensures puts { PutsOn self.old (reply_text reply) self.new }
@@ -173,6 +186,7 @@ impl Page<'_> {
         self.put(b'\n');
     }
 
+    // Stays: what may not change: the clause `puts` of the four above, by which `write!` falls out.
     fn put_values(&mut self, reply: Reply)
         requires { self.old.end + 62 ≤ length self.old.out.now }
         ensures puts { PutsOn self.old (values (reply_values reply)) self.new }
@@ -192,6 +206,7 @@ impl Page<'_> {
         }
     }
 
+    // Stays: what may not change: the clause `puts` of the four above, by which `write!` falls out.
     fn put_pair(&mut self, a: u64, b: u64)
         requires { self.old.end + 41 ≤ length self.old.out.now }
         ensures puts { PutsOn self.old (values (a ∷ b ∷ [])) self.new }
@@ -204,17 +219,20 @@ impl Page<'_> {
     }
 
     // A number in decimal digits: at most 20 of them.
+    // Stays: what may not change: the clause `puts` of the four above, by which `write!` falls out.
     fn put_decimal(&mut self, n: u64)
         requires { self.old.end + 20 ≤ length self.old.out.now }
         ensures puts { PutsOn self.old (decimal n) self.new }
         ensures upper_bound { self.new.end ≤ self.old.end + 20 }
         ensures same { self.new.out.ghost_name ≡ self.old.out.ghost_name }
     {
+        // Stays: a rule of the project: no heap.
         let mut digits = [0; 20];
         let count = io::decimal(n, &mut digits);
         self.put_text(&digits[..count]);
     }
 
+    // Stays: what may not change: the clause `puts` of the four above, by which `write!` falls out.
     fn put_text(&mut self, text: &[u8])
         requires { self.old.end + length text.now ≤ length self.old.out.now }
         ensures puts { PutsOn self.old text.now self.new }
@@ -236,6 +254,7 @@ impl Page<'_> {
 }
 
 // A hexadecimal digit, of the low half of a byte.
+// Stays: the new form is no plainer: `char::from_digit` answers an Option, of a char.
 fn digit(d: u8) -> u8
     ensures { result ≡ hex_digit_ascii (d % 16) }
 {

@@ -67,6 +67,7 @@ fn deliver_from(list: &mut [u8]) -> Result<Option<Vector>, Refusal>
     Ok(Some(vector))
 }
 
+// Stays: the C interface: a list is 66 bytes, a ring of 64 places.
 // How many of the n that wait are older than the oldest of a vector, where one has it.
 fn index_of(list: &[u8], head: usize, n: usize, vector: u8) -> Option<usize>
     requires { (length list.now ≡ 66) × (head < 256) × (n ≤ 64) }
@@ -81,6 +82,7 @@ fn index_of(list: &[u8], head: usize, n: usize, vector: u8) -> Option<usize>
     None
 }
 
+// Stays: the C interface: a list is 66 bytes, a ring of 64 places.
 // The `more` vectors behind a place move up to it, and the last one's place is cleared.
 fn close(list: &mut [u8], at: usize, more: usize)
     requires { (length list.old ≡ 66) × (at < 512) × (more < 64) }
@@ -156,6 +158,7 @@ fn start(bytes: usize, vcpu: VcpuId) -> Result<usize, Refusal>
 }
 
 // A new list for a vCPU: nothing waits.
+// Stays: the C interface lends the lists of all vCPUs as bytes, and names one by its id.
 pub fn new(lists: &mut [u8], vcpu: VcpuId) -> Result<(), Refusal>
     ensures { outcome_of (lists_in lists.new) (taken_reply result) ≡ new (lists_in lists.old) vcpu }
 {

@@ -12,6 +12,7 @@ ghost use Rattle.waiting_c.specs.Calls.{shown, coded, vcpu, take_number, cancel_
 use reply_code::code;
 use types::{PicLine, Refusal, Reply, ToReply, VcpuId, Vector};
 
+// Stays: the C interface.
 #[unsafe(no_mangle)]
 pub extern "C" fn sillwander_waiting_new(lists: &mut [u8], vcpu_id: usize) -> u64
     ensures { shown (lists_in lists.new) result ≡ coded (new (lists_in lists.old) (vcpu vcpu_id)) }
@@ -53,6 +54,7 @@ pub extern "C" fn sillwander_waiting_count(lists: &[u8], vcpu_id: usize) -> u64
     code(waiting::count(lists, VcpuId(vcpu_id)).reply())
 }
 
+// Stays: the C interface.
 #[unsafe(no_mangle)]
 pub extern "C" fn sillwander_waiting_peek(lists: &[u8], vcpu_id: usize, place: usize) -> u64
     ensures { shown (lists_in lists.now) result ≡ coded (peek (lists_in lists.now) (vcpu vcpu_id) place) }

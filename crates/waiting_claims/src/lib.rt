@@ -34,6 +34,7 @@ fn hand(
     }
 }
 
+// Stays: the C interface lends the lists and the pair side by side.
 // Raises a line, and claims for a vCPU what the pair has to deliver: a claim whose vector waits now, or none.
 pub fn claim_irq(
     lists: &mut [u8],
