@@ -1,5 +1,0 @@
-use Rattle.utils.proofs.Bits.{set_bit}
-use Rattle.utils.proofs.set64.with.Goals as goal
-
-pub returns : goal.returns
-returns c = set_bit 64 c.args.set c.args.k c.requires
