@@ -189,8 +189,8 @@ impl<'a> Setup<'a> {
         }
     }
 
-    // A line's input is its place among the lines where its row has none. Inputs are looked at while there are no more lines than inputs: else a text with more
-    // lines would fail by its inputs, and never by that.
+    // A line's input is its place among the lines where its row has none. Inputs are looked at while there are no more
+    // lines than inputs: else a text with more lines would fail by its inputs, and never by that.
     fn line_row(
         &self,
         name: &'a [u8],

@@ -79,7 +79,8 @@ impl<'a> Lines<'a> {
 
     // The first line up to whose highest vector it is crowded.
     fn end_line(self, from: Vector) -> Option<usize>
-        ensures { IsFirst (length self.entry.ranges.now) (end_line self.entry.ranges.now self.entry.taken.now from.0) result }
+        ensures { IsFirst (length self.entry.ranges.now)
+            (end_line self.entry.ranges.now self.entry.taken.now from.0) result }
     {
         self.ranges
             .iter()
@@ -88,7 +89,8 @@ impl<'a> Lines<'a> {
 
     // The first line from whose lowest vector it is crowded up to some line's highest.
     fn start_line(self) -> Option<usize>
-        ensures { IsFirst (length self.entry.ranges.now) (start_line self.entry.ranges.now self.entry.taken.now) result }
+        ensures { IsFirst (length self.entry.ranges.now)
+            (start_line self.entry.ranges.now self.entry.taken.now) result }
     {
         self.ranges
             .iter()
