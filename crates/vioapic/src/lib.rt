@@ -118,6 +118,15 @@ impl TryFrom<u64> for IoApicVersion {
     }
 }
 
+// Whether there is a version of that number.
+// Stays: the new form is no plainer: the scripts' table and the images' rules ask whether, and not which.
+#[tactic(auto, using(crate::proofs::Ways::names_ok))]
+pub fn is_version(number: u64) -> bool
+    ensures { result ≡ is_version number }
+{
+    IoApicVersion::try_from(number).is_ok()
+}
+
 // Result of a virtual IO APIC EOI broadcast: the GSI whose remote-IRR state was cleared, and the interrupt that should be injected now.
 #[derive(Clone, Copy, Debug, PartialEq, Eq, Hash)]
 pub struct IoApicEoi {
@@ -219,15 +228,6 @@ impl From<Option<Eoi>> for Written {
             Some(Eoi::EndedAll(eois)) => Written::EndedAll(eois),
         }
     }
-}
-
-// Whether there is a version of that number.
-// Stays: the new form is no plainer: the scripts' table and the images' rules ask whether, and not which.
-#[tactic(auto, using(crate::proofs::Ways::names_ok))]
-pub fn is_version(number: u64) -> bool
-    ensures { result ≡ is_version number }
-{
-    IoApicVersion::try_from(number).is_ok()
 }
 
 // Guest-physical addresses from the start up to, and without, the end.
@@ -505,7 +505,7 @@ fn first_awaiting(words: &[u64; 32], vector: Vector) -> Option<Place>
     None
 }
 
-// Entry place, which awaits the EOI, is sent again if it can be: in flight as before, so that nothing moves. Else it is at rest.
+// An entry that awaits the EOI is sent again if it can be: in flight as before, so that nothing moves. Else it is at rest.
 fn resend(words: &mut [u64; 32], place: Place, word: u64) -> Option<IoApicInterrupt>
     requires { (word ≡ (entry_at (view words.old) place.index).word) × (remote_irr word ≡ true) × (is_level word ≡ true) }
     ensures { Keeps words.old words.new (routing (view words.new) result ≡ route_at (view words.old) place.index (send_entry (with_word (entry_at (view words.old) place.index) (without_remote_irr word)))) }
@@ -580,7 +580,7 @@ fn end20(words: &mut [u64; 32], place: Place) -> Option<IoApicInterrupt>
     None
 }
 
-// The turn of entry place, which ends if it awaits the EOI.
+// The turn of an entry, which ends if it awaits the EOI.
 fn end_at(words: &mut [u64; 32], place: Place, vector: Vector, ends: Ends) -> Ends
     ensures { Keeps words.old words.new (every_end (view words.new) (cleared_in result) (sent_in result) ≡ end_next vector (every_end (view words.old) (cleared_in ends) (sent_in ends)) place.index) }
 {
