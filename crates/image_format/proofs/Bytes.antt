@@ -1,12 +1,12 @@
 -- Bytes of a number, and a number of bytes; runs of stores. Assumes nothing.
 use mathlib.Core.Path.{◌≡◌, refl, sym, ◌∙◌, ap}
 use mathlib.Core.Bool.{Bool, true, false, cond}
-use mathlib.Core.List.{List, [], ◌∷◌, ◌++◌, append_assoc}
+use mathlib.Core.List.{List, [], ◌∷◌, ◌++◌, append_assoc, append-nil}
 use Prim.Native.Nat.{ℕ, zero, suc, ◌+◌, ◌-◌, ◌*◌, ◌/◌, ◌%◌, ◌^◌, ◌≤◌}
 use native.Mathlib.Omega.{arith}
 use native.Mathlib.Nat.{pow-succ', div-div-eq-div-mul}
 use lib.ListN.{get_or, set, length, length-append, length-drop, take, drop, replicate}
-use lib.Seq.{sets, sets-eq, drop-drop, get_or-drop}
+use lib.Seq.{sets, sets-eq, drop-drop, get_or-drop, drop-length, take-length}
 use Rattle.std.proofs.lemmas.List.{get_or-take, get_or_past, length-take-le}
 use borrow.Rule.Slice.PartMut.{put_mid}
 use Rattle.std.specs.Int.{byte_at, bytes_low_first, from_le_bytes, w64}
@@ -41,6 +41,19 @@ length_written (r ∷ rows) words = length-append (field_of words r) (written ro
 
 pub stored : (l ys zs : List ℕ) (at k : ℕ) → ys ≡ zs → k ≡ length zs → at + length zs ≤ length l → put_mid at k l ys ≡ sets l at zs
 stored l ys zs at k e ek f = rw (e, ek, sym (append_assoc (take at l) zs (drop (length zs) (drop at l)))) (ap (λ (t : List ℕ). take at l ++ zs ++ t) (drop-drop (length zs) at l) ∙ sym (sets-eq zs l at f))
+
+-- and the rest of it, from `at` on
+pub rest_is : (l : List ℕ) (at : ℕ) → take (length l - at) (drop at l) ≡ drop at l
+rest_is l at = rw (length-drop at l) at (take-length (drop at l))
+
+pub rest_stored : (l ys xs : List ℕ) (at k : ℕ) → ys ≡ sets (drop at l) 0 xs → at + k ≡ length l → at + length xs ≤ length l → put_mid at k l ys ≡ sets l at xs
+rest_stored l ys xs at k e ek f =
+    let n : length (drop at l) ≡ k = rw (length-drop at l) (omega arith) in
+    let z : drop k (drop at l) ≡ [] = rw n at (drop-length (drop at l)) in
+    let o : 0 + length xs ≡ length xs = omega arith in
+    let p : 0 + length xs ≤ length (drop at l) = omega arith in
+    let w : ys ≡ xs ++ drop (at + length xs) l = e ∙ rw o at (sets-eq xs (drop at l) 0 p) ∙ ap (λ (t : List ℕ). xs ++ t) (drop-drop (length xs) at l) in
+    rw (w, z, append-nil) (sym (append_assoc (take at l) xs (drop (at + length xs) l)) ∙ sym (sets-eq xs l at f))
 
 -- the lowest bytes of eight
 pub low_bytes : (k w i n : ℕ) → w ≤ k → take w (bytes_low_first i k n) ≡ bytes_of w (n / 256 ^ i)

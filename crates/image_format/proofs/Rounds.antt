@@ -1,12 +1,12 @@
 -- One row's turn, where an image is written and where it is read; and what is left to do after it. Assumes nothing.
 use mathlib.Core.Path.{◌≡◌, refl, sym, ◌∙◌, ap}
-use mathlib.Core.Bool.{true}
+use mathlib.Core.Bool.{true, cond}
 use mathlib.Core.List.{List, [], ◌∷◌, ◌++◌}
-use Prim.Native.Nat.{ℕ, ◌+◌, ◌<◌, ◌≤◌}
+use Prim.Native.Nat.{ℕ, zero, suc, ◌+◌, ◌<◌, ◌≤◌}
 use native.Mathlib.Omega.{arith}
 use native.Mathlib.Numerals.{add-one}
 use lib.ListN.{get_or, set, length, take, drop}
-use lib.Seq.{sets, sets-eq, drop-cons}
+use lib.Seq.{sets, sets-eq, drop-cons, get_or-drop}
 use Rattle.image_format.specs.declared.Row.{Row}
 use Rattle.image_format.specs.Format.{row, is_number, step_of, bytes, format, row_at}
 use Rattle.image_format.specs.Image.{bytes_of, number_at, header_of, field_with, field_of, written, image_of, taken, loaded, words_in}
@@ -16,6 +16,17 @@ use Rattle.image_format.proofs.Bytes.{sets_append, length_field, length_written}
 -- what a number takes of the bytes
 pub take_number : (s : List ℕ) (at : ℕ) (r : Row) (words : List ℕ) (x : ℕ) → is_number r ≡ true → x ≡ number_at s (at + 3) r.size → set words r.slot x ≡ taken s at r words
 take_number s at r words x h ex = rw (h, ex)
+
+-- of the bytes from `at` on
+pub taken_from : (s words after : List ℕ) (at : ℕ) (r : Row) → after ≡ taken (drop at s) 0 r words → after ≡ taken s at r words
+unfolding number_at
+taken_from s words after at r e = e ∙ ap (λ (n : ℕ). cond (is_number r) (set words r.slot n) words) (same 3 r.size)
+  where
+    same : (i w : ℕ) → number_at (drop at s) i w ≡ number_at s (at + i) w
+    same i zero = refl
+    same i (suc w) =
+        let e : at + suc i ≡ suc (at + i) = omega arith in
+        rw (get_or-drop at s i 0, same (suc i) w, e)
 
 -- the rows from k on
 pub rows_from : (k : ℕ) → k < 80 → drop k format ≡ row_at k ∷ drop (k + 1) format

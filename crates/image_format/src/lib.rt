@@ -40,6 +40,7 @@ pub struct Row {
 
 impl Row {
     // Any other row is a group.
+    // Stays: a tag is a byte of the image, and the definition `is_number` reads it.
     fn is_number(self) -> bool
         ensures { result ≡ is_number self }
     {
@@ -89,7 +90,7 @@ pub struct Place {
 }
 
 // The bytes of an image from `at` up to `end`.
-#[derive(Clone, Copy, Debug)]
+#[derive(Clone, Copy, Debug, PartialEq, Eq, Hash)]
 struct Part<'a> {
     image: &'a [u8],
     at: usize,
@@ -154,20 +155,9 @@ fn read_group(part: Part<'_>, depth: u8, row: usize) -> Option<Place>
     read_group(rest, depth, next.row)
 }
 
-// The field at a place, to the end of the slice.
-fn field_from(image: &[u8], at: usize, row: usize) -> Option<Place>
-    ensures { result ≡ field_from image.now at row }
-{
-    let end = image.len();
-    if at > end {
-        return None;
-    }
-    read_field(Part { image, at, end }, GROUPS_DEEP, row)
-}
-
 // ---- The reader keeps the lent image and its place
 
-#[derive(Debug, Drop)]
+#[derive(Debug, PartialEq, Eq, Hash, Drop)]
 pub struct Reader<'a> {
     pub image: &'a [u8],
     pub at: usize,
@@ -184,7 +174,16 @@ pub fn new<'a>(image: &'a [u8]) -> Reader<'a>
 pub fn next<'a>(r: Reader<'a>, row: usize) -> Option<Place>
     ensures { result ≡ field_from r.entry.image.now r.entry.at row }
 {
-    field_from(r.image, r.at, row)
+    let end = r.image.len();
+    if r.at > end {
+        return None;
+    }
+    let part = Part {
+        image: r.image,
+        at: r.at,
+        end,
+    };
+    read_field(part, GROUPS_DEEP, row)
 }
 
 /// The image's first field, of a plain slice and a number: as `next` answers.
@@ -207,8 +206,8 @@ pub fn is_read(image: &[u8]) -> bool
 
 // ---- The words of an image
 
-// The number that these bytes make, the low one first.
-fn number(bytes: &[u8]) -> u64
+// The word whose low bytes these are, the lowest first.
+fn word_from(bytes: &[u8]) -> u64
     requires { length bytes.now ≤ 8 }
     ensures { result ≡ number_at bytes.now 0 (length bytes.now) }
 {
@@ -217,15 +216,14 @@ fn number(bytes: &[u8]) -> u64
     u64::from_le_bytes(all)
 }
 
-// The row's number, if it is one, goes to its word.
-fn take_field(image: &[u8], at: usize, row: Row, words: &mut [u64; 84])
-    requires fits { at + step_of row ≤ length image.now }
+// The row's number, if it is one, goes to its word; the bytes begin with the row's header.
+fn take_field(bytes: &[u8], row: Row, words: &mut [u64; 84])
+    requires fits { step_of row ≤ length bytes.now }
     requires row { IsRow row }
-    ensures { words.new ≡ taken image.now at row words.old }
+    ensures { words.new ≡ taken bytes.now 0 row words.old }
 {
     if row.is_number() {
-        let body = at + 3;
-        words[row.slot] = number(&image[body..body + row.size()]);
+        words[row.slot] = word_from(&bytes[3..3 + row.size()]);
     }
 }
 
@@ -238,36 +236,23 @@ pub fn load(image: &[u8], words: &mut [u64; 84])
     }
     let mut at = 0;
     for row in format_rows() {
-        take_field(image, at, *row, words);
+        take_field(&image[at..], *row, words);
         at += row.step();
     }
 }
 
 // ---- Writing
 
-// A number's lowest bytes, the low one first.
-fn put_number(buf: &mut [u8], at: usize, n: u64, size: usize)
-    requires { (size ≤ 8) × (at + size ≤ length buf.old) }
-    ensures { buf.new ≡ sets buf.old at (bytes_of size n) }
-{
-    buf[at..at + size].copy_from_slice(&n.to_le_bytes()[..size]);
-}
-
-fn put_header(buf: &mut [u8], at: usize, row: Row)
-    requires { at + 3 ≤ length buf.old }
-    ensures { buf.new ≡ sets buf.old at (header_of row) }
-{
-    buf[at..at + 3].copy_from_slice(&row.header());
-}
-
-fn put_field(buf: &mut [u8], at: usize, row: Row, n: u64)
-    requires fits { at + step_of row ≤ length buf.old }
+// The row's field goes to the bytes' start: its header, and of a number the lowest bytes, the lowest first.
+fn put_field(bytes: &mut [u8], row: Row, word: u64)
+    requires fits { step_of row ≤ length bytes.old }
     requires row { IsRow row }
-    ensures { buf.new ≡ sets buf.old at (field_with n row) }
+    ensures { bytes.new ≡ sets bytes.old 0 (field_with word row) }
 {
-    put_header(buf, at, row);
+    bytes[..3].copy_from_slice(&row.header());
     if row.is_number() {
-        put_number(buf, at + 3, n, row.size());
+        let size = row.size();
+        bytes[3..3 + size].copy_from_slice(&word.to_le_bytes()[..size]);
     }
 }
 
@@ -281,7 +266,7 @@ pub fn write(words: &[u64; 84], buf: &mut [u8])
     }
     let mut at = 0;
     for row in format_rows() {
-        put_field(buf, at, *row, words[row.slot]);
+        put_field(&mut buf[at..], *row, words[row.slot]);
         at += row.step();
     }
 }

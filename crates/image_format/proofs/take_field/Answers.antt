@@ -6,5 +6,5 @@ use Rattle.image_format.proofs.take_field.Goals as goal
 pub returns-then-is_number : goal.returns-then-is_number
 returns-then-is_number c =
     let h = sym c.is_number.ensures ∙ c.if-is_number.true in
-    take_number c.args.image.now c.args.at c.args.row c.args.words.now _ h
-    (c.number.ensures ∙ number_part _ _ (c.args.at + 3 + c.size.result - (c.args.at + 3)) c.args.row.size (omega arith) (let f = rw h at c.requires.fits in omega arith))
+    take_number c.args.bytes.now 0 c.args.row c.args.words.now _ h
+    (c.word_from.ensures ∙ number_part c.args.bytes.now 3 (3 + c.size.result - 3) c.args.row.size (omega arith) (let f = rw h at c.requires.fits in omega arith))
