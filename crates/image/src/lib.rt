@@ -44,7 +44,7 @@ fn chip_word(rule: u64, word: u64) -> u64
 }
 
 // A board's chips, each in the lent words that hold it.
-#[derive(Clone, Copy, Debug)]
+#[derive(Clone, Copy, Debug, PartialEq, Eq, Hash)]
 struct Board<'a> {
     io: &'a [u64; 32],
     apic: &'a [u64; 48],
