@@ -13,7 +13,7 @@ ghost use Rattle.vlapic_requests.specs.Requests.{highest, received_illegal, requ
 ghost use Rattle.vlapic_requests.specs.Promise.{Becomes, Answers, ranked_words};
 
 use types::Vector;
-use utils::seen;
+use utils::{Set, holds, low, mark, put};
 use vlapic_regs::register;
 
 // ---- The words
@@ -39,74 +39,32 @@ const LOWEST: u8 = 16;
 // The error status register's bit "receive illegal vector".
 const RECEIVE_ILLEGAL_VECTOR: u32 = 6;
 
-fn word(words: &[u64; 48], k: usize) -> u32
-    requires { k < 48 }
-    ensures { result ≡ word words.now k }
-{
-    (words[k] % 0x1_0000_0000) as u32
-}
-
-fn put(words: &mut [u64; 48], k: usize, x: u32)
-    requires { k < 48 }
-    ensures { words.new ≡ set words.old k x }
-{
-    words[k] = x as u64;
-}
-
 // ---- Vectors
 
-fn marked(set: u32, k: u32, up: bool) -> u32
-    requires { k < 32 }
-    ensures { result ≡ marked set k up }
-{
-    if up {
-        return utils::set32::with(set, k);
-    }
-    utils::set32::without(set, k)
-}
-
-// A vector up or down in the eight words from `base` on.
-fn mark(words: &mut [u64; 48], base: usize, vector: Vector, up: bool)
-    requires { base < 41 }
-    ensures { words.new ≡ marked_in words.old base vector.0 up }
-{
-    let at = utils::extract_index_and_bitpos_u32(vector.0 as u32);
-    let k = base + at.index;
-    let held = word(&*words, k);
-    put(&mut *words, k, marked(held, at.bitpos, up));
-}
-
-fn has(words: &[u64; 48], base: usize, vector: Vector) -> bool
-    requires { base < 41 }
-    ensures { result ≡ in_words (eight words.now base) vector.0 }
-{
-    let at = utils::extract_index_and_bitpos_u32(vector.0 as u32);
-    utils::set32::has(word(words, base + at.index), at.bitpos)
-}
-
 // The highest vector of a word that isn't empty.
+#[tactic(auto, using(crate::proofs::Search::small))]
 fn in_word(w: usize, held: u32) -> u8
     requires { (w < 8) × (held ≡ 0 → ⊥) }
     ensures { result ≡ w * 32 + last_set32 held }
 {
-    (w as u8) * 32 + utils::fls32(held) as u8
+    w as u8 * 32 + utils::fls32(held) as u8
 }
 
 // The highest vector of the eight words from `base` on, or 0: that of the highest word that isn't empty, if it is legal.
+// Stays: what may not change (the clause: `highest_from` is 0 where there is none) keeps 0 for none.
 fn highest(words: &[u64; 48], base: usize) -> Vector
     requires { base < 41 }
     ensures { result.0 ≡ highest (eight words.now base) }
 {
-    let mut w: usize = 8;
-    while w > 0 {
-        w -= 1;
-        let held = word(words, base + w);
+    for w in (0..8).rev() {
+        let held = low(words, base + w);
         if held != 0 {
             let vector = in_word(w, held);
-            if vector < LOWEST {
-                return Vector(0);
-            }
-            return Vector(vector);
+            return if vector < LOWEST {
+                Vector(0)
+            } else {
+                Vector(vector)
+            };
         }
     }
     Vector(0)
@@ -116,9 +74,9 @@ fn highest(words: &[u64; 48], base: usize) -> Vector
 fn rank(words: &mut [u64; 48])
     ensures { words.new ≡ ranked_words words.old }
 {
-    let served = highest(&*words, ISR);
-    let ppr = register::ppr(word(&*words, TPR), served);
-    put(&mut *words, PPR, ppr);
+    let served = highest(words, ISR);
+    let ppr = register::ppr(low(words, TPR), served);
+    put(words, PPR, ppr);
 }
 
 // ---- The calls
@@ -127,18 +85,16 @@ fn rank(words: &mut [u64; 48])
 pub fn request(words: &mut [u64; 48], vector: Vector, level: bool)
     ensures { Becomes words.old words.new (request (view words.old) vector level) }
 {
-    seen(&*words);
-    mark(&mut *words, IRR, vector, true);
-    mark(&mut *words, TMR, vector, level);
+    mark(words, IRR, vector.0, true);
+    mark(words, TMR, vector.0, level);
 }
 
 // A vector below 16 came in: it is dropped.
 fn receive_illegal(words: &mut [u64; 48])
     ensures { Becomes words.old words.new (received_illegal (view words.old)) }
 {
-    seen(&*words);
-    let noted = utils::set32::with(word(&*words, ESR_PENDING), RECEIVE_ILLEGAL_VECTOR);
-    put(&mut *words, ESR_PENDING, noted);
+    let noted = low(words, ESR_PENDING).with(RECEIVE_ILLEGAL_VECTOR);
+    put(words, ESR_PENDING, noted);
 }
 
 // A message asks for a vector.
@@ -146,22 +102,21 @@ pub fn receive(words: &mut [u64; 48], vector: Vector, level: bool)
     ensures { Becomes words.old words.new (receive (view words.old) vector level) }
 {
     if vector.0 < LOWEST {
-        receive_illegal(&mut *words);
-        return;
+        receive_illegal(words);
+    } else {
+        request(words, vector, level);
     }
-    request(&mut *words, vector, level);
 }
 
 // The processor accepts the highest request, if PPR lets it.
 pub fn accept(words: &mut [u64; 48]) -> Option<Vector>
     ensures { Answers (Option Vector) words.old words.new result (accept (view words.old)) }
 {
-    seen(&*words);
-    let vector = highest(&*words, IRR);
-    if utils::prio(word(&*words, PPR)) < utils::prio(vector.0 as u32) {
-        mark(&mut *words, IRR, vector, false);
-        mark(&mut *words, ISR, vector, true);
-        rank(&mut *words);
+    let vector = highest(words, IRR);
+    if utils::prio(low(words, PPR)) < utils::prio(u32::from(vector.0)) {
+        mark(words, IRR, vector.0, false);
+        mark(words, ISR, vector.0, true);
+        rank(words);
         return Some(vector);
     }
     None
@@ -171,25 +126,20 @@ pub fn accept(words: &mut [u64; 48]) -> Option<Vector>
 pub fn end_highest(words: &mut [u64; 48]) -> Option<Vector>
     ensures { Answers (Option Vector) words.old words.new result (end_highest (view words.old)) }
 {
-    seen(&*words);
-    let vector = highest(&*words, ISR);
+    let vector = highest(words, ISR);
     if vector.0 == 0 {
         return None;
     }
-    let is_told = register::is_eoi_broadcast(has(&*words, TMR, vector), word(&*words, SVR));
-    mark(&mut *words, ISR, vector, false);
-    rank(&mut *words);
-    if is_told {
-        return Some(vector);
-    }
-    None
+    let is_told = register::is_eoi_broadcast(holds(words, TMR, vector.0), low(words, SVR));
+    mark(words, ISR, vector.0, false);
+    rank(words);
+    if is_told { Some(vector) } else { None }
 }
 
 // A write of TPR.
 pub fn write_tpr(words: &mut [u64; 48], value: u32)
     ensures { Becomes words.old words.new (write_tpr (view words.old) value) }
 {
-    seen(&*words);
-    put(&mut *words, TPR, register::tpr(value));
-    rank(&mut *words);
+    put(words, TPR, register::tpr(value));
+    rank(words);
 }

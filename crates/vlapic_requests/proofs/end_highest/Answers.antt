@@ -7,8 +7,8 @@ returns-then-vector-eq0 c = search end_none
 
 pub returns-then-is_told : goal.returns-then-is_told
 returns-then-is_told c =
-    end_told _ (omega arith) _ c.highest-vector.ensures _ _ _ _ _ c.if-vector-eq0.false c.has.ensures c.word.ensures c.is_eoi_broadcast-is_told.ensures c.mark.ensures c.rank.ensures c.if-is_told.true
+    end_told _ (omega arith) _ c.highest-vector.ensures _ _ _ _ _ c.if-vector-eq0.false c.holds.ensures c.low.ensures c.is_eoi_broadcast-is_told.ensures c.mark.ensures c.rank.ensures c.if-is_told.true
 
-pub returns : goal.returns
-returns c =
-    end_silent _ (omega arith) _ c.highest-vector.ensures _ _ _ _ _ c.if-vector-eq0.false c.has.ensures c.word.ensures c.is_eoi_broadcast-is_told.ensures c.mark.ensures c.rank.ensures c.if-is_told.false
+pub returns-else-is_told : goal.returns-else-is_told
+returns-else-is_told c =
+    end_silent _ (omega arith) _ c.highest-vector.ensures _ _ _ _ _ c.if-vector-eq0.false c.holds.ensures c.low.ensures c.is_eoi_broadcast-is_told.ensures c.mark.ensures c.rank.ensures c.if-is_told.false

@@ -10,19 +10,19 @@ pub returns-then-vector-lt-LOWEST : goal.returns-then-vector-lt-LOWEST
 returns-then-vector-lt-LOWEST c =
     let s = c.loop-w in
     let a = c.args in
-    found_low a.words.now a.base (s.w - 1) _ (down a.words.now a.base s.w (s.w - 1 + 1) s.invariant.1 (omega arith)) c.word-held.ensures (omega arith) c.if-held-ne0.true _ c.in_word-vector.ensures (omega arith)
+    found_low a.words.now a.base (s.w - 1) _ (down a.words.now a.base s.w (s.w - 1 + 1) s.invariant.1 (omega arith)) c.low-held.ensures (omega arith) c.if-held-ne0.true _ c.in_word-vector.ensures (omega arith)
 
-pub returns-then-held-ne0 : goal.returns-then-held-ne0
-returns-then-held-ne0 c =
+pub returns-else-vector-lt-LOWEST : goal.returns-else-vector-lt-LOWEST
+returns-else-vector-lt-LOWEST c =
     let s = c.loop-w in
     let a = c.args in
-    found a.words.now a.base (s.w - 1) _ (down a.words.now a.base s.w (s.w - 1 + 1) s.invariant.1 (omega arith)) c.word-held.ensures (omega arith) c.if-held-ne0.true _ c.in_word-vector.ensures (omega arith)
+    found a.words.now a.base (s.w - 1) _ (down a.words.now a.base s.w (s.w - 1 + 1) s.invariant.1 (omega arith)) c.low-held.ensures (omega arith) c.if-held-ne0.true _ c.in_word-vector.ensures (omega arith)
 
 pub loop-w-preserved : goal.loop-w-preserved
 loop-w-preserved c =
     let s = c.loop-w in
     let a = c.args in
-    (omega arith, empty a.words.now a.base (s.w - 1) _ (down a.words.now a.base s.w (s.w - 1 + 1) s.invariant.1 (omega arith)) c.word-held.ensures (omega arith) c.if-held-ne0.false)
+    (omega arith, empty a.words.now a.base (s.w - 1) _ (down a.words.now a.base s.w (s.w - 1 + 1) s.invariant.1 (omega arith)) c.low-held.ensures (omega arith) c.if-held-ne0.false)
 
 pub returns : goal.returns
 returns c = none c.args.words.now c.args.base c.loop-w.w c.loop-w.invariant.1 (omega arith)

@@ -4,5 +4,5 @@ use Rattle.vlapic_requests.proofs.receive.Goals as goal
 pub returns-then-vector-lt-LOWEST : goal.returns-then-vector-lt-LOWEST
 returns-then-vector-lt-LOWEST c = search receive_low
 
-pub returns : goal.returns
-returns c = search receive_legal
+pub returns-else-vector-lt-LOWEST : goal.returns-else-vector-lt-LOWEST
+returns-else-vector-lt-LOWEST c = search receive_legal
