@@ -197,17 +197,32 @@ fn is_full(words: &[u64; 4]) -> bool
     words[2] == 2
 }
 
+// Either road takes a word for a chip of its own kind, and what the words hold is said of both.
+fn master_chip(words: &[u64; 4]) -> PicChip
+    ensures plain { chip_in result.0 ≡ (plain_view words.now).master }
+    ensures full { placed true (full_in result.0) ≡ (full_view words.now).master }
+{
+    PicChip(words[0])
+}
+
+fn slave_chip(words: &[u64; 4]) -> PicChip
+    ensures plain { chip_in result.0 ≡ (plain_view words.now).slave }
+    ensures full { placed false (full_in result.0) ≡ (full_view words.now).slave }
+{
+    PicChip(words[1])
+}
+
 // The pair's registers: the two chips, which look the same in every profile, and which rule it follows.
 pub fn master(words: &[u64; 4]) -> PicChip
     ensures { chip_in result.0 ≡ (plain_view words.now).master }
 {
-    PicChip(words[0])
+    master_chip(words)
 }
 
 pub fn slave(words: &[u64; 4]) -> PicChip
     ensures { chip_in result.0 ≡ (plain_view words.now).slave }
 {
-    PicChip(words[1])
+    slave_chip(words)
 }
 
 pub fn rule(words: &[u64; 4]) -> PicRule
@@ -217,14 +232,16 @@ pub fn rule(words: &[u64; 4]) -> PicRule
 }
 
 fn set_master(words: &mut [u64; 4], chip: PicChip)
-    ensures { plain_view words.new ≡ chips (plain_view words.old) (chip_in chip.0) (plain_view words.old).slave }
+    ensures plain { plain_view words.new ≡ chips (plain_view words.old) (chip_in chip.0) (plain_view words.old).slave }
+    ensures full { full_view words.new ≡ chips (full_view words.old) (placed true (full_in chip.0)) (full_view words.old).slave }
 {
     seen(words);
     words[0] = chip.0;
 }
 
 fn set_slave(words: &mut [u64; 4], chip: PicChip)
-    ensures { plain_view words.new ≡ chips (plain_view words.old) (plain_view words.old).master (chip_in chip.0) }
+    ensures plain { plain_view words.new ≡ chips (plain_view words.old) (plain_view words.old).master (chip_in chip.0) }
+    ensures full { full_view words.new ≡ chips (full_view words.old) (full_view words.old).master (placed false (full_in chip.0)) }
 {
     seen(words);
     words[1] = chip.0;
@@ -276,30 +293,31 @@ fn settle(words: &mut [u64; 4])
     if !is_cascade(words) {
         return;
     }
-    let second = slave(words);
+    let second = slave_chip(words);
     // As mostly, and found at once.
     if second.request() == 0 {
-        let lowered = master(words).drive_cascade(false);
+        let lowered = master_chip(words).drive_cascade(false);
         set_master(words, lowered);
         return;
     }
-    let driven = master(words).drive_cascade(second.asks());
+    let driven = master_chip(words).drive_cascade(second.asks());
     set_master(words, driven);
 }
 
 // An edge on a line of one of the chips.
 fn latch(words: &mut [u64; 4], place: PicPlace)
-    ensures { plain_view words.new ≡ latched_at (plain_view words.old) (Some place) }
+    ensures plain { plain_view words.new ≡ latched_at (plain_view words.old) (Some place) }
+    ensures full { full_view words.new ≡ latched_at (full_view words.old) (Some place) }
 {
     match place {
         PicPlace::Master(k) => {
-            let edge = master(words).pulse(k);
+            let edge = master_chip(words).pulse(k);
             set_master(words, edge);
         }
         PicPlace::Slave(k) => {
-            let cascade = master(words).pulse(PicLine(CASCADE_IRQ));
+            let cascade = master_chip(words).pulse(PicLine(CASCADE_IRQ));
             set_master(words, cascade);
-            let edge = slave(words).pulse(k);
+            let edge = slave_chip(words).pulse(k);
             set_slave(words, edge);
         }
     }
@@ -309,13 +327,13 @@ fn latch(words: &mut [u64; 4], place: PicPlace)
 fn pending_place(words: &[u64; 4]) -> Option<PicPlace>
     ensures { result ≡ pending_place (plain_view words.now) }
 {
-    let Some(master_irq) = master(words).pending_irq() else {
+    let Some(master_irq) = master_chip(words).pending_irq() else {
         return None;
     };
     if master_irq.0 != CASCADE_IRQ {
         return Some(PicPlace::Master(master_irq));
     }
-    let Some(slave_irq) = slave(words).pending_irq() else {
+    let Some(slave_irq) = slave_chip(words).pending_irq() else {
         return Some(PicPlace::Master(PicLine(CASCADE_IRQ)));
     };
     Some(PicPlace::Slave(slave_irq))
@@ -326,7 +344,7 @@ fn take_master(words: &mut [u64; 4], irq: PicLine) -> u64
     requires { pending_place (plain_view words.old) ≡ Some (place.Master irq) }
     ensures { (state_claim (plain_view words.new) (claim_in result) ≡ master_taken (plain_view words.old) irq) × (result ≡ claim_number (claim_in result)) }
 {
-    let first = master(words);
+    let first = master_chip(words);
     let (taken, vector) = first.acknowledge(irq);
     set_master(words, taken);
     claimed(vector, irq, !first.auto_eoi(), false)
@@ -337,8 +355,8 @@ fn take_slave(words: &mut [u64; 4], irq: PicLine) -> u64
     requires { pending_place (plain_view words.old) ≡ Some (place.Slave irq) }
     ensures { (state_claim (plain_view words.new) (claim_in result) ≡ slave_taken (plain_view words.old) irq) × (result ≡ claim_number (claim_in result)) }
 {
-    let first = master(words);
-    let second = slave(words);
+    let first = master_chip(words);
+    let second = slave_chip(words);
     let (cascade, _) = first.acknowledge(PicLine(CASCADE_IRQ));
     let (taken, vector) = second.acknowledge(irq);
     set_master(words, cascade);
@@ -357,12 +375,12 @@ fn claim_slave(words: &mut [u64; 4], irq: PicLine) -> u64
     requires { pending_place (plain_view words.old) ≡ Some (place.Slave irq) }
     ensures { (state_claim (plain_view words.new) (claim_in result) ≡ slave_claim (plain_view words.old) irq) × (result ≡ claim_number (claim_in result)) }
 {
-    if slave(words).auto_eoi() {
+    if slave_chip(words).auto_eoi() {
         let taken = take_slave(words, irq);
         settle(words);
         return taken;
     }
-    if master(words).auto_eoi() {
+    if master_chip(words).auto_eoi() {
         return take_slave(words, irq);
     }
     take_slave(words, irq)
@@ -383,7 +401,9 @@ fn take(words: &mut [u64; 4]) -> u64
 fn is_quiet(words: &[u64; 4]) -> bool
     ensures { result ≡ is_quiet (plain_view words.now) }
 {
-    master(words).request() == 0 && slave(words).request() == 0
+    let master = master_chip(words);
+    let slave = slave_chip(words);
+    master.request() == 0 && slave.request() == 0
 }
 
 // What can be delivered is claimed.
@@ -435,7 +455,7 @@ fn claim_open(words: &mut [u64; 4]) -> u64
     if is_full(words) {
         return full_claim_pending(words);
     }
-    if !master(words).asks() {
+    if !master_chip(words).asks() {
         settle(words);
         return 0;
     }
@@ -483,7 +503,7 @@ pub fn next_interrupt(words: &mut [u64; 4]) -> Option<Vector>
         return vector_of(claim_in(claim_open(words)));
     }
     // The other rules' road as in `claim_open`: called, it costs a stack frame.
-    if !master(words).asks() {
+    if !master_chip(words).asks() {
         settle(words);
         return None;
     }
@@ -492,20 +512,21 @@ pub fn next_interrupt(words: &mut [u64; 4]) -> Option<Vector>
 
 // A claim taken back at its place.
 fn restore_at(words: &mut [u64; 4], place: PicPlace, claim: PicInterruptClaim)
-    ensures { plain_view words.new ≡ restored_at (plain_view words.old) (Some place) claim.master_in_service claim.slave_in_service }
+    ensures plain { plain_view words.new ≡ restored_at (plain_view words.old) (Some place) claim.master_in_service claim.slave_in_service }
+    ensures full { full_view words.new ≡ restored_at (full_view words.old) (Some place) claim.master_in_service claim.slave_in_service }
 {
     match place {
         PicPlace::Master(k) => {
-            let back = master(words).unacknowledge(k, claim.master_in_service);
+            let back = master_chip(words).unacknowledge(k, claim.master_in_service);
             set_master(words, back);
         }
         PicPlace::Slave(k) => {
-            let cascade = master(words).unacknowledge(
+            let cascade = master_chip(words).unacknowledge(
                 PicLine(CASCADE_IRQ),
                 claim.master_in_service,
             );
             set_master(words, cascade);
-            let back = slave(words).unacknowledge(k, claim.slave_in_service);
+            let back = slave_chip(words).unacknowledge(k, claim.slave_in_service);
             set_slave(words, back);
         }
     }
@@ -573,10 +594,10 @@ fn read_port(words: &[u64; 4], port: u64) -> Result<u8, Refusal>
 {
     let port = PicPort::try_from(port)?;
     match port {
-        PicPort::MasterCommand => Ok(master(words).read_command()),
-        PicPort::MasterData => Ok(master(words).mask()),
-        PicPort::SlaveCommand => Ok(slave(words).read_command()),
-        PicPort::SlaveData => Ok(slave(words).mask()),
+        PicPort::MasterCommand => Ok(master_chip(words).read_command()),
+        PicPort::MasterData => Ok(master_chip(words).mask()),
+        PicPort::SlaveCommand => Ok(slave_chip(words).read_command()),
+        PicPort::SlaveData => Ok(slave_chip(words).mask()),
     }
 }
 
@@ -610,22 +631,22 @@ fn write_at(words: &mut [u64; 4], port: u64, byte: u8) -> Result<(), Refusal>
     let port = PicPort::try_from(port)?;
     match port {
         PicPort::MasterCommand => {
-            let written = master(words).command(byte);
+            let written = master_chip(words).command(byte);
             set_master(words, written);
             Ok(())
         }
         PicPort::MasterData => {
-            let written = master(words).data(byte);
+            let written = master_chip(words).data(byte);
             set_master(words, written);
             Ok(())
         }
         PicPort::SlaveCommand => {
-            let written = slave(words).command(byte);
+            let written = slave_chip(words).command(byte);
             set_slave(words, written);
             Ok(())
         }
         PicPort::SlaveData => {
-            let written = slave(words).data(byte);
+            let written = slave_chip(words).data(byte);
             set_slave(words, written);
             Ok(())
         }
@@ -654,70 +675,27 @@ pub fn handle_write(words: &mut [u64; 4], port: u64, width: u64, value: u64) -> 
 
 // ---- The same in the full profile, whose chips are full 8259As. Each public call asks once which of the two roads is the pair's: the other rules' road stays as short as it is.
 
-fn full_master(words: &[u64; 4]) -> PicChip
-    ensures { placed true (full_in result.0) ≡ (full_view words.now).master }
-{
-    PicChip(words[0])
-}
-
-fn full_slave(words: &[u64; 4]) -> PicChip
-    ensures { placed false (full_in result.0) ≡ (full_view words.now).slave }
-{
-    PicChip(words[1])
-}
-
-fn full_set_master(words: &mut [u64; 4], chip: PicChip)
-    ensures { full_view words.new ≡ chips (full_view words.old) (placed true (full_in chip.0)) (full_view words.old).slave }
-{
-    seen(words);
-    words[0] = chip.0;
-}
-
-fn full_set_slave(words: &mut [u64; 4], chip: PicChip)
-    ensures { full_view words.new ≡ chips (full_view words.old) (full_view words.old).master (placed false (full_in chip.0)) }
-{
-    seen(words);
-    words[1] = chip.0;
-}
-
 fn full_settle(words: &mut [u64; 4])
     ensures { full_view words.new ≡ settled (full_view words.old) }
 {
     if !is_cascade(words) {
         return;
     }
-    let up = full_slave(words).full_asks(false);
-    let driven = full_master(words).drive_cascade(up);
-    full_set_master(words, driven);
-}
-
-fn full_latch(words: &mut [u64; 4], place: PicPlace)
-    ensures { full_view words.new ≡ latched_at (full_view words.old) (Some place) }
-{
-    match place {
-        PicPlace::Master(k) => {
-            let edge = full_master(words).pulse(k);
-            full_set_master(words, edge);
-        }
-        PicPlace::Slave(k) => {
-            let cascade = full_master(words).pulse(PicLine(CASCADE_IRQ));
-            full_set_master(words, cascade);
-            let edge = full_slave(words).pulse(k);
-            full_set_slave(words, edge);
-        }
-    }
+    let up = slave_chip(words).full_asks(false);
+    let driven = master_chip(words).drive_cascade(up);
+    set_master(words, driven);
 }
 
 fn full_pending_place(words: &[u64; 4]) -> Option<PicPlace>
     ensures { result ≡ pending_place (full_view words.now) }
 {
-    let Some(master_irq) = full_master(words).full_pending_irq(true) else {
+    let Some(master_irq) = master_chip(words).full_pending_irq(true) else {
         return None;
     };
     if master_irq.0 != CASCADE_IRQ {
         return Some(PicPlace::Master(master_irq));
     }
-    let Some(slave_irq) = full_slave(words).full_pending_irq(false) else {
+    let Some(slave_irq) = slave_chip(words).full_pending_irq(false) else {
         return Some(PicPlace::Master(PicLine(CASCADE_IRQ)));
     };
     Some(PicPlace::Slave(slave_irq))
@@ -734,9 +712,9 @@ fn full_take_master(words: &mut [u64; 4], irq: PicLine) -> u64
     requires { pending_place (full_view words.old) ≡ Some (place.Master irq) }
     ensures { (state_claim (full_view words.new) (claim_in result) ≡ master_taken (full_view words.old) irq) × (result ≡ claim_number (claim_in result)) }
 {
-    let first = full_master(words);
+    let first = master_chip(words);
     let (taken, vector) = first.full_acknowledge(irq);
-    full_set_master(words, taken);
+    set_master(words, taken);
     claimed(vector, irq, grew(first, taken), false)
 }
 
@@ -744,12 +722,12 @@ fn full_take_slave(words: &mut [u64; 4], irq: PicLine) -> u64
     requires { pending_place (full_view words.old) ≡ Some (place.Slave irq) }
     ensures { (state_claim (full_view words.new) (claim_in result) ≡ slave_taken (full_view words.old) irq) × (result ≡ claim_number (claim_in result)) }
 {
-    let first = full_master(words);
-    let second = full_slave(words);
+    let first = master_chip(words);
+    let second = slave_chip(words);
     let (cascade, _) = first.full_acknowledge(PicLine(CASCADE_IRQ));
     let (taken, vector) = second.full_acknowledge(irq);
-    full_set_master(words, cascade);
-    full_set_slave(words, taken);
+    set_master(words, cascade);
+    set_slave(words, taken);
     claimed(
         vector,
         PicLine(irq.0 + 8),
@@ -786,29 +764,9 @@ fn full_claim_line(words: &mut [u64; 4], irq: PicLine) -> u64
     let Some(place) = irq.place() else {
         return 0;
     };
-    full_latch(words, place);
+    latch(words, place);
     full_settle(words);
     full_claim_pending(words)
-}
-
-fn full_restore_at(words: &mut [u64; 4], place: PicPlace, claim: PicInterruptClaim)
-    ensures { full_view words.new ≡ restored_at (full_view words.old) (Some place) claim.master_in_service claim.slave_in_service }
-{
-    match place {
-        PicPlace::Master(k) => {
-            let back = full_master(words).unacknowledge(k, claim.master_in_service);
-            full_set_master(words, back);
-        }
-        PicPlace::Slave(k) => {
-            let cascade = full_master(words).unacknowledge(
-                PicLine(CASCADE_IRQ),
-                claim.master_in_service,
-            );
-            full_set_master(words, cascade);
-            let back = full_slave(words).unacknowledge(k, claim.slave_in_service);
-            full_set_slave(words, back);
-        }
-    }
 }
 
 fn full_write_at(words: &mut [u64; 4], port: u64, byte: u8) -> Result<(), Refusal>
@@ -817,23 +775,23 @@ fn full_write_at(words: &mut [u64; 4], port: u64, byte: u8) -> Result<(), Refusa
     let port = PicPort::try_from(port)?;
     match port {
         PicPort::MasterCommand => {
-            let written = full_master(words).full_command(byte);
-            full_set_master(words, written);
+            let written = master_chip(words).full_command(byte);
+            set_master(words, written);
             Ok(())
         }
         PicPort::MasterData => {
-            let written = full_master(words).full_data(byte);
-            full_set_master(words, written);
+            let written = master_chip(words).full_data(byte);
+            set_master(words, written);
             Ok(())
         }
         PicPort::SlaveCommand => {
-            let written = full_slave(words).full_command(byte);
-            full_set_slave(words, written);
+            let written = slave_chip(words).full_command(byte);
+            set_slave(words, written);
             Ok(())
         }
         PicPort::SlaveData => {
-            let written = full_slave(words).full_data(byte);
-            full_set_slave(words, written);
+            let written = slave_chip(words).full_data(byte);
+            set_slave(words, written);
             Ok(())
         }
     }
@@ -842,7 +800,7 @@ fn full_write_at(words: &mut [u64; 4], port: u64, byte: u8) -> Result<(), Refusa
 fn full_restore(words: &mut [u64; 4], place: PicPlace, claim: PicInterruptClaim)
     ensures { full_view words.new ≡ settled (restored_at (full_view words.old) (Some place) claim.master_in_service claim.slave_in_service) }
 {
-    full_restore_at(words, place, claim);
+    restore_at(words, place, claim);
     full_settle(words);
 }
 
@@ -850,12 +808,12 @@ fn full_restore(words: &mut [u64; 4], place: PicPlace, claim: PicInterruptClaim)
 fn full_read_master(words: &mut [u64; 4], register: u8) -> u8
     ensures { ReadOf (full_view words.old).master (master_read (full_view words.old)) (full_view words.new) register result }
 {
-    let chip = full_master(words);
+    let chip = master_chip(words);
     if !chip.poll() {
         return register;
     }
     let (after, shown) = chip.full_poll(true);
-    full_set_master(words, after);
+    set_master(words, after);
     full_settle(words);
     shown
 }
@@ -863,12 +821,12 @@ fn full_read_master(words: &mut [u64; 4], register: u8) -> u8
 fn full_read_slave(words: &mut [u64; 4], register: u8) -> u8
     ensures { ReadOf (full_view words.old).slave (slave_read (full_view words.old)) (full_view words.new) register result }
 {
-    let chip = full_slave(words);
+    let chip = slave_chip(words);
     if !chip.poll() {
         return register;
     }
     let (after, shown) = chip.full_poll(false);
-    full_set_slave(words, after);
+    set_slave(words, after);
     full_settle(words);
     shown
 }
@@ -879,19 +837,19 @@ fn full_read(words: &mut [u64; 4], port: u64) -> Result<u8, Refusal>
     let port = PicPort::try_from(port)?;
     match port {
         PicPort::MasterCommand => {
-            let status = full_master(words).read_command();
+            let status = master_chip(words).read_command();
             Ok(full_read_master(words, status))
         }
         PicPort::MasterData => {
-            let mask = full_master(words).mask();
+            let mask = master_chip(words).mask();
             Ok(full_read_master(words, mask))
         }
         PicPort::SlaveCommand => {
-            let status = full_slave(words).read_command();
+            let status = slave_chip(words).read_command();
             Ok(full_read_slave(words, status))
         }
         PicPort::SlaveData => {
-            let mask = full_slave(words).mask();
+            let mask = slave_chip(words).mask();
             Ok(full_read_slave(words, mask))
         }
     }

@@ -1,7 +1,0 @@
-use mathlib.Core.Path.{refl}
-use Rattle.vpic.specs.Words.{plain_view}
-use Rattle.vpic.proofs.slave.Goals as goal
-
-pub returns : goal.returns
-unfolding plain_view
-returns c = refl
