@@ -62,6 +62,7 @@ pub struct PortRanges {
 
 impl PicRule {
     // Whether a rule has this number. Of words that are lent this is asked alone, with no need of the rule.
+    // Stays: what may not change (`is_rule`; docs/CONTRIBUTING.md names it as a choice's test).
     pub fn is_number(number: u64) -> bool
         ensures { result ≡ is_rule number }
     {
@@ -69,6 +70,7 @@ impl PicRule {
     }
 
     // The rule of a number: any but 1 and 2 is the Rust's.
+    // Stays: what may not change (`rule_in`: lent words may hold any number, and have a rule).
     pub fn from_number(number: u64) -> Self
         ensures { result ≡ rule_in number }
     {
@@ -81,6 +83,8 @@ impl PicRule {
         PicRule::Latch
     }
 
+    // The number that stands in the pair's words.
+    // Stays: what may not change (`rule_number`: the words that C lends hold it).
     pub fn number(self) -> u64
         ensures { result ≡ rule_number self }
     {
@@ -110,6 +114,7 @@ impl TryFrom<u64> for PicRule {
 
 impl PicInterruptClaim {
     // The vector that the guest programmed for this claim.
+    // Stays: what may not change: the Rust's accessor, by its name.
     pub fn vector(self) -> Vector
         ensures { result ≡ self.vector }
     {
@@ -117,6 +122,7 @@ impl PicInterruptClaim {
     }
 
     // Which in-service bits the claim set: 1 the master's, 2 the slave's.
+    // Stays: what may not change (`claim_flags`: one number of a reply's three).
     #[tactic(auto, using(crate::proofs::Codes::flags_sum, crate::proofs::Codes::digit_le))]
     pub fn flags(self) -> u64
         ensures { result ≡ claim_flags self }
@@ -428,6 +434,7 @@ fn claim_line(words: &mut [u64; 4], irq: PicLine) -> u64
 }
 
 // Latches an edge on one line and claims what can be delivered at once.
+// Stays: the C interface: it lends the pair's four words, and `words` and `irq` are two parameters of each call.
 pub fn claim_irq(words: &mut [u64; 4], irq: PicLine) -> Option<PicInterruptClaim>
     ensures { claim_outcome (view words.new) result ≡ with_claim (claim_irq (view words.old) irq) }
 {
@@ -511,6 +518,7 @@ pub fn next_interrupt(words: &mut [u64; 4]) -> Option<Vector>
 }
 
 // A claim taken back at its place.
+// Stays: the C interface: it lends the pair's four words, which stand beside what each call is given.
 fn restore_at(words: &mut [u64; 4], place: PicPlace, claim: PicInterruptClaim)
     ensures plain { plain_view words.new ≡ restored_at (plain_view words.old) (Some place) claim.master_in_service claim.slave_in_service }
     ensures full { full_view words.new ≡ restored_at (full_view words.old) (Some place) claim.master_in_service claim.slave_in_service }
@@ -602,6 +610,7 @@ fn read_port(words: &[u64; 4], port: u64) -> Result<u8, Refusal>
 }
 
 // A read of a port, `width` bytes wide. Numbers come in at their full width.
+// Stays: the C interface: it lends the pair's four words, and `words` and `port` are two parameters of each call.
 pub fn handle_read(words: &mut [u64; 4], port: u64, width: u64) -> Result<u8, Refusal>
     ensures { value_outcome (view words.new) result ≡ handle_read (view words.old) port width }
 {
@@ -625,6 +634,7 @@ pub fn plain_read(words: &[u64; 4], port: u64) -> Option<u8>
 }
 
 // A byte is written to a port.
+// Stays: the C interface: it lends the pair's four words, which stand beside the port and the byte.
 fn write_at(words: &mut [u64; 4], port: u64, byte: u8) -> Result<(), Refusal>
     ensures { done_outcome (plain_view words.new) result ≡ write_outcome (plain_view words.old) port byte }
 {

@@ -16,6 +16,7 @@ use types::{PicLine, Reply, ToReply, Vector};
 use vpic::{PicInterruptClaim, PicRule};
 
 // A line: any number from 16 up is one that the pair hasn't.
+// Stays: the C interface: a line comes in as any number (`line_of`).
 fn line(irq: u64) -> PicLine
     ensures { result ≡ line_of irq }
 {
@@ -26,6 +27,7 @@ fn line(irq: u64) -> PicLine
 }
 
 // Whether a number is what a claim answers: three values, the vector below 256, the line below 16, the flags below 4. All in one comparison: no bit but theirs.
+// Stays: the C interface: a claim comes in as the number that it was answered by (`Calls.is_claim`).
 fn is_claim(claim: u64) -> bool
     ensures { result ≡ is_claim claim }
 {
@@ -36,6 +38,7 @@ fn is_claim(claim: u64) -> bool
 }
 
 // The line of a claim's answer: any other number has one that the pair hasn't.
+// Stays: the C interface: a claim comes in as the number that it was answered by (`claimed_line`).
 fn claimed_line(claim: u64) -> PicLine
     ensures { result ≡ claimed_line claim }
 {
@@ -46,6 +49,7 @@ fn claimed_line(claim: u64) -> PicLine
 }
 
 // The claim that a number answers.
+// Stays: the C interface: a claim comes in as the number that it was answered by (`Calls.claim_of`).
 fn claim_of(claim: u64) -> PicInterruptClaim
     ensures { result ≡ claim_of claim }
 {
@@ -58,6 +62,7 @@ fn claim_of(claim: u64) -> PicInterruptClaim
 }
 
 // A rule comes in as a number, and one that no rule has is refused here: the core's rule is an enum.
+// Stays: the C interface: the rule is a number.
 #[unsafe(no_mangle)]
 pub extern "C" fn sillwander_pic_new_rule(words: &mut [u64; 4], rule: u64) -> u64
     ensures { shown (view words.new) result ≡ coded (new_rule (view words.old) rule) }
@@ -128,6 +133,7 @@ pub extern "C" fn sillwander_pic_restore_interrupt(words: &mut [u64; 4], claim: 
 }
 
 // A read, of any kind.
+// Stays: the C interface: words, port and width are parameters of the exported calls.
 fn read(words: &mut [u64; 4], port: u64, width: u64) -> u64
     ensures { shown (view words.new) result ≡ coded (handle_read (view words.old) port width) }
 {

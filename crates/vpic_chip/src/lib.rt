@@ -31,39 +31,41 @@ impl PicChip {
     }
 
     // Byte k of the word.
-    fn byte(self, k: u32) -> u8
+    fn register(self, k: u32) -> u8
         requires { k < 8 }
         ensures { result ≡ self.0 / 2 ^ (8 * k) % 2 ^ 8 }
     {
         ((self.0 >> (8 * k)) % 0x100) as u8
     }
 
+    // Stays: what may not change: each register has a public accessor with its clause, one line over `register`.
     #[tactic(auto, unfolding(crate::specs::Registers::chip_in))]
     pub fn mask(self) -> u8
         ensures { result ≡ (chip_in self.0).mask }
     {
-        self.byte(1)
+        self.register(1)
     }
 
     #[tactic(auto, unfolding(crate::specs::Registers::chip_in))]
     pub fn request(self) -> u8
         ensures { result ≡ (chip_in self.0).request }
     {
-        self.byte(2)
+        self.register(2)
     }
 
     #[tactic(auto, unfolding(crate::specs::Registers::chip_in))]
     pub fn in_service(self) -> u8
         ensures { result ≡ (chip_in self.0).in_service }
     {
-        self.byte(3)
+        self.register(3)
     }
 
+    // Stays: what may not change (`Registers.chip_in`: a lent word may hold any step, and from 4 up it is none).
     #[tactic(auto, unfolding(crate::specs::Registers::chip_in))]
     pub fn init_step(self) -> u8
         ensures { result ≡ (chip_in self.0).init_step }
     {
-        self.byte(4)
+        self.register(4)
     }
 
     // Whether no ICW is waited for, asked of the word: of a step that is asked for 0 to 3 the compiler makes a table of jumps.
@@ -73,6 +75,7 @@ impl PicChip {
         self.0 / 0x1_0000_0000 % 0x100 == 0
     }
 
+    // Stays: what may not change: each flag has a public accessor with its clause, one line over `Set::has`.
     #[tactic(auto, unfolding(crate::specs::Registers::chip_in))]
     pub fn needs_icw4(self) -> bool
         ensures { result ≡ (chip_in self.0).needs_icw4 }
@@ -133,6 +136,7 @@ impl PicChip {
         )
     }
 
+    // Stays: the new form is no plainer: each flag's setter is one line over `Set::marked`, and has its own clause.
     #[tactic(auto, using(crate::proofs::Packing::auto_put))]
     fn with_auto_eoi(self, up: bool) -> Self
         ensures { chip_in result.0 ≡ with_auto_eoi (chip_in self.0) up }
@@ -148,6 +152,8 @@ impl PicChip {
     }
 
     // One line of a set is a bit of the word.
+    // Stays: the new form is no plainer: each is one line over `Set`, of another register; a type of the chip's eight lines
+    // beside `PicLine` would be made anew before each of these calls.
     #[tactic(auto, using(crate::proofs::Packing::requested_put))]
     fn requested(self, irq: PicLine) -> Self
         requires { irq.0 < 8 }
@@ -173,6 +179,7 @@ impl PicChip {
     }
 
     // The line is no longer in service.
+    // Stays: the new form is no plainer: as `unrequested`, of another register.
     #[tactic(auto, using(crate::proofs::Packing::ended_put))]
     fn end(self, irq: PicLine) -> Self
         requires { irq.0 < 8 }
@@ -249,6 +256,7 @@ impl PicChip {
     }
 
     // A byte written to the data port.
+    // Stays: what may not change (docs/DECISIONS.md, "What the question costs": no table of jumps of the four steps).
     pub fn data(self, value: u8) -> Self
         ensures { chip_in result.0 ≡ fed (chip_in self.0) value }
     {
@@ -357,6 +365,7 @@ impl PicChip {
     }
 
     // The cascade line is driven by a level: its request stands exactly while that is up.
+    // Stays: the new form is no plainer: `up` is the level that is stored, no step to run.
     pub fn drive_cascade(self, up: bool) -> Self
         ensures { chip_in result.0 ≡ driven (chip_in self.0) cascade_irq.0 up }
     {
@@ -565,6 +574,7 @@ impl PicChip {
     }
 
     // The line is no longer in service and, if the command rotates, lowest.
+    // Stays: the new form is no plainer: `rotates` is the command's bit R, as `turned` has it.
     fn full_end(self, irq: PicLine, rotates: bool) -> Self
         requires { irq.0 < 8 }
         ensures { full_in result.0 ≡ turned (specific_eoi (full_in self.0) irq.0) rotates irq.0 }
@@ -615,6 +625,7 @@ impl PicChip {
     }
 
     // Those in the way of one line: in special fully nested mode the master's cascade line isn't in its own. Whether this is the master says the caller, here and below.
+    // Stays: the new form is no plainer: `cascades` is the chip's place in the pair, as `placed` has it.
     fn blocking_line(self, cascades: bool, line: u8) -> u8
         ensures { result ≡ set_of 8 (blocks_line (placed cascades (full_in self.0)) line) }
     {
@@ -696,6 +707,7 @@ impl PicChip {
 
 // The lowest line of the set, line 0 being the highest in priority, or 8 where the set is empty. Three tests find it: of four lines, then of two, then of one,
 // each whether no line below is in the set, as none of lines 0 to 3 is where `bits % 16 == 0`.
+// Stays: what may not change (docs/DECISIONS.md, "Numbers as sets": the lowest line is 8 where there is none; `lowest 8`).
 pub fn highest_priority(bits: u8) -> PicLine
     ensures { result.0 ≡ lowest 8 bits }
 {
