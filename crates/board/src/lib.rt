@@ -1,5 +1,6 @@
-// A whole board: an I/O APIC of version 0x20, one local APIC and its request register, in place over the words of both chips. An interrupt goes from its line through
-// the I/O APIC's entry to a request, is accepted, and its EOI goes back to the entry. Not in the Rust crate; each call is made of the chips' own calls.
+// A whole board: an I/O APIC of version 0x20, one local APIC and its request register, in place over the words of both
+// chips. An interrupt goes from its line through the I/O APIC's entry to a request, is accepted, and its EOI goes back
+// to the entry. Not in the Rust crate; each call is made of the chips' own calls.
 
 #![tactic(auto)]
 

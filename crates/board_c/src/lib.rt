@@ -1,5 +1,5 @@
-// The boundary of the board: each call is the board's own over the words of its two chips that a caller in C or Rust lends (include/sillwander.h has their layout), its
-// reply as a code.
+// The boundary of the board: each call is the board's own over the words of its two chips that a caller in C or Rust
+// lends (include/sillwander.h has their layout), its reply as a code.
 
 #![tactic(auto)]
 

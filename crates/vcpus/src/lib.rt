@@ -1,5 +1,6 @@
-// The local APICs of up to 64 vCPUs, a lent slice of records: a write of a register that sends an IPI changes the records of those whom it reaches, and the sender's.
-// Each function here passes over the slice or calls one that does; what is done to one record is in crate vcpus_ipi.
+// The local APICs of up to 64 vCPUs, a lent slice of records: a write of a register that sends an IPI changes the
+// records of those whom it reaches, and the sender's. Each function here passes over the slice or calls one that does;
+// what is done to one record is in crate vcpus_ipi.
 
 #![tactic(auto)]
 
@@ -31,7 +32,8 @@ fn deliver(records: &mut [Vcpu], effect: Effect)
     }
 }
 
-// A write of the ICR or of SELF IPI by vCPU `sender`, `width` bytes wide, where the vCPUs in `active` are active. C and Rust link it by `vcpus_c`.
+// A write of the ICR or of SELF IPI by vCPU `sender`, `width` bytes wide, where the vCPUs in `active` are active. C and
+// Rust link it by `vcpus_c`.
 pub fn sillwander_vcpus_send(
     records: &mut [Vcpu],
     sender: usize,

@@ -1,5 +1,6 @@
-// An interrupt command among several vCPUs, record by record: what one vCPU's record is, whether a command reaches it, and what is left in it. Each rule is a function of one
-// record by value; crate vcpus passes over a lent slice of them. Not in the Rust crate: there the sender's LDR decides for all (D-65).
+// An interrupt command among several vCPUs, record by record: what one vCPU's record is, whether a command reaches it,
+// and what is left in it. Each rule is a function of one record by value; crate vcpus passes over a lent slice of them.
+// Not in the Rust crate: there the sender's LDR decides for all (D-65).
 
 #![tactic(auto)]
 
@@ -21,7 +22,8 @@ use vlapic_icr::fields::{self, DeliveryMode, DestinationShorthand};
 use vlapic_icr::{DestMatch, IcrAnswer, InterruptCommand, Ipi};
 use vlapic_regs::{register, vectors};
 
-// One vCPU: the registers of its local APIC, and what waits for the processor. Laid out in memory as it stands here (include/sillwander.h).
+// One vCPU: the registers of its local APIC, and what waits for the processor. Laid out in memory as it stands here
+// (include/sillwander.h).
 #[repr(C)]
 #[derive(Clone, Copy, Debug, PartialEq, Eq, Hash)]
 pub struct Vcpu {
@@ -65,8 +67,8 @@ pub struct Plan {
     pub reserved: bool,
 }
 
-// What is done to the records: the sender's ICR takes the words of the command that `stores` has, if any, and the answer
-// is carried out.
+// What is done to the records: the sender's ICR takes the words of the command that `stores` has, if any, and the
+// answer is carried out.
 #[derive(Clone, Copy, Debug, PartialEq, Eq, Hash)]
 pub struct Effect {
     pub sender: VcpuId,
@@ -74,7 +76,8 @@ pub struct Effect {
     pub answer: Result<IcrAnswer, Refusal>,
 }
 
-// What the caller is answered: the code of the reply, in which an IPI has two values, kind and vector, and the mask of those whom it was sent to.
+// What the caller is answered: the code of the reply, in which an IPI has two values, kind and vector, and the mask of
+// those whom it was sent to.
 #[repr(C)]
 #[derive(Clone, Copy, Debug, PartialEq, Eq, Hash)]
 pub struct Sent {
