@@ -1,13 +1,12 @@
 -- The board in scripts, from the theorems about its calls. Assumes nothing.
 use mathlib.Core.List.{List, [], ◌∷◌}
-use mathlib.Core.Path.{◌≡◌, refl, ap}
+use mathlib.Core.Path.{refl, ap}
 use Rattle.types.specs.declared.Reply.{Reply}
 use Rattle.board.specs.Calls.{run}
 use Rattle.board_theorems.specs.Rules.{BoardRules}
 use Rattle.board_theorems.proofs.Rules.{new_keeps_rules, runs_keep_rules}
-use Rattle.script_format.specs.declared.Call.{Call}
 use Rattle.script_format.specs.declared.Call.TheVariants.{Io, IoVersion, Pic, PicRule, Apic, Board}
-use Rattle.script_machine.specs.Machine.{Machine, new_machine, performed}
+use Rattle.script_machine.specs.Machine.{new_machine, performed}
 use Rattle.script_machine.specs.Run.{calls_from, after_calls}
 use Rattle.script_theorems.specs.Boards.{board_calls, board_replies, board_answers, BoardRuns, BoardAnswers, BoardKeepsRules}
 

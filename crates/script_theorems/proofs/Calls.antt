@@ -1,5 +1,5 @@
 -- What the theorems about each chip in scripts share: a call of the pair is one of its public calls, and what comes after a call in time is in time. Assumes nothing.
-use mathlib.Core.Bool.{Bool, true, not, ◌&&◌}
+use mathlib.Core.Bool.{true, not}
 use mathlib.Core.List.{List, ◌∷◌}
 use mathlib.Core.Path.{◌≡◌, refl}
 use Rattle.utils.proofs.Bools.{and_true}

@@ -11,9 +11,7 @@ use Rattle.vioapic_theorems.proofs.Keeps.{new_keeps_rules, calls_keep_rules, cal
 use Rattle.vioapic_theorems.proofs.Demand.{heard_from_rules}
 use Rattle.vioapic_theorems.proofs.Heard20.{heard_20}
 use Rattle.vioapic.specs.State.{IoApicState}
-use Rattle.vioapic.specs.declared.IoApicVersion.{IoApicVersion}
 use Rattle.vioapic.specs.IoApic.{version_number}
-use Rattle.vioapic_theorems.specs.Rules.{ChipRules}
 use Rattle.vioapic.specs.Calls.{Call as ChipCall, outcome, next, run}
 use Rattle.script_format.specs.declared.Call.{Call}
 use Rattle.script_format.specs.declared.Call.TheVariants.{Io, IoVersion, Pic, PicRule, Apic, Board}
@@ -21,7 +19,7 @@ use Rattle.script_format.specs.declared.IoCall.TheVariants.{SetGsiLevel}
 use mathlib.Core.Bool.{true, not, ◌&&◌}
 use Rattle.script_machine.specs.declared.Used.{Used}
 use Rattle.script_machine.specs.Late.{used_after}
-use Rattle.script_machine.specs.Machine.{Machine, unused, new_machine, io_call, chosen, performed}
+use Rattle.script_machine.specs.Machine.{Machine, unused, new_machine, io_call, performed}
 use Rattle.script_machine.specs.Run.{after_calls, calls_from, run_of}
 use Rattle.script_theorems.specs.Runs.{in_time}
 use Rattle.script_theorems.specs.Heard.{io_calls, start_of, io_replies, answers, script_sends, IoApicRuns, IoApicAnswers, IoApicSends, MachineRules, MachinesKeepRules, version_chosen, ScriptVersion, calls_after, HeardInScripts, HeardInScripts20}

@@ -1,12 +1,11 @@
 -- A refused call hands back the machine, but for a command's words: by the theorems of the three chips and of the board. Assumes nothing.
 use Prim.Native.Nat.{ℕ}
 use mathlib.Core.Bool.{Bool, true, false, cond}
-use mathlib.Core.Path.{◌≡◌, refl, sym, ap, ◌∙◌, subst}
+use mathlib.Core.Path.{◌≡◌, refl, ap}
 use lib.Dec.{eqb}
-use borrow.Author.Tests.{eqb-true, eqb-false}
+use borrow.Author.Tests.{eqb-true}
 use Rattle.types.specs.Reply.{Outcome, reply_number}
 use Rattle.types.specs.declared.VcpuId.{VcpuId}
-use Rattle.types.specs.declared.Reply.{Reply}
 use Rattle.types.specs.declared.Reply.TheVariants as reply
 use Rattle.vioapic_theorems.proofs.Keeps.{refused_keeps}
 use Rattle.vpic.specs.Words.{PicState}

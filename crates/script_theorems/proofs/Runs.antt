@@ -2,14 +2,14 @@
 use mathlib.Core.Path.{◌≡◌, refl, sym, ap, ◌∙◌}
 use mathlib.Core.Bool.{Bool, true, false, cond, ◌||◌}
 use mathlib.Core.List.{List, [], ◌∷◌, ◌++◌}
-use mathlib.Core.Logic.{◌⊎◌, inl, inr, ⊎_elim}
+use mathlib.Core.Logic.{inl, inr, ⊎_elim}
 use Prim.Native.Nat.{ℕ, zero, suc, ◌+◌, ◌≤◌, ◌<◌}
 use native.Mathlib.Nat.{suc-add, zero-add}
 use native.Mathlib.Omega.{arith}
 use lib.Dec.{leb, ltb}
-use lib.ListN.{length, get_or, take, drop, length-append, length-drop, get_or-append}
+use lib.ListN.{length, get_or, drop, length-append, length-drop, get_or-append}
 use lib.Seq.{take-append-le, drop-append-le}
-use borrow.Author.Tests.{le-leb, lt-leb, le-ltb, leb-true, ltb-false}
+use borrow.Author.Tests.{le-leb, lt-leb, le-ltb, leb-true}
 use Rattle.utils.proofs.Bools.{or_false}
 use Rattle.types.specs.declared.Reply.{Reply}
 use Rattle.script_format.specs.declared.Call.{Call}
@@ -17,13 +17,12 @@ use Rattle.script_format.specs.declared.Call.TheVariants as call
 use Rattle.script_format.specs.declared.Chip.{Chip}
 use Rattle.script_format.specs.declared.Chip.TheVariants.{IoApic, Pic, LocalApic, Board}
 use Rattle.script_format.specs.Chips.{chip_of, same}
-use Rattle.script_format.specs.declared.Body.{Body}
-use Rattle.script_format.specs.declared.Body.TheVariants.{Says, Malformed}
+use Rattle.std.specs.Prelude.{Option, Some, None, Result, Ok, Err}
+use Rattle.script_format.specs.declared.BadField.{BadField}
 use Rattle.script_format.specs.declared.Cursor.{Cursor}
 use Rattle.script_format.specs.declared.Field.{Field}
-use Rattle.script_format.specs.declared.Field.TheVariants.{Good, Bad, End}
 use Rattle.script_format.specs.Format.{number_at, decoded}
-use Rattle.script_format.specs.Fields.{length_at, end_at, body_at, field_of, field_at}
+use Rattle.script_format.specs.Fields.{length_at, end_at, body_at, Good, Bad, End, field_of, field_at}
 use Rattle.script_machine.specs.declared.Used.{Used}
 use Rattle.script_machine.specs.declared.Stop.{Stop}
 use Rattle.script_machine.specs.declared.Stop.TheVariants as stop
@@ -41,25 +40,25 @@ unfolding calls_from field_count
 calls_counted s used at zero = refl
 calls_counted s used at (suc n) = go (field_for s used at) (λ u next. calls_counted s u next n)
   where
-    go : (f : Field) → ((u : Used) (next : ℕ) → length (calls_from s u next n) ≡ field_count s u next n)
+    go : (f : Result (Option (Field Call)) BadField) → ((u : Used) (next : ℕ) → length (calls_from s u next n) ≡ field_count s u next n)
         → length (by_field f (λ call next. call ∷ calls_from s (used_after used call) next n) [] []) ≡ by_field f (λ call next. suc (field_count s (used_after used call) next n)) 0 0
-    go (Good tag c next) ih = ap suc (ih (used_after used c) next.at)
-    go Bad ih = refl
-    go End ih = refl
+    go (Ok (Some y)) ih = ap suc (ih (used_after used y.call) y.next.at)
+    go (Err _) ih = refl
+    go (Ok None) ih = refl
 
 pub counted : Counted
 counted s m at n = (refl, calls_counted s m.used at n)
 
 -- ---- a field that isn't late stands there by itself
 
-taken_end : (used : Used) (f : Field) → taken used f ≡ End → f ≡ End
-taken_end used (Good t d n) e = go (is_late used d) e
+taken_end : (used : Used) (f : Result (Option (Field Call)) BadField) → taken used f ≡ End → f ≡ End
+taken_end used (Ok (Some y)) e = go (is_late used y.call) e
   where
-    go : (b : Bool) → cond b Bad (Good t d n) ≡ End → Good t d n ≡ End
+    go : (b : Bool) → cond b Bad (Ok (Some y)) ≡ End → Ok (Some y) ≡ End
     go true p = let z : ◌≡◌ {A = ℕ} 0 1 = cc in absurd (omega arith)
     go false p = p
-taken_end used Bad e = let z : ◌≡◌ {A = ℕ} 0 1 = cc in absurd (omega arith)
-taken_end used End e = refl
+taken_end used (Err _) e = let z : ◌≡◌ {A = ℕ} 0 1 = cc in absurd (omega arith)
+taken_end used (Ok None) e = refl
 
 good_in_time : (s : List ℕ) (used : Used) (at tag : ℕ) (c : Call) (next : Cursor) → field_for s used at ≡ Good tag c next → is_late used c ≡ false
 unfolding field_for
@@ -74,11 +73,11 @@ unfolding calls_from in_time
 in_time_lem s used at zero = refl
 in_time_lem s used at (suc n) = go (field_for s used at) refl (λ u next. in_time_lem s u next n)
   where
-    go : (f : Field) → field_for s used at ≡ f → ((u : Used) (next : ℕ) → in_time u (calls_from s u next n) ≡ true)
+    go : (f : Result (Option (Field Call)) BadField) → field_for s used at ≡ f → ((u : Used) (next : ℕ) → in_time u (calls_from s u next n) ≡ true)
         → in_time used (by_field f (λ call next. call ∷ calls_from s (used_after used call) next n) [] []) ≡ true
-    go (Good tag c next) e ih = rw (good_in_time s used at tag c next e) (ih (used_after used c) next.at)
-    go Bad e ih = refl
-    go End e ih = refl
+    go (Ok (Some y)) e ih = rw (good_in_time s used at y.tag y.call y.next e) (ih (used_after used y.call) y.next.at)
+    go (Err _) e ih = refl
+    go (Ok None) e ih = refl
 
 -- ---- what the machine remembers
 
@@ -139,11 +138,11 @@ unfolding place_after
 within s used at zero h = h
 within s used at (suc n) h = go (field_for s used at) refl (λ u next k. within s u next n k)
   where
-    go : (f : Field) → field_for s used at ≡ f → ((u : Used) (next : ℕ) → next ≤ length s → place_after s u next n ≤ length s)
+    go : (f : Result (Option (Field Call)) BadField) → field_for s used at ≡ f → ((u : Used) (next : ℕ) → next ≤ length s → place_after s u next n ≤ length s)
         → by_field f (λ call next. place_after s (used_after used call) next n) at at ≤ length s
-    go (Good tag c next) e ih = ih (used_after used c) next.at (good_lies s used at tag c next e).1
-    go Bad e ih = h
-    go End e ih = h
+    go (Ok (Some y)) e ih = ih (used_after used y.call) y.next.at (good_lies s used at y.tag y.call y.next e).1
+    go (Err _) e ih = h
+    go (Ok None) e ih = h
 
 ends_at_lem : (s : List ℕ) (used : Used) (at : ℕ) → length s ≤ at → field_for s used at ≡ End
 unfolding field_for field_at
@@ -160,14 +159,14 @@ by_end : (s : List ℕ) (at : ℕ) → field_at s at ≡ End → length s ≤ at
 unfolding field_at
 by_end s at e = go (leb (length s) at) (ltb (length s) (at + 3)) (ltb (length s) (end_at s at)) (decoded (get_or s at 0) (body_at s at)) refl e
   where
-    go : (b₁ b₂ b₃ : Bool) (b : Body) → leb (length s) at ≡ b₁
+    go : (b₁ b₂ b₃ : Bool) (b : Option Call) → leb (length s) at ≡ b₁
         → cond b₁ End (cond b₂ Bad (cond b₃ Bad (field_of (get_or s at 0) b (end_at s at)))) ≡ End
         → length s ≤ at
     go true b₂ b₃ b t p = leb-true (length s) at t
     go false true b₃ b t p = let z : ◌≡◌ {A = ℕ} 0 1 = cc in absurd (omega arith)
     go false false true b t p = let z : ◌≡◌ {A = ℕ} 0 1 = cc in absurd (omega arith)
-    go false false false (Says call) t p = let z : ◌≡◌ {A = ℕ} 0 1 = cc in absurd (omega arith)
-    go false false false Malformed t p = let z : ◌≡◌ {A = ℕ} 0 1 = cc in absurd (omega arith)
+    go false false false (Some call) t p = let z : ◌≡◌ {A = ℕ} 0 1 = cc in absurd (omega arith)
+    go false false false None t p = let z : ◌≡◌ {A = ℕ} 0 1 = cc in absurd (omega arith)
 
 end_at_lem : (s : List ℕ) (used : Used) (at : ℕ) → field_for s used at ≡ End → field_at s at ≡ End
 unfolding field_for
@@ -185,11 +184,11 @@ unfolding calls_from field_count place_after stop_after after_calls
 ends s m at zero = inl (refl, refl)
 ends s m at (suc n) = go (field_for s m.used at) refl (λ m' next. ends s m' next n)
   where
-    go : (f : Field) → field_for s m.used at ≡ f → ((m' : Machine) (next : ℕ) → Ended (run_of s m' next n) s n) → Ended (run_of s m at (suc n)) s (suc n)
-    go (Good tag c next) e ih =
-        rw e (rw (remembers m c) at (one_more_lem s n (run_of s (performed m c).state next.at n) (ih (performed m c).state next.at)))
-    go Bad e ih = rw e (inr (inr (refl, e)))
-    go End e ih = rw e (inr (inl (refl, by_end s at (end_at_lem s m.used at e))))
+    go : (f : Result (Option (Field Call)) BadField) → field_for s m.used at ≡ f → ((m' : Machine) (next : ℕ) → Ended (run_of s m' next n) s n) → Ended (run_of s m at (suc n)) s (suc n)
+    go (Ok (Some y)) e ih =
+        rw e (rw (remembers m y.call) at (one_more_lem s n (run_of s (performed m y.call).state y.next.at n) (ih (performed m y.call).state y.next.at)))
+    go (Err _) e ih = rw e (inr (inr (refl, e)))
+    go (Ok None) e ih = rw e (inr (inl (refl, by_end s at (end_at_lem s m.used at e))))
 
 -- ---- in two
 
@@ -229,28 +228,28 @@ unfolding calls_from field_count place_after stop_after after_calls
 in_two s m at zero b = rw (zero-add b) (record { machine = refl; done = omega arith; next = refl; stop = λ h. refl })
 in_two s m at (suc a) b = go (field_for s m.used at) refl (λ m' next. in_two s m' next a b)
   where
-    go : (f : Field) → field_for s m.used at ≡ f
+    go : (f : Result (Option (Field Call)) BadField) → field_for s m.used at ≡ f
         → ((m' : Machine) (next : ℕ) → Together (run_of s m' next a) (run_of s (run_of s m' next a).machine (run_of s m' next a).next.at b) (run_of s m' next (a + b)) b)
         → Together (run_of s m at (suc a)) (run_of s (run_of s m at (suc a)).machine (run_of s m at (suc a)).next.at b) (run_of s m at (suc a + b)) b
-    go (Good tag c next) e ih =
-        let h = rw (remembers m c) at (ih (performed m c).state next.at) in
+    go (Ok (Some y)) e ih =
+        let h = rw (remembers m y.call) at (ih (performed m y.call).state y.next.at) in
         rw (suc-add a b, e) (record { machine = h.machine; done = omega (arith, h.done); next = h.next; stop = h.stop })
-    go Bad e ih = rw (suc-add a b, e) (after_nothing s m at b stop.BadField stop.BadField (idle_bad s m at b e))
-    go End e ih = rw (suc-add a b, e) (after_nothing s m at b stop.End stop.End (idle_end s m at b e))
+    go (Err _) e ih = rw (suc-add a b, e) (after_nothing s m at b stop.BadField stop.BadField (idle_bad s m at b e))
+    go (Ok None) e ih = rw (suc-add a b, e) (after_nothing s m at b stop.End stop.End (idle_end s m at b e))
 
 pub answered_in_two : AnsweredInTwo
 unfolding calls_from field_count place_after stop_after after_calls replies
 answered_in_two s m at zero b = rw (zero-add b)
 answered_in_two s m at (suc a) b = go (field_for s m.used at) refl (λ m' next. answered_in_two s m' next a b)
   where
-    go : (f : Field) → field_for s m.used at ≡ f
+    go : (f : Result (Option (Field Call)) BadField) → field_for s m.used at ≡ f
         → ((m' : Machine) (next : ℕ) → answers_of s m' next (a + b) ≡ answers_of s m' next a ++ answers_of s (run_of s m' next a).machine (run_of s m' next a).next.at b)
         → answers_of s m at (suc a + b) ≡ answers_of s m at (suc a) ++ answers_of s (run_of s m at (suc a)).machine (run_of s m at (suc a)).next.at b
-    go (Good tag c next) e ih =
-        let h = rw (remembers m c) at (ih (performed m c).state next.at) in
-        rw (suc-add a b, e) (ap (λ (l : List Reply). (performed m c).reply ∷ l) h)
-    go Bad e ih = rw (suc-add a b, e) (sym (idle_bad s m at b e).answers)
-    go End e ih = rw (suc-add a b, e) (sym (idle_end s m at b e).answers)
+    go (Ok (Some y)) e ih =
+        let h = rw (remembers m y.call) at (ih (performed m y.call).state y.next.at) in
+        rw (suc-add a b, e) (ap (λ (l : List Reply). (performed m y.call).reply ∷ l) h)
+    go (Err _) e ih = rw (suc-add a b, e) (sym (idle_bad s m at b e).answers)
+    go (Ok None) e ih = rw (suc-add a b, e) (sym (idle_end s m at b e).answers)
 
 -- ---- a bad field
 
@@ -291,17 +290,17 @@ unfolding calls_from field_count place_after stop_after
 alike_behind s x used at zero b h = let z : ◌≡◌ {A = ℕ} 0 1 = cc in absurd (omega arith)
 alike_behind s x used at (suc n) b h = go (field_for s used at) refl b h (λ u next. alike_behind s x u next n)
   where
-    go : (f : Field) → field_for s used at ≡ f
+    go : (f : Result (Option (Field Call)) BadField) → field_for s used at ≡ f
         → by_field f (λ call next. stop_after s (used_after used call) next n) stop.BadField stop.End ≡ stop.BadField
         → end_at s (by_field f (λ call next. place_after s (used_after used call) next n) at at) ≤ length s
         → ((u : Used) (next : ℕ) → stop_after s u next n ≡ stop.BadField → end_at s (place_after s u next n) ≤ length s → Alike s (s ++ x) u next n)
         → Alike s (s ++ x) used at (suc n)
-    go (Good tag c next) e p w ih =
-        let a = ih (used_after used c) next.at p w in
-        let f = for_behind s x used at (good_whole s at tag c next (good_at s used at tag c next e)).1 in
+    go (Ok (Some y)) e p w ih =
+        let a = ih (used_after used y.call) y.next.at p w in
+        let f = for_behind s x used at (good_whole s at y.tag y.call y.next (good_at s used at y.tag y.call y.next e)).1 in
         record { calls = rw (f, e, a.calls); done = rw (f, e, a.done); place = rw (f, e, a.place); stop = rw (f, e, a.stop) }
-    go Bad e p w ih = let f = for_behind s x used at w in record { calls = rw (f, e); done = rw (f, e); place = rw (f, e); stop = rw (f, e) }
-    go End e p w ih = let z : ◌≡◌ {A = ℕ} 0 1 = cc in absurd (omega arith)
+    go (Err _) e p w ih = let f = for_behind s x used at w in record { calls = rw (f, e); done = rw (f, e); place = rw (f, e); stop = rw (f, e) }
+    go (Ok None) e p w ih = let z : ◌≡◌ {A = ℕ} 0 1 = cc in absurd (omega arith)
 
 pub nothing_behind_bad : NothingBehindBad
 nothing_behind_bad s x m at n b h =

@@ -3,8 +3,7 @@ use Rattle.std.specs.Prelude.{ℕ, ◌+◌, ◌≤◌, ◌<◌, Bool, true, fals
 use Rattle.types.specs.declared.Reply.{Reply}
 use Rattle.script_format.specs.declared.Call.{Call}
 use Rattle.script_format.specs.declared.Cursor.{Cursor}
-use Rattle.script_format.specs.declared.Field.TheVariants.{Good, Bad}
-use Rattle.script_format.specs.Fields.{end_at, field_at}
+use Rattle.script_format.specs.Fields.{end_at, Good, Bad, field_at}
 use Rattle.script_format.specs.Chips.{chip_of, is_choice, same}
 use Rattle.script_machine.specs.Late.{is_late, used_after, field_for}
 use Rattle.script_machine.specs.Machine.{Machine, unused, new_machine}
