@@ -67,6 +67,7 @@ const ISR: usize = 18;
 
 const TMR: usize = 26;
 
+// Stays: the C interface (word 0 of the lent words says the mode).
 fn is_x2apic(words: &[u64; 48]) -> bool
     ensures { result ≡ (view words.now).x2apic }
 {
@@ -430,21 +431,25 @@ fn write_icr(
     answer(words, command.carry_out(vcpu_num, active_vcpus))
 }
 
-// A write of the ICR's low word; in x2APIC mode of both words.
-fn write_icr_low(
-    words: &mut [u64; 48],
+// What is written to a register: the value and its width in bytes, where the VM has `vcpu_num` vCPUs, of which those in
+// `active_vcpus` are active.
+#[derive(Clone, Copy, Debug, PartialEq, Eq, Hash)]
+struct RegisterWrite {
     val: u64,
     width: u8,
     vcpu_num: usize,
     active_vcpus: u64,
-) -> Result<Option<Ipi>, Refusal>
-    ensures { Leaves words.old (icr_refused words.old val width) words.new (write_reply result) (write_icr_low (view words.old) val width vcpu_num active_vcpus) }
+}
+
+// A write of the ICR's low word; in x2APIC mode of both words.
+fn write_icr_low(words: &mut [u64; 48], write: RegisterWrite) -> Result<Option<Ipi>, Refusal>
+    ensures { Leaves words.old (icr_refused words.old write.val write.width) words.new (write_reply result) (write_icr_low (view words.old) write.val write.width write.vcpu_num write.active_vcpus) }
 {
     let x2apic = is_x2apic(words);
-    if fields::is_icr_width(x2apic, u64::from(width)) {
-        let lo = (val % 0x1_0000_0000) as u32;
-        let hi = fields::icr_high(x2apic, val, low(words, ICR_HI));
-        return write_icr(words, lo, hi, vcpu_num, active_vcpus);
+    if fields::is_icr_width(x2apic, u64::from(write.width)) {
+        let lo = (write.val % 0x1_0000_0000) as u32;
+        let hi = fields::icr_high(x2apic, write.val, low(words, ICR_HI));
+        return write_icr(words, lo, hi, write.vcpu_num, write.active_vcpus);
     }
     Err(Refusal::InvalidRegister)
 }
@@ -488,26 +493,25 @@ pub fn handle_write(
         return Err(Refusal::OutOfRange);
     }
     if offset % 16 == 0 {
-        return write_at(words, offset / 16, val, width, vcpu_num, active_vcpus);
+        let write = RegisterWrite {
+            val,
+            width,
+            vcpu_num,
+            active_vcpus,
+        };
+        return write_at(words, offset / 16, write);
     }
     Err(Refusal::InvalidRegister)
 }
 
-fn write_at(
-    words: &mut [u64; 48],
-    at: u64,
-    val: u64,
-    width: u8,
-    vcpu_num: usize,
-    active_vcpus: u64,
-) -> Result<Option<Ipi>, Refusal>
-    requires { out_of_range vcpu_num (view words.old).vapic_id ≡ false }
-    ensures { Leaves words.old (refused_words words.old (at * 16) val width vcpu_num) words.new (write_reply result) (handle_write (view words.old) (at * 16) val width vcpu_num active_vcpus) }
+fn write_at(words: &mut [u64; 48], at: u64, write: RegisterWrite) -> Result<Option<Ipi>, Refusal>
+    requires { out_of_range write.vcpu_num (view words.old).vapic_id ≡ false }
+    ensures { Leaves words.old (refused_words words.old (at * 16) write.val write.width write.vcpu_num) words.new (write_reply result) (handle_write (view words.old) (at * 16) write.val write.width write.vcpu_num write.active_vcpus) }
 {
     match at {
         AT_EOI => write_eoi(words),
-        AT_ICR_LOW => write_icr_low(words, val, width, vcpu_num, active_vcpus),
-        AT_SELF_IPI => write_self_ipi(words, val),
-        _ => write_register(words, at, (val % 0x1_0000_0000) as u32),
+        AT_ICR_LOW => write_icr_low(words, write),
+        AT_SELF_IPI => write_self_ipi(words, write.val),
+        _ => write_register(words, at, (write.val % 0x1_0000_0000) as u32),
     }
 }
