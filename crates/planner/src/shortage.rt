@@ -38,7 +38,7 @@ fn free_within(taken: &[u64; 4], from: u8, to: u8, vector: u8) -> bool
 }
 
 // How many vectors of the range are free.
-// Stays: the new form is no plainer (a range's ends are two vectors, and no call has them as one value).
+// Stays: the new form is no plainer (the ends come from two lines' ranges: a value of both would be made for each call).
 #[tactic(auto, using(crate::proofs::Laws::count_le))]
 pub fn count_free(taken: &[u64; 4], from: Vector, to: Vector) -> u64
     ensures { result ≡ count 256 (free_within taken.now from.0 to.0) }
