@@ -123,6 +123,7 @@ pub struct BadField;
 // ---- numbers in a body, the low byte first; past its end there are only zeros
 
 // A byte of a body, or 0 past its end.
+// Stays: what may not change (`number_at`: past the end there are only zeros).
 #[tactic(auto, unfolding(crate::specs::Format::number_at))]
 pub fn byte_at(body: &[u8], k: usize) -> u8
     ensures { result ≡ number_at body.now k 1 }

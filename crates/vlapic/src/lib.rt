@@ -128,6 +128,7 @@ impl VirtualApicRegs {
     }
 
     // The highest vector in service, or 0.
+    // Stays: what may not change (`find_isrv` of specs/: 0 where there is none).
     fn find_isrv(self) -> Vector
         ensures { result.0 ≡ find_isrv self }
     {

@@ -18,6 +18,7 @@ fn kept(val: u32, low: u32, high: u32) -> u32
 }
 
 // Vector, delivery status, mask and timer mode.
+// Stays: the new form is no plainer: each register of the local vector table has its bits by name, in one line over `kept`.
 pub fn timer(val: u32) -> u32
     ensures { result ≡ lvt_timer val }
 {
