@@ -5,24 +5,22 @@ use mathlib.Core.Bool.{Bool, true, false, not, cond}
 use mathlib.Core.List.{List, [], ◌∷◌}
 use Prim.Native.Nat.{ℕ, ◌%◌, ◌<◌}
 use native.Mathlib.Omega.{arith}
-use lib.Dec.{ltb, eqb}
+use lib.Dec.{ltb}
 use lib.ListN.{set, length, get_or}
-use borrow.Author.Tests.{lt-ltb, ne_eqb, not-true, not-false}
+use borrow.Author.Tests.{lt-ltb}
 use Rattle.utils.proofs.Bools.{both}
 use Rattle.types.specs.declared.Refusal.{Refusal}
 use Rattle.types.specs.declared.Vector.{Vector}
 use Rattle.types.specs.declared.PicLine.{PicLine}
 use Rattle.types.specs.declared.PicPlace.{PicPlace}
 use Rattle.types.specs.declared.PicPlace.TheVariants.{Master, Slave}
-use Rattle.types.specs.declared.Refusal.TheVariants.{Unsupported}
 use Rattle.types.specs.Counters.{place_of}
 use Rattle.vpic_chip.specs.Registers.{Chip, chip_in, full_in, placed}
 use Rattle.types.specs.Reply.{Outcome}
-use Rattle.vpic_chip.specs.Chip.{asks, driven, acknowledged, is_polled, polled, command_read}
+use Rattle.vpic_chip.specs.Chip.{asks, driven, acknowledged, is_polled, polled}
 use Rattle.vpic.specs.declared.PicInterruptClaim.{PicInterruptClaim}
-use Rattle.vpic.specs.declared.PicPort.{PicPort}
 use Rattle.vpic.specs.Words.{PicState, is_full, plain_view, full_view, view}
-use Rattle.vpic.specs.Pair.{is_cascade, chips, settled, latched_at, latched, StateClaim, state_claim, master_claim, slave_claim, pending_place, claim_at, claim_pending, claim_irq, restored_at, restored, restore_interrupt, Port, master_command, master_data, slave_command, slave_data, no_port, port_at, is_there, written_to, written_at, is_port, master_read, slave_read, left_after, port_read, port_left, port_written, value_reply, handle_read, handle_write, claim_vector, with_claim, with_vector, claim_outcome, vector_outcome, done_outcome, value_outcome, at_port, port_found, read_from, done_reply}
+use Rattle.vpic.specs.Pair.{is_cascade, chips, settled, latched_at, latched, StateClaim, state_claim, master_claim, slave_claim, pending_place, claim_at, claim_pending, claim_irq, restored_at, restored, restore_interrupt, Port, master_command, master_data, slave_command, slave_data, no_port, port_at, written_to, written_at, is_port, master_read, slave_read, left_after, port_read, port_left, port_written, value_reply, handle_read, handle_write, claim_vector, with_claim, with_vector, claim_outcome, vector_outcome, done_outcome, value_outcome, done_reply}
 use Rattle.vpic.specs.Claim.{claim_in, claim_number, numbered, with_number, master_taken, slave_taken, is_quiet, port_outcome, settled_outcome, byte_shown, plain_shown}
 use Rattle.vpic.proofs.Laws.{settle_off, settle_on, claim_known, irq_reply, irq_vector, pending_vector, quiet, unasked, restore_way, restore_done, write_by}
 

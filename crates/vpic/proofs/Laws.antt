@@ -3,7 +3,7 @@ use Rattle.std.proofs.Common.{Option, Some, None, Result, Ok, Err}
 use mathlib.Core.Path.{◌≡◌, refl, sym, ap, ap₂, ◌∙◌}
 use mathlib.Core.Bool.{Bool, true, false, not, cond, ◌&&◌}
 use mathlib.Core.List.{List, [], ◌∷◌}
-use Prim.Native.Nat.{ℕ, ◌+◌, ◌-◌, ◌%◌, ◌^◌, ◌<◌, ◌≤◌}
+use Prim.Native.Nat.{ℕ, ◌+◌, ◌-◌, ◌%◌, ◌^◌, ◌<◌}
 use native.Mathlib.Omega.{arith}
 use native.Mathlib.Nat.{zero-div}
 use lib.Dec.{ltb, eqb}
@@ -11,7 +11,6 @@ use lib.ListN.{set, length}
 use borrow.Author.Tests.{lt-ltb, ltb-true, ltb-false, not-true, not-false, ne_eqb, eq-eqb, eqb-true}
 use Rattle.types.specs.declared.Vector.{Vector}
 use Rattle.utils.specs.Set.{bit, with, outside}
-use Rattle.utils.specs.Cases.{cases}
 use Rattle.utils.proofs.Bools.{never}
 use Rattle.utils.proofs.Laws.{bit_outside, bit_with_same, with_member, set_of_same}
 use Rattle.types.specs.declared.PicLine.{PicLine}
@@ -33,7 +32,7 @@ use Rattle.vpic.specs.declared.PicPort.{PicPort}
 use Rattle.vpic.specs.declared.PicPort.TheVariants.{MasterCommand, MasterData, SlaveCommand, SlaveData}
 use Rattle.types.specs.declared.Refusal.{Refusal}
 use Rattle.vpic.specs.Words.{PicState, plain_view, view}
-use Rattle.vpic.specs.Pair.{rule_number, rule_in, drives, chips, is_cascade, settled, Keeps, is_place, latched_at, latched, StateClaim, state_claim, grew, claim_of, master_claim, slave_claim, pending_place, claim_at, claim_pending, claim_irq, restored_at, restored, restore_interrupt, Port, master_command, master_data, slave_command, slave_data, no_port, port_at, is_there, written_to, written_at, is_port, port_written, handle_write, master_read, slave_read, port_read, port_left, new_state, claim_vector, with_claim, with_vector, claim_outcome, vector_outcome, done_outcome, value_outcome, at_port, found_at, port_found, read_from, left_after, handle_read, value_reply, refused, done_reply}
+use Rattle.vpic.specs.Pair.{rule_number, rule_in, drives, chips, is_cascade, settled, Keeps, is_place, latched_at, latched, StateClaim, state_claim, grew, claim_of, master_claim, slave_claim, pending_place, claim_at, claim_pending, claim_irq, restored_at, restored, restore_interrupt, Port, master_command, master_data, slave_command, slave_data, no_port, port_at, is_there, written_to, written_at, is_port, port_written, handle_write, master_read, slave_read, port_read, port_left, new_state, claim_vector, with_claim, with_vector, claim_outcome, vector_outcome, done_outcome, value_outcome, at_port, found_at, port_found, read_from, left_after, value_reply, refused, done_reply}
 use Rattle.vpic.specs.Claim.{master_taken, slave_taken, taken_at, is_quiet, ReadOf, port_outcome, write_outcome, settled_outcome}
 use Rattle.vpic.proofs.Ready.{ready_master, ready_slave, low_slave}
 use Rattle.vpic.proofs.Settled.{settled_kept, settled_twice, master_leaves, slave_leaves}

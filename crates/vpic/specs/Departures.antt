@@ -8,7 +8,7 @@ use Rattle.types.specs.Departure.{Departure, Shown}
 use Rattle.vpic_chip.specs.Registers.{Chip, chip}
 use Rattle.vpic_chip.specs.Chip.{opened, commanded, fed, command_read, pulsed, counts, pending_line, asks, driven, pending_irq, acknowledged, acknowledge, pending_reply, vector_reply}
 use Rattle.vpic.specs.declared.PicRule.{PicRule}
-use Rattle.vpic.specs.declared.PicRule.TheVariants.{Latch, Cascade}
+use Rattle.vpic.specs.declared.PicRule.TheVariants.{Latch}
 use Rattle.vpic.specs.Words.{PicState}
 use Rattle.vpic.specs.Pair.{new_state, settled, latched, master_claim, slave_claim, claim_pending, claim_irq, port_written, written_at, claim_reply, claim_vector}
 

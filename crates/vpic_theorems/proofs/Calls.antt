@@ -1,19 +1,18 @@
 -- A refused call hands back the pair that it was given, whatever it was called with. Assumes nothing.
 use mathlib.Core.Path.{◌≡◌, refl, ◌∙◌}
 use mathlib.Core.Bool.{Bool, true, false, cond}
-use Prim.Native.Nat.{ℕ, ◌%◌}
+use Prim.Native.Nat.{ℕ}
 use lib.Dec.{ltb, eqb}
 use Rattle.std.proofs.Common.{Option, Some, None}
 use Rattle.vpic.specs.declared.PicInterruptClaim.{PicInterruptClaim}
 use Rattle.types.specs.declared.Refusal.{Refusal}
 use Rattle.types.specs.declared.Refusal.TheVariants.{Unsupported, OutOfRange}
-use Rattle.types.specs.declared.Reply.TheVariants as reply
 use Rattle.types.specs.Reply.{Outcome, reply_number}
 use Rattle.vpic.specs.Words.{PicState, view}
 use Rattle.vpic_chip.specs.Chip.{vector_reply}
-use Rattle.vpic.specs.Pair.{Port, master_command, master_data, slave_command, slave_data, no_port, port_at, read_from, left_after, port_read, port_left, value_reply, is_port, claim_reply, claim_vector, claim_irq, claim_pending, with_claim, with_vector, refused}
+use Rattle.vpic.specs.Pair.{Port, master_command, master_data, slave_command, slave_data, no_port, port_at, read_from, left_after, port_read, port_left, value_reply, is_port, claim_reply, claim_vector, claim_irq, claim_pending, refused}
 use Rattle.vpic.proofs.Codes.{words_same}
-use Rattle.vpic_theorems.specs.Statements.{Call, call_claim_irq, claim_pending_interrupt, pulse_irq, next_interrupt, call_restore_interrupt, call_handle_read, call_handle_write, outcome, RefusedUnchanged, RefusedKeepsWords}
+use Rattle.vpic_theorems.specs.Statements.{call_claim_irq, claim_pending_interrupt, pulse_irq, next_interrupt, call_restore_interrupt, call_handle_read, call_handle_write, outcome, RefusedUnchanged, RefusedKeepsWords}
 
 -- a claim is never refused, and neither is its vector
 claim_done : (c : Option PicInterruptClaim) → reply_number (claim_reply c) ≡ 0

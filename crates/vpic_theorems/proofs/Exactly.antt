@@ -21,7 +21,7 @@ use Rattle.vpic_chip.specs.Chip.{cascade_irq, lowest_by, Highest, is_above, is_a
 use Rattle.vpic_chip.proofs.Laws.{pended, ordinary}
 use Rattle.vpic_theorems.proofs.Ordinary.{ordinary_plainly, plainly_above, plainly_counts, special_off}
 use Rattle.vpic.specs.Words.{PicState}
-use Rattle.vpic.specs.Pair.{drives, rule_in, chips, is_cascade, settled, latched, master_claim, slave_claim, cascade_place, place_from, claim_at, claim_pending, claim_irq, nothing_claimed, restored_at, restored, master_command, master_data, slave_command, slave_data, no_port, port_at, is_port, written_to, written_at, port_written}
+use Rattle.vpic.specs.Pair.{chips, is_cascade, settled, latched, master_claim, slave_claim, cascade_place, place_from, claim_at, claim_pending, claim_irq, nothing_claimed, restored_at, restored, master_command, master_data, slave_command, slave_data, no_port, port_at, is_port, written_to, written_at, port_written}
 use Rattle.vpic_theorems.specs.Statements.{Call, call_claim_irq, claim_pending_interrupt, pulse_irq, next_interrupt, call_restore_interrupt, call_handle_read, call_handle_write, outcome}
 use Rattle.vpic_theorems.specs.Rotation.{is_ordinary, plain_chip, by_rule_one, sets_nested, writes_mode, is_mode_call, commands_slave, AsCascadeExactly}
 use Rattle.vpic_theorems.proofs.Settled.{settled_cascade}

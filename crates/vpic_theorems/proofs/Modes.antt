@@ -2,29 +2,27 @@
 use Rattle.std.proofs.Common.{Some, Option, None}
 use mathlib.Core.Path.{◌≡◌, refl, sym, ap, ap₂, ◌∙◌}
 use mathlib.Core.Bool.{Bool, true, false, not, cond, ◌&&◌, true≢false}
-use Prim.Native.Nat.{ℕ, ◌+◌, ◌-◌, ◌<◌, ◌≤◌}
+use Prim.Native.Nat.{ℕ, ◌+◌, ◌-◌, ◌<◌}
 use native.Mathlib.Omega.{arith}
 use lib.Dec.{ltb, eqb}
-use borrow.Author.Tests.{lt-ltb, le-ltb, ltb-true, ltb-false, eqb-true, eqb-false, eq-eqb, ne_eqb}
+use borrow.Author.Tests.{lt-ltb, le-ltb, ltb-true, ltb-false, eqb-true, eqb-false, ne_eqb}
 use Rattle.utils.specs.Set.{bit, with, without, outside}
 use Rattle.utils.specs.Cases.{and_right_no}
-use Rattle.utils.proofs.Bools.{never, both, not_is, and_true, and-false, and_one}
+use Rattle.utils.proofs.Bools.{not_is, and_true, and-false}
 use Rattle.utils.proofs.Laws.{bit_without_same, bit_without_other}
 use Rattle.types.specs.declared.PicLine.{PicLine}
-use Rattle.types.specs.declared.PicPlace.{PicPlace}
-use Rattle.types.specs.declared.PicPlace.TheVariants.{Master, Slave}
+use Rattle.types.specs.declared.PicPlace.TheVariants.{Master}
 use Rattle.vpic_priority.specs.Ring.{rank, above, first_rank, first_by}
-use Rattle.vpic_priority.proofs.Ring.{rank_lt, rank_low, rank_out, first_rank_same, first_rank_le, by_rank, by_holds, by_is, nested_above}
+use Rattle.vpic_priority.proofs.Ring.{first_rank_same, by_holds, by_is, nested_above}
 use Rattle.vpic_chip.specs.Registers.{Chip, with_in_service, with_poll, with_nested, placed}
-use Rattle.vpic_chip.specs.Chip.{cascade_irq, lowest_by, first_of, is_above, is_above_all, is_special, is_nested, blocks, blocks_line, turned, specific_eoi, non_specific_eoi, commanded, pulsed, counts, pending_line, Highest, asks, driven, pending_irq, irq_of, acknowledged, unacknowledged, command_read, poll_shown, polled, read_shown}
-use Rattle.vpic_chip.proofs.Laws.{above_each, each_above, first_top, pended, asks_not}
+use Rattle.vpic_chip.specs.Chip.{lowest_by, first_of, is_above_all, is_special, is_nested, blocks, blocks_line, turned, specific_eoi, commanded, pulsed, counts, pending_line, Highest, asks, driven, pending_irq, acknowledged, unacknowledged, command_read, poll_shown, polled, read_shown}
+use Rattle.vpic_chip.proofs.Laws.{above_each, each_above, first_top, asks_not}
 use Rattle.vpic.specs.declared.PicInterruptClaim.{PicInterruptClaim}
 use Rattle.vpic.specs.Words.{PicState}
-use Rattle.vpic.specs.Pair.{StateClaim, chips, is_cascade, settled, master_claim, slave_claim, cascade_place, place_from, pending_place, claim_at, claim_pending, restored, port_read, port_left, port_written, written_at}
-use Rattle.vpic_theorems.specs.Modes.{Polls, PollTakes, PollIdle, PollZero, MasterSilent, NothingToClaim, unpolled, PollsBeside, PollsAsClaims, SlavePollsAlone, CountsIf, Counted, CountsOnlyIf, MaskedLetsBy, MaskedStays, ServedBlocks, TwoLetsItselfBy, NoOtherLetBy, BelowTwoBlocked, ThreeToSevenBlocked, SlaveUnnested, FlagsKept, Computed}
-use Rattle.vpic_theorems.proofs.Rule.{asks_if_counts, counts_if_asks}
+use Rattle.vpic.specs.Pair.{chips, is_cascade, settled, master_claim, slave_claim, cascade_place, place_from, claim_at, claim_pending, restored, port_read, port_left, port_written, written_at}
+use Rattle.vpic_theorems.specs.Modes.{PollTakes, PollIdle, PollZero, MasterSilent, NothingToClaim, unpolled, PollsBeside, PollsAsClaims, SlavePollsAlone, CountsIf, CountsOnlyIf, MaskedLetsBy, MaskedStays, ServedBlocks, TwoLetsItselfBy, NoOtherLetBy, BelowTwoBlocked, ThreeToSevenBlocked, SlaveUnnested, FlagsKept, Computed}
+use Rattle.vpic_theorems.proofs.Rule.{asks_if_counts}
 use Rattle.vpic_theorems.proofs.Restore.{by_claim, master_line, slave_line}
-use Rattle.vpic_theorems.proofs.Ring.{rank_same}
 
 -- ---- poll
 

@@ -23,7 +23,7 @@ use Rattle.types.specs.Reply.{Outcome, reply_number}
 use Rattle.vpic_chip.specs.Registers.{Chip}
 use Rattle.vpic.specs.declared.PicRule.TheVariants.{Latch, Cascade, Full}
 use Rattle.vpic.specs.Words.{PicState}
-use Rattle.vpic_chip.specs.Chip.{lowest_by, first_of, is_above_all, blocks_line, is_polled, polled, opened, commanded, fed, pulsed, asks, cascade_irq, driven, counts, pending_line, Highest, pending_irq, acknowledged, unacknowledged}
+use Rattle.vpic_chip.specs.Chip.{lowest_by, first_of, is_above_all, blocks_line, is_polled, polled, opened, pulsed, asks, cascade_irq, driven, counts, pending_line, Highest, pending_irq, acknowledged, unacknowledged}
 use Rattle.vpic.specs.Pair.{chips, Keeps, new_state, settled, latched_at, latched, master_claim, slave_claim, pending_place, claim_at, claim_pending, claim_irq, nothing_claimed, restored_at, restored, Port, master_command, master_data, slave_command, slave_data, no_port, port_at, master_read, slave_read, left_after, port_left, is_port, written_at, port_written, port_read, value_reply, refused}
 use Rattle.vpic_theorems.specs.Statements.{Call, call_claim_irq, claim_pending_interrupt, pulse_irq, next_interrupt, call_restore_interrupt, call_handle_read, call_handle_write, outcome}
 use Rattle.vpic_theorems.specs.Rule.{AsksIfCounts, CountsIfAsks, run, NewHasRule, NewKeeps, CallsKeep, CallsKeepNumber, RunsKeep, CallsSettle, ReadsUnchanged, polled_at, LineTwoLatchesNothing, Clear, SlaveHeard, UnkeptNotRestored}

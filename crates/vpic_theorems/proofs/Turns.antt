@@ -1,7 +1,7 @@
 -- What counts on a chip whose priorities rotate, and what its steps do to the turns of a line that waits. Assumes nothing.
 use mathlib.Core.Path.{◌≡◌, refl, sym, ap, ◌∙◌}
 use mathlib.Core.Bool.{Bool, true, false, not, cond, ◌&&◌, ◌||◌}
-use Prim.Native.Nat.{ℕ, ◌<◌, ◌≤◌}
+use Prim.Native.Nat.{ℕ, ◌<◌}
 use native.Mathlib.Omega.{arith}
 use lib.Dec.{ltb, eqb}
 use borrow.Author.Tests.{lt-ltb, ltb-true, ltb-false, eqb-true, eqb-false}
@@ -11,7 +11,7 @@ use Rattle.utils.proofs.Laws.{bit_none, bit_with_same, bit_with_other, without_w
 use Rattle.types.specs.declared.PicLine.{PicLine}
 use Rattle.vpic_chip.specs.Registers.{Chip, with_request, with_in_service}
 use Rattle.vpic_priority.specs.Ring.{rank, first_rank, first_by}
-use Rattle.vpic_priority.proofs.Ring.{rank_lt, by_rank, by_holds, by_before, by_is, by_none}
+use Rattle.vpic_priority.proofs.Ring.{rank_lt, by_rank, by_holds, by_is, by_none}
 use Rattle.vpic_chip.proofs.Laws.{first_top, counted_asked, counted_open}
 use Rattle.vpic_chip.specs.Chip.{lowest_by, first_of, is_above_all, is_special, blocks, turned, specific_eoi, non_specific_eoi, counts, pending_line, asks, acknowledged, pulsed, commanded, fed}
 use Rattle.vpic_theorems.specs.Rotation.{turns}

@@ -7,7 +7,6 @@ use Rattle.types.specs.Reply.{reply_number}
 use Rattle.vpic_chip.specs.Registers.{Chip}
 use Rattle.vpic.specs.Words.{PicState}
 use Rattle.vpic.specs.declared.PicRule.{PicRule}
-use Rattle.vpic.specs.declared.PicRule.TheVariants.{Cascade}
 use Rattle.vpic.specs.declared.PicInterruptClaim.{PicInterruptClaim}
 use Rattle.vpic_chip.specs.Chip.{is_above, blocks_line, is_polled, asks, counts, pending_line, Highest, cascade_irq}
 use Rattle.vpic.specs.Pair.{Port, master_command, master_data, slave_command, slave_data, no_port, port_at, rule_in, new_state, is_cascade, Keeps, slave_claim, claim_pending, latched, restored, port_written, restore_interrupt, handle_read}
