@@ -37,7 +37,7 @@ pub enum ListCall {
 }
 
 // Performs the field at a place, and puts its line and the lists after it at the buffer's start: where the next one starts, what is said, and how many bytes are put.
-// Stays: it can't fail, and `puts` names every byte of the lent buffer; `write!` and `format!` may fail.
+// Stays: what may not change: it can't fail, and `puts` names every byte of the lent buffer; `write!` may fail.
 pub fn put_step(
     lists: &mut [u8; BYTES],
     machine: &mut Machine,
@@ -67,7 +67,7 @@ fn checked(body: &[u8], size: usize, call: ListCall) -> Option<ListCall>
 }
 
 // A body by its tag: a vCPU, and for some a vector or a line.
-// Stays: the tag is a number, the byte that stands in the script: `decoded` has an answer for each of the 256.
+// Stays: what may not change: `decoded` has an answer for each byte that may stand in the script as a tag.
 fn decode(tag: u8, body: &[u8]) -> Option<ListCall>
     ensures { result ≡ decoded tag body.now }
 {
@@ -85,6 +85,7 @@ fn decode(tag: u8, body: &[u8]) -> Option<ListCall>
 }
 
 // The length that the field at a place says.
+// Stays: the new form is no plainer: a script and a place in it, as `list_field_at` has them.
 #[tactic(auto, unfolding(script_format::specs::Format::number_at))]
 fn length_at(script: &[u8], at: usize) -> u16
     requires { at + 2 < 2 ^ 64 }
@@ -158,7 +159,7 @@ fn step(
 // ---- its text
 
 // The text of a step at a place, which left these lists.
-// Stays: as `put_step`.
+// Stays: what may not change, as at `put_step`.
 fn put_said(out: &mut [u8], said: Result<Did, Stop>, place: usize, lists: &[u8]) -> usize
     requires { 5460 ≤ length out.old }
     ensures puts { Puts out.old 0 (lists_said said place (lists_in lists.now)) out.new result }
@@ -174,7 +175,7 @@ fn put_said(out: &mut [u8], said: Result<Did, Stop>, place: usize, lists: &[u8])
 }
 
 // A line for each vCPU, where there is room.
-// Stays: as `put_step`.
+// Stays: what may not change, as at `put_step`.
 fn put_lists(out: &mut [u8], at: usize, lists: &[u8]) -> usize
     requires { at + 5380 ≤ length out.old }
     ensures puts { Puts out.old at (lists_text (lists_in lists.now)) out.new result }
@@ -187,7 +188,7 @@ fn put_lists(out: &mut [u8], at: usize, lists: &[u8]) -> usize
 }
 
 // What waits for a vCPU, the oldest first, where there is room.
-// Stays: as `put_step`.
+// Stays: what may not change, as at `put_step`.
 fn put_list(out: &mut [u8], at: usize, lists: &[u8], vcpu: VcpuId) -> usize
     requires { at + 1345 ≤ length out.old }
     ensures puts { Puts out.old at (words_line (list_at (lists_in lists.now) vcpu).waiting) out.new result }
