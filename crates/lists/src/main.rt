@@ -7,12 +7,13 @@
 use input::Input;
 use script_format::Cursor;
 use script_lists::{BYTES, SPACE};
-use script_machine::Said;
+use script_machine::Machine;
 use std::io::{self, Write};
 
 // The longest script, in bytes.
 const LIMIT: usize = 65536;
 
+// Stays: what may not change: `input::read_all` promises how many bytes of a lent buffer were read.
 fn main(rt: HostRuntime) -> io::Result<()> {
     let mut script = [0u8; 65537];
     let Input { length, ended } = input::read_all(&mut rt.reader(), &mut script);
@@ -32,54 +33,32 @@ fn main(rt: HostRuntime) -> io::Result<()> {
 }
 
 // A script that is too long.
+// Stays: what may not change: `put_refusal` fills a lent buffer (`puts`).
 fn refuse<W: Write>(out: &mut W) -> io::Result<()> {
     let mut text = [0u8; script_states::SPACE];
     let end = script_states::put_refusal(&mut text);
     out.write_all(&text[..end])
 }
 
+// Stays: what may not change: `put_step` fills a lent buffer (`puts`); and the new form of the loop is no plainer: it
+// has no count, since the script's end or a bad field ends it.
 fn run<W: Write>(out: &mut W, script: &[u8]) -> io::Result<()> {
     let mut text = [0u8; SPACE];
     let mut lists = [0u8; BYTES];
-    let mut ioapic = [0u64; 32];
-    let mut pic = [0u64; 4];
-    let mut apic = [0u64; 48];
-    let mut board_ioapic = [0u64; 32];
-    let mut board_apic = [0u64; 48];
-    let mut vm = script_machine::new(
-        &mut ioapic,
-        &mut pic,
-        &mut apic,
-        &mut board_ioapic,
-        &mut board_apic,
-    );
+    let mut machine = Machine::new();
     let mut next = Cursor { at: 0 };
     loop {
-        let shown = script_lists::put_step(
+        let (behind, said, end) = script_lists::put_step(
             &mut lists,
-            &mut ioapic,
-            &mut pic,
-            &mut apic,
-            &mut board_ioapic,
-            &mut board_apic,
-            vm,
+            &mut machine,
             script,
             next,
             &mut text,
         );
-        let stepped = shown.stepped;
-        let end = shown.end;
-        let after = stepped.vm;
-        let behind = stepped.next;
-        let said = stepped.said;
-        vm = after;
         next = behind;
         out.write_all(&text[..end])?;
-        match said {
-            Said::Did { tag: _, reply: _ } => {}
-            Said::Stopped(_) => {
-                return Ok(());
-            }
+        if let Err(_) = said {
+            return Ok(());
         }
     }
 }
