@@ -2,8 +2,9 @@
 //
 // Licensed under the Apache License, Version 2.0 (the text stands in LICENSE).
 //
-// Changed: ported to Rattle from consts.rs of the Rust crate x86_vlapic 0.5.4. The enum `ApicRegOffset`, whose decoder panics at an offset
-// that has no register, became the offsets themselves, of the registers that document 01 lists for reading or writing, under the enum's names.
+// Changed: ported to Rattle from consts.rs of the Rust crate x86_vlapic 0.5.4. The enum `ApicRegOffset`, whose decoder
+// panics at an offset that has no register, became the offsets themselves, of the registers that document 01 lists for
+// reading or writing, under the enum's names.
 
 pub const ID: u64 = 0x20;
 

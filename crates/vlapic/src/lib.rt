@@ -2,10 +2,11 @@
 //
 // Licensed under the Apache License, Version 2.0 (the text stands in LICENSE).
 //
-// Changed: ported to Rattle from vlapic.rs of the Rust crate x86_vlapic 0.5.4. The register page became the words of `VirtualApicRegs`, with three
-// arrays of eight; the state goes in and comes back by value; the host is asked nothing: the vCPU count and the active vCPUs come in as numbers, and an
-// IPI is an answer; the highest vector in service (`isrv`) is searched for where it is wanted and not kept. Timer,
-// logging and the APIC base register were left out, `setup` was added, and each function has its contract.
+// Changed: ported to Rattle from vlapic.rs of the Rust crate x86_vlapic 0.5.4. The register page became the words of
+// `VirtualApicRegs`, with three arrays of eight; the state goes in and comes back by value; the host is asked nothing:
+// the vCPU count and the active vCPUs come in as numbers, and an IPI is an answer; the highest vector in service
+// (`isrv`) is searched for where it is wanted and not kept. Timer, logging and the APIC base register were left out,
+// `setup` was added, and each function has its contract.
 
 #![tactic(auto)]
 
@@ -24,7 +25,8 @@ use types::{Refusal, VcpuId, Vector};
 use vlapic_icr::{IcrAnswer, InterruptCommand, Ipi};
 use vlapic_regs::{lvt, register, vectors};
 
-// The registers of one vCPU's local APIC, laid out in memory as they stand here (a caller in C lends them: crate vcpus).
+// The registers of one vCPU's local APIC, laid out in memory as they stand here (a caller in C lends them: crate
+// vcpus).
 #[repr(C)]
 #[derive(Clone, Copy, Debug, PartialEq, Eq, Hash)]
 pub struct VirtualApicRegs {
@@ -128,12 +130,11 @@ impl VirtualApicRegs {
     }
 
     // The highest vector in service, or 0.
-    // Stays: what may not change (`find_isrv` of specs/: 0 where there is none).
+    // Stays: what may not change (the clause: `highest_from` is 0 where there is none) keeps 0 for none.
     fn find_isrv(self) -> Vector
         ensures { result.0 ≡ find_isrv self }
     {
-        let isr = self.isr;
-        vectors::find_isrv(isr)
+        vectors::find_isrv(self.isr)
     }
 
     #[tactic(auto, unfolding(crate::specs::Priority::update_ppr))]
@@ -159,20 +160,23 @@ impl VirtualApicRegs {
     pub fn accept_interrupt(self, vector: Vector, level_triggered: bool) -> Self
         ensures { done result ≡ accept_interrupt self vector level_triggered }
     {
-        let isr = self.isr;
-        let tmr = self.tmr;
         if level_triggered {
-            return self.service(vectors::with(isr, vector), vectors::with(tmr, vector));
+            return self.service(
+                vectors::with(self.isr, vector),
+                vectors::with(self.tmr, vector),
+            );
         }
-        self.service(vectors::with(isr, vector), vectors::without(tmr, vector))
+        self.service(
+            vectors::with(self.isr, vector),
+            vectors::without(self.tmr, vector),
+        )
     }
 
     // Whether the end of the vector is broadcast: it is level-triggered, and SVR bit 12 doesn't suppress it.
     fn is_broadcast_eoi(self, vector: Vector) -> bool
         ensures { result ≡ broadcasts self vector.0 }
     {
-        let tmr = self.tmr;
-        register::is_eoi_broadcast(vectors::has(tmr, vector), self.svr)
+        register::is_eoi_broadcast(vectors::has(self.tmr, vector), self.svr)
     }
 
     #[tactic(auto, unfolding(crate::specs::Priority::handle_eoi))]
@@ -183,9 +187,7 @@ impl VirtualApicRegs {
         if vector.0 == 0 {
             return (self, None);
         }
-        let isr = self.isr;
-        let tmr = self.tmr;
-        let regs = self.service(vectors::without(isr, vector), tmr);
+        let regs = self.service(vectors::without(self.isr, vector), self.tmr);
         if self.is_broadcast_eoi(vector) {
             return (regs, Some(vector));
         }
@@ -222,12 +224,10 @@ impl VirtualApicRegs {
         ensures { read_reply result ≡ handle_read self offset }
     {
         if is_eight_from(consts::ISR, offset) {
-            let isr = self.isr;
-            return word_at(isr, offset);
+            return word_at(self.isr, offset);
         }
         if is_eight_from(consts::TMR, offset) {
-            let tmr = self.tmr;
-            return word_at(tmr, offset);
+            return word_at(self.tmr, offset);
         }
         self.read_word(offset)
     }

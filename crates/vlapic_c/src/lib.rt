@@ -1,4 +1,5 @@
-// What C and Rust link: each call is that of vlapic_words over the words that the caller lends (include/sillwander.h has their layout), its reply as a code.
+// What C and Rust link: each call is that of vlapic_words over the words that the caller lends (include/sillwander.h
+// has their layout), its reply as a code.
 
 #![tactic(auto)]
 

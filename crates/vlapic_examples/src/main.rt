@@ -1,5 +1,6 @@
-// Runs the numbered examples 10, 11 and 12 of document 01 on the local APIC, through its public calls alone, and prints what they answer.
-// A line has the example's number, what was asked, the refusal number (0: done), and the answer's values, or - where there is none.
+// Runs the numbered examples 10, 11 and 12 of document 01 on the local APIC, through its public calls alone, and prints
+// what they answer. A line has the example's number, what was asked, the refusal number (0: done), and the answer's
+// values, or - where there is none.
 
 #![tactic(auto)]
 

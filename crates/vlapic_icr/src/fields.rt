@@ -2,8 +2,9 @@
 //
 // Licensed under the Apache License, Version 2.0 (the text stands in LICENSE).
 //
-// Changed: ported to Rattle from regs/icr.rs of the Rust crate x86_vlapic 0.5.4: the fields of the interrupt command's low word, which the Rust
-// declares for tock_registers, as functions of the word, the tests that `write_icr` makes of them, and by which width the words are written.
+// Changed: ported to Rattle from regs/icr.rs of the Rust crate x86_vlapic 0.5.4: the fields of the interrupt command's
+// low word, which the Rust declares for tock_registers, as functions of the word, the tests that `write_icr` makes of
+// them, and by which width the words are written.
 
 ghost use Rattle.std.specs.Prelude.{◌≡◌};
 ghost use Rattle.vlapic_icr.specs.Fields.{vector_field, delivery_mode, is_logical, shorthand, idle, icr_width, icr_high, destination_field, all_ones, is_reserved_mode, is_illegal_vector, includes_self, is_invalid_shorthand, is_unsent};
@@ -140,10 +141,8 @@ pub fn is_broadcast(x2apic: bool, icr_hi: u32) -> bool
 pub fn is_reserved_mode(lo: u32) -> bool
     ensures { result ≡ is_reserved_mode lo }
 {
-    matches!(
-        delivery_mode(lo),
-        DeliveryMode::Reserved3 | DeliveryMode::Reserved7
-    )
+    let mode = delivery_mode(lo);
+    mode == DeliveryMode::Reserved3 || mode == DeliveryMode::Reserved7
 }
 
 // A fixed interrupt with a vector below 16.

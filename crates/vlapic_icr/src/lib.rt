@@ -2,9 +2,10 @@
 //
 // Licensed under the Apache License, Version 2.0 (the text stands in LICENSE).
 //
-// Changed: ported to Rattle from vlapic.rs of the Rust crate x86_vlapic 0.5.4: `write_icr`, `calculate_dest`, `is_dest_field_matched` and `handle_self_ipi`, as
-// functions of the words that they read (`InterruptCommand`). The host is asked nothing: the vCPU count and the active
-// vCPUs come in as numbers, and an IPI is an answer (`Ipi`); each function has its contract.
+// Changed: ported to Rattle from vlapic.rs of the Rust crate x86_vlapic 0.5.4: `write_icr`, `calculate_dest`,
+// `is_dest_field_matched` and `handle_self_ipi`, as functions of the words that they read (`InterruptCommand`). The
+// host is asked nothing: the vCPU count and the active vCPUs come in as numbers, and an IPI is an answer (`Ipi`); each
+// function has its contract.
 
 #![tactic(auto)]
 
@@ -48,12 +49,12 @@ impl From<bool> for DestMatch {
     }
 }
 
-// An interrupt that is sent to the vCPUs in `mask`.
+// An interrupt that is sent to the vCPUs in `mask`. (In this order a sent one costs fewest instructions.)
 #[derive(Clone, Copy, Debug, PartialEq, Eq, Hash)]
 pub struct Ipi {
     pub kind: DeliveryMode,
-    pub vector: Vector,
     pub mask: u64,
+    pub vector: Vector,
 }
 
 // Kind, as the delivery mode's number, vector and mask.
@@ -70,6 +71,7 @@ impl ToReply for Ipi {
 }
 
 // What becomes of an interrupt command that is not refused.
+// Stays: the new form is no plainer (of three answers `Nothing` is one; an Option of the other two says less).
 #[derive(Clone, Copy, Debug, PartialEq, Eq, Hash)]
 pub enum IcrAnswer {
     Nothing,
@@ -160,7 +162,10 @@ impl InterruptCommand {
 pub fn send(lo: u32, mask: u64) -> IcrAnswer
     ensures { result ≡ send lo mask }
 {
-    if mask == 0 || fields::is_unsent(lo) {
+    if mask == 0 {
+        return IcrAnswer::Nothing;
+    }
+    if fields::is_unsent(lo) {
         return IcrAnswer::Nothing;
     }
     IcrAnswer::Ipi(Ipi {

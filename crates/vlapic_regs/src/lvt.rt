@@ -2,8 +2,8 @@
 //
 // Licensed under the Apache License, Version 2.0 (the text stands in LICENSE).
 //
-// Changed: ported to Rattle from `write_lvt` of vlapic.rs of the Rust crate x86_vlapic 0.5.4: the mask of each entry, by the fields that it has, as a
-// function of the value.
+// Changed: ported to Rattle from `write_lvt` of vlapic.rs of the Rust crate x86_vlapic 0.5.4: the mask of each entry,
+// by the fields that it has, as a function of the value.
 
 ghost use Rattle.std.specs.Prelude.{◌≡◌, ◌<◌, ◌≤◌, ◌+◌, ◌*◌, ◌/◌, ◌%◌};
 ghost use Rattle.vlapic_regs.specs.Lvt.{lvt_timer, lvt_error, lvt_pin, lvt_monitor};
@@ -18,7 +18,7 @@ fn kept(val: u32, low: u32, high: u32) -> u32
 }
 
 // Vector, delivery status, mask and timer mode.
-// Stays: the new form is no plainer: each register of the local vector table has its bits by name, in one line over `kept`.
+// Stays: what may not change (`timer`, `error` and `monitor` are public; each is one call of `kept`).
 pub fn timer(val: u32) -> u32
     ensures { result ≡ lvt_timer val }
 {

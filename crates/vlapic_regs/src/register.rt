@@ -2,8 +2,8 @@
 //
 // Licensed under the Apache License, Version 2.0 (the text stands in LICENSE).
 //
-// Changed: ported to Rattle from vlapic.rs of the Rust crate x86_vlapic 0.5.4: what `handle_read`, `handle_write`, `set_err`, `update_ppr` and `process_eoi`
-// do to a single register, each as a function of the words that it goes by.
+// Changed: ported to Rattle from vlapic.rs of the Rust crate x86_vlapic 0.5.4: what `handle_read`, `handle_write`,
+// `set_err`, `update_ppr` and `process_eoi` do to a single register, each as a function of the words that it goes by.
 
 ghost use Rattle.std.specs.Prelude.{◌≡◌};
 ghost use Rattle.vlapic_regs.specs.Register.{id_word, low_byte, top_byte, model_bits, errors_shown, illegal_noted, priority, broadcast};

@@ -2,8 +2,8 @@
 //
 // Licensed under the Apache License, Version 2.0 (the text stands in LICENSE).
 //
-// Changed: ported to Rattle from vlapic.rs of the Rust crate x86_vlapic 0.5.4: the loop of `find_isrv`, and what the Rust does in place to a
-// bit of ISR or TMR, on eight words by value.
+// Changed: ported to Rattle from vlapic.rs of the Rust crate x86_vlapic 0.5.4: the loop of `find_isrv`, and what the
+// Rust does in place to a bit of ISR or TMR, on eight words by value.
 
 ghost use Rattle.std.specs.Prelude.{◌≡◌};
 ghost use Rattle.vlapic_regs.specs.Vectors.{in_words, with_vector, without_vector, highest_from};

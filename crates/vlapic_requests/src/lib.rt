@@ -1,5 +1,6 @@
-// The local APIC with its request register, in place over its 48 words (crate vlapic_words; the third array of eight is IRR). Not in the Rust crate: there the
-// processor keeps the requests, and what it accepted is told. Vectors 16 to 255 count.
+// The local APIC with its request register, in place over its 48 words (crate vlapic_words; the third array of eight is
+// IRR). Not in the Rust crate: there the processor keeps the requests, and what it accepted is told. Vectors 16 to 255
+// count.
 
 #![tactic(auto)]
 
@@ -50,7 +51,8 @@ fn in_word(w: usize, held: u32) -> u8
     w as u8 * 32 + utils::fls32(held) as u8
 }
 
-// The highest vector of the eight words from `base` on, or 0: that of the highest word that isn't empty, if it is legal.
+// The highest vector of the eight words from `base` on, or 0: that of the highest word that isn't empty, if it is
+// legal.
 // Stays: what may not change (the clause: `highest_from` is 0 where there is none) keeps 0 for none.
 fn highest(words: &[u64; 48], base: usize) -> Vector
     requires { base < 41 }

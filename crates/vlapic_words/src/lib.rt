@@ -1,5 +1,6 @@
-// The local APIC in place, over 48 words that a caller lends (include/sillwander.h has the layout): the calls of `VirtualApicRegs` under the same names, each on
-// the words that it must touch. The rules of single registers are those of vlapic_regs and vlapic_icr.
+// The local APIC in place, over 48 words that a caller lends (include/sillwander.h has the layout): the calls of
+// `VirtualApicRegs` under the same names, each on the words that it must touch. The rules of single registers are those
+// of vlapic_regs and vlapic_icr.
 
 #![tactic(auto)]
 
