@@ -1,5 +1,5 @@
-// A running guest's chips as an image, and back (document 02, T-11): the board's I/O APIC and local APIC and the pair of
-// 8259s, each in the words that hold it.
+// A running guest's chips as an image, and back (document 02, T-11): the board's I/O APIC and local APIC and the pair
+// of 8259s, each in the words that hold it.
 
 #![tactic(auto)]
 
@@ -78,8 +78,8 @@ fn gather(board: Board<'_>) -> [u64; 84]
     words
 }
 
-/// The image of the chips' state goes to the lent buffer's start: how many bytes it has. Refused with `TooShort` where the
-/// buffer is shorter than an image (628 bytes), which then stays as it was.
+/// The image of the chips' state goes to the lent buffer's start: how many bytes it has. Refused with `TooShort` where
+/// the buffer is shorter than an image (628 bytes), which then stays as it was.
 // Stays: the C interface lends the chips' words as three arrays (sillwander_image_save, sillwander_image_restore).
 pub fn save(
     io: &[u64; 32],
@@ -127,8 +127,8 @@ fn kept_chips(words: &[u64; 84]) -> Option<([u64; 32], [u64; 48], [u64; 4])>
     None
 }
 
-/// The chips' state is the image's, if a state writes it that keeps the chips' rules; else it is refused with `BadImage`,
-/// and every word stays as it was.
+/// The chips' state is the image's, if a state writes it that keeps the chips' rules; else it is refused with
+/// `BadImage`, and every word stays as it was.
 // Stays: the C interface lends the chips' words as three arrays.
 pub fn restore(
     image: &[u8],

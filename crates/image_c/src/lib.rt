@@ -1,4 +1,5 @@
-// What C and Rust link: a board's and a pair's words as an image in lent bytes, and back (include/sillwander.h has the layouts), each reply as a code.
+// What C and Rust link: a board's and a pair's words as an image in lent bytes, and back (include/sillwander.h has the
+// layouts), each reply as a code.
 
 #![tactic(auto)]
 

@@ -62,7 +62,8 @@ low_bytes k zero i n h = refl
 low_bytes zero (suc w) i n h = absurd (omega arith)
 low_bytes (suc k) (suc w) i n h =
     let e : n / 256 ^ i / 256 ≡ n / 256 ^ suc i = div-div-eq-div-mul n (256 ^ i) 256 ∙ ap (λ (m : ℕ). n / m) (omega (arith, pow-succ' 256 i)) in
-    rw (first i, e) (ap (λ (t : List ℕ). n / 256 ^ i % 256 ∷ t) (low_bytes k w (suc i) n (omega arith)))
+    ap (λ (b : ℕ). b ∷ take w (bytes_low_first (suc i) k n)) (first i)
+    ∙ ap (λ (t : List ℕ). n / 256 ^ i % 256 ∷ t) (low_bytes k w (suc i) n (omega arith) ∙ ap (λ (m : ℕ). bytes_of w m) (sym e))
   where
     first : (i : ℕ) → byte_at i n ≡ n / 256 ^ i % 256
     first zero = omega arith

@@ -256,8 +256,8 @@ fn put_field(bytes: &mut [u8], row: Row, word: u64)
     }
 }
 
-/// The image of the words, at the buffer's start; the rest of a longer buffer stays, and all of one that is shorter than
-/// an image.
+/// The image of the words, at the buffer's start; the rest of a longer buffer stays, and all of one that is shorter
+/// than an image.
 pub fn write(words: &[u64; 84], buf: &mut [u8])
     ensures { buf.new ≡ written_to words.now buf.old }
 {

@@ -3,14 +3,28 @@
 #![tactic(auto)]
 
 ghost use Rattle.std.specs.Prelude.{◌≡◌, ◌↔◌, ℕ, cond, true, ◌<◌, IsTrue};
-ghost use Rattle.utils.specs.Set.{bit};
 ghost use Rattle.vioapic_theorems.specs.Rules.{implies};
 ghost use Rattle.vioapic.specs.State.{view};
-ghost use Rattle.vlapic_words.specs.Words.{word, view as apicView};
 ghost use Rattle.vlapic_regs.specs.Register.{top_byte};
 ghost use Rattle.vpic_chip.specs.Registers.{chip_in, full_in};
 ghost use Rattle.vpic.specs.Words.{view as pairView};
-ghost use Rattle.image_rules.specs.Rules.{same, may_fly, is_v20, entry_keeps, entry_kept, ioapic_keeps, id_kept, errors, legal, kept_of, word_keeps, ppr_keeps, apic_keeps, chip_keeps, cascade_keeps, keeps_pair};
+ghost use Rattle.image_rules.specs.Rules.{
+  may_fly,
+  is_v20,
+  entry_keeps,
+  entry_kept,
+  ioapic_keeps,
+  id_kept,
+  errors,
+  legal,
+  kept_of,
+  word_keeps,
+  ppr_keeps,
+  apic_keeps,
+  chip_keeps,
+  cascade_keeps,
+  keeps_pair,
+};
 
 use types::Gsi;
 use utils::Set;
