@@ -6,10 +6,12 @@
 #![tactic(auto)]
 
 use input::Input;
+use script_machine::Machine;
 use script_print::SPACE;
 use script_resume::IMAGE;
 use std::io::{self, Write};
 
+// Stays: what may not change: `input::read_all` promises how many bytes of a lent buffer were read.
 fn main(rt: HostRuntime) -> io::Result<()> {
     let mut input = [0u8; 66165];
     let Input { length, ended } = input::read_all(&mut rt.reader(), &mut input);
@@ -22,31 +24,22 @@ fn main(rt: HostRuntime) -> io::Result<()> {
     Ok(())
 }
 
+// Stays: what may not change: `go_on` fills lent buffers (`goes`).
 fn run<W: Write>(out: &mut W, input: &[u8]) -> io::Result<()> {
     let mut text = [0u8; SPACE];
     let mut after = [0u8; IMAGE];
-    let mut ioapic = [0u64; 32];
-    let mut pic = [0u64; 4];
-    let mut apic = [0u64; 48];
-    let mut board_ioapic = [0u64; 32];
-    let mut board_apic = [0u64; 48];
     let head = script_resume::head_size(input);
-    let resumed = script_resume::go_on(
+    match script_resume::go_on(
         &input[..head],
         &input[head..],
-        &mut ioapic,
-        &mut pic,
-        &mut apic,
-        &mut board_ioapic,
-        &mut board_apic,
+        &mut Machine::new(),
         &mut text,
         &mut after,
-    );
-    let end = resumed.end;
-    let size = resumed.size;
-    if !resumed.ok {
-        return out.write_all(b"10\n");
+    ) {
+        Ok(resumed) => {
+            out.write_all(&text[..resumed.end])?;
+            out.write_all(&after[..resumed.size])
+        }
+        Err(_) => out.write_all(b"10\n"),
     }
-    out.write_all(&text[..end])?;
-    out.write_all(&after[..size])
 }

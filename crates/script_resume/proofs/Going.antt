@@ -10,13 +10,12 @@ use lib.Seq.{drop-length}
 use borrow.Author.Tests.{lt-ltb, le-ltb}
 use Rattle.io.specs.Counts.{IsPrefixLen}
 use Rattle.io.proofs.Counting.{prefix_len_of_le}
-use Rattle.std.specs.Prelude.{Ok, Err}
+use Rattle.std.specs.Prelude.{Result, Ok, Err}
 use Rattle.types.specs.declared.Refusal.{Refusal}
 use Rattle.types.specs.declared.Refusal.TheVariants.{BadImage}
 use Rattle.types.specs.Reply.{Outcome, outcome_of}
 use Rattle.image_format.proofs.Rounds.{image_length}
 use Rattle.image_format.specs.Image.{image_of}
-use Rattle.image.specs.declared.SaveAnswer.{SaveAnswer}
 use Rattle.image.specs.Words.{gathered}
 use Rattle.image.specs.Save.{save_reply, saved}
 use Rattle.reply_text.specs.Text.{Puts}
@@ -45,7 +44,7 @@ pub left_from_start : (image script : List ℕ) (m last : Machine) → m ≡ sta
 left_from_start image script m last e p = rw (← e) p
 
 -- an image that fills its buffer
-pub saved_all : (io apic pair buf after : List ℕ) (a : SaveAnswer) → length buf ≡ 628 → outcome_of after (save_reply a) ≡ saved io apic pair buf → after ≡ image_of (gathered io apic pair)
+pub saved_all : (io apic pair buf after : List ℕ) (a : Result ℕ Refusal) → length buf ≡ 628 → outcome_of after (save_reply a) ≡ saved io apic pair buf → after ≡ image_of (gathered io apic pair)
 unfolding saved
 saved_all io apic pair buf after a n h =
     let z : drop 628 buf ≡ [] = rw (← n) (drop-length buf) in

@@ -8,7 +8,6 @@ ghost use Rattle.image.specs.Restore.{chips};
 ghost use Rattle.script_machine.specs.Machine.{machine_of};
 ghost use Rattle.script_resume.specs.Resumed.{started, start_of, Goes, head_size};
 
-use image::RestoreAnswer;
 use script_machine::Machine;
 use script_print::SPACE;
 use types::Refusal;
@@ -41,11 +40,11 @@ pub fn start(image: &[u8], machine: &mut Machine) -> Result<(), Refusal>
         &mut machine.board_apic,
         &mut machine.pic,
     ) {
-        RestoreAnswer::Restored => {
+        Ok(()) => {
             machine.vm.used.pic = true;
             Ok(())
         }
-        RestoreAnswer::NotRestored(why) => Err(why),
+        Err(why) => Err(why),
     }
 }
 
@@ -63,7 +62,8 @@ pub fn go_on(
 {
     start(image, machine)?;
     let end = script_print::print_from(machine, script, text);
-    image::save(
+    // The image fits its buffer, so that it is saved.
+    let _saved = image::save(
         &machine.board_ioapic,
         &machine.board_apic,
         &machine.pic,

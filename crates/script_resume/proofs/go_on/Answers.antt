@@ -8,7 +8,7 @@ returns c =
     let a = c.args in
     let s = c.start.ensures in
     let p = c.print_from-end.ensures in
-    let i = saved_all _ _ _ _ _ c.save.result (search rules) c.save.ensures in record {
+    let i = saved_all _ _ _ _ _ c.save-saved.result (search rules) c.save-saved.ensures in record {
       goes = (
         started_ok a.image.now _ (sym c.in_ok-start.was ∙ s.answer),
         (printed_from_start a.image.now a.script.now _ _ _ _ s.machine_after p.puts, left_from_start a.image.now a.script.now _ _ s.machine_after p.machine_after, i, refl),

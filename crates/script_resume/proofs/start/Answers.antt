@@ -7,12 +7,12 @@ returns-then-is_empty c =
     let whole = start_new c.args.image.now _ _ _ _ _ _ c.new.ensures (sym c.is_empty.ensures ∙ c.if-is_empty.true) in
     record { answer = whole.0; machine_after = whole.1 }
 
-pub returns-in-Restored : goal.returns-in-Restored
-returns-in-Restored c =
-    let whole = start_took c.args.image.now _ _ _ _ _ _ c.new.ensures _ _ _ _ (sym c.is_empty.ensures ∙ c.if-is_empty.false) c.restore.ensures _ refl c.in-Restored.is in
+pub returns-in-Ok : goal.returns-in-Ok
+returns-in-Ok c =
+    let whole = start_took c.args.image.now _ _ _ _ _ _ c.new.ensures _ _ _ _ (sym c.is_empty.ensures ∙ c.if-is_empty.false) c.restore.ensures _ refl c.in-Ok.is in
     record { answer = whole.0; machine_after = whole.1 }
 
-pub returns-in-NotRestored : goal.returns-in-NotRestored
-returns-in-NotRestored c =
-    let whole = start_refused c.args.image.now _ _ _ _ _ _ c.new.ensures _ _ _ _ (sym c.is_empty.ensures ∙ c.if-is_empty.false) c.restore.ensures _ c.in-NotRestored.is in
+pub returns-in-Err : goal.returns-in-Err
+returns-in-Err c =
+    let whole = start_refused c.args.image.now _ _ _ _ _ _ c.new.ensures _ _ _ _ (sym c.is_empty.ensures ∙ c.if-is_empty.false) c.restore.ensures _ c.in-Err.is in
     record { answer = whole.0; machine_after = whole.1 }
