@@ -7,6 +7,8 @@ use input::Input;
 use script_print::SPACE;
 use std::io::{self, Write};
 
+// Stays: what may not change: `input::read_all` promises how many bytes of a lent buffer were read, and `print` fills
+// one (`puts`).
 fn main(rt: HostRuntime) -> io::Result<()> {
     let mut script = [0u8; 65537];
     let Input { length, ended } = input::read_all(&mut rt.reader(), &mut script);

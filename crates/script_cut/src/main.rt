@@ -6,9 +6,11 @@
 
 use input::Input;
 use script_format::{Call, Cursor, PicCall};
+use script_machine::Machine;
 use std::io::{self, Write};
-use types::Reply;
+use types::{Reply, ToReply};
 
+// Stays: what may not change: `input::read_all` promises how many bytes of a lent buffer were read.
 fn main(rt: HostRuntime) -> io::Result<()> {
     let mut script = [0u8; 4096];
     let Input { length, ended } = input::read_all(&mut rt.reader(), &mut script);
@@ -24,51 +26,14 @@ fn print_runs<W: Write>(
     allowance: usize,
     runs: usize,
 ) -> io::Result<()> {
-    let mut ioapic = [0u64; 32];
-    let mut pic = [0u64; 4];
-    let mut apic = [0u64; 48];
-    let mut board_ioapic = [0u64; 32];
-    let mut board_apic = [0u64; 48];
-    let mut vm = script_machine::new(
-        &mut ioapic,
-        &mut pic,
-        &mut apic,
-        &mut board_ioapic,
-        &mut board_apic,
-    );
+    let mut machine = Machine::new();
     let mut next = Cursor { at: 0 };
-    let mut k: usize = 0;
-    while k < runs {
-        k += 1;
-        let ended = script_machine::run(
-            &mut ioapic,
-            &mut pic,
-            &mut apic,
-            &mut board_ioapic,
-            &mut board_apic,
-            vm,
-            script,
-            next,
-            allowance,
-        );
-        let after = ended.vm;
-        let behind = ended.next;
-        let stop = ended.stop;
-        reply_text::print_reply(out, Reply::Two(ended.done as u64, behind.at as u64))?;
-        reply_text::print_reply(out, stop.reply())?;
-        vm = after;
-        next = behind;
+    for _ in 0..runs {
+        let ended = machine.run(script, next, allowance);
+        next = ended.next;
+        reply_text::print_reply(out, Reply::Two(ended.done as u64, next.at as u64))?;
+        reply_text::print_reply(out, ended.stop.reply())?;
     }
     let pending = Call::Pic(PicCall::ClaimPendingInterrupt);
-    let performed = script_machine::perform(
-        &mut ioapic,
-        &mut pic,
-        &mut apic,
-        &mut board_ioapic,
-        &mut board_apic,
-        vm,
-        pending,
-    );
-    let reply = performed.reply;
-    reply_text::print_reply(out, reply)
+    reply_text::print_reply(out, machine.perform(pending))
 }

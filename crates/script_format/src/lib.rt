@@ -123,7 +123,7 @@ pub struct BadField;
 // ---- numbers in a body, the low byte first; past its end there are only zeros
 
 // A byte of a body, or 0 past its end.
-// Stays: what may not change (`number_at`: past the end there are only zeros).
+// Stays: what may not change: `number_at`, by which `decoded` says what any body means, reads 0 there.
 #[tactic(auto, unfolding(crate::specs::Format::number_at))]
 pub fn byte_at(body: &[u8], k: usize) -> u8
     ensures { result ≡ number_at body.now k 1 }
@@ -179,7 +179,7 @@ fn checked(body: &[u8], size: usize, may_start: bool, call: Call) -> Option<Call
 }
 
 // A body of the I/O APIC's fields by its tag: its size, whether its first number may stand there, and its call.
-// Stays: the tag is a number, the byte that stands in the script: `decoded` has an answer for each of the 256.
+// Stays: what may not change: `decoded` has an answer for each byte that may stand in the script as a tag.
 fn decode_io(tag: u8, body: &[u8]) -> Option<Call>
     ensures { result ≡ decoded_in io_formats tag body.now }
 {
@@ -224,7 +224,7 @@ fn decode_io(tag: u8, body: &[u8]) -> Option<Call>
 }
 
 // Of the pair's.
-// Stays: the tag, as at `decode_io`.
+// Stays: what may not change: the tag, as at `decode_io`.
 fn decode_pic(tag: u8, body: &[u8]) -> Option<Call>
     ensures { result ≡ decoded_in pic_formats tag body.now }
 {
@@ -274,7 +274,7 @@ fn decode_pic(tag: u8, body: &[u8]) -> Option<Call>
 }
 
 // Of the local APIC's.
-// Stays: the tag, as at `decode_io`.
+// Stays: what may not change: the tag, as at `decode_io`.
 fn decode_apic(tag: u8, body: &[u8]) -> Option<Call>
     ensures { result ≡ decoded_in apic_formats tag body.now }
 {
@@ -314,7 +314,7 @@ fn decode_apic(tag: u8, body: &[u8]) -> Option<Call>
 }
 
 // Of the board's.
-// Stays: the tag, as at `decode_io`.
+// Stays: what may not change: the tag, as at `decode_io`.
 fn decode_board(tag: u8, body: &[u8]) -> Option<Call>
     ensures { result ≡ decoded_in board_formats tag body.now }
 {
@@ -354,7 +354,7 @@ fn decode_board(tag: u8, body: &[u8]) -> Option<Call>
 }
 
 // A body by its tag.
-// Stays: the tag, as at `decode_io`.
+// Stays: what may not change: the tag, as at `decode_io`.
 pub fn decode(tag: u8, body: &[u8]) -> Option<Call>
     ensures { result ≡ decoded tag body.now }
 {
@@ -373,7 +373,7 @@ pub fn decode(tag: u8, body: &[u8]) -> Option<Call>
 // ---- a field
 
 // A field with this tag, if its body says a call; it ends where the next one starts.
-// Stays: the tag, as at `decode_io`.
+// Stays: what may not change: the tag, as at `decode_io`.
 pub fn field_of<C: Copy>(
     tag: u8,
     body: Option<C>,

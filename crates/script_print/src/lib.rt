@@ -19,7 +19,7 @@ const LIMIT: usize = 65536;
 pub const SPACE: usize = 1747760;
 
 // Runs a script on a new machine, puts all that is printed for it at the buffer's start, and answers how many bytes that are.
-// Stays: it can't fail, and `puts` names every byte of the lent buffer; `write!` and `format!` may fail.
+// Stays: what may not change: it can't fail, and `puts` names every byte of the lent buffer; `write!` may fail.
 pub fn print(script: &[u8], out: &mut [u8; SPACE]) -> usize
     ensures puts { Puts out.old 0 (printed script.now) out.new result }
     ensures prefix_len { IsPrefixLen result out.new }
@@ -28,7 +28,7 @@ pub fn print(script: &[u8], out: &mut [u8; SPACE]) -> usize
 }
 
 // The same on a lent machine, which is left as the run leaves it.
-// Stays: as `print`.
+// Stays: what may not change, as at `print`.
 pub fn print_from(machine: &mut Machine, script: &[u8], out: &mut [u8; SPACE]) -> usize
     ensures puts { Puts out.old 0 (printed_from script.now (machine_of machine.old)) out.new result }
     ensures prefix_len { IsPrefixLen result out.new }
@@ -40,7 +40,8 @@ pub fn print_from(machine: &mut Machine, script: &[u8], out: &mut [u8; SPACE]) -
     put_lines(machine, script, out)
 }
 
-// Stays: as `print`; and its loop has no count, since it ends where the script does, or at a bad field.
+// Stays: what may not change, as at `print`; and the new form of its loop is no plainer: it has no count, since the
+// script's end or a bad field ends it.
 fn put_lines(machine: &mut Machine, script: &[u8], out: &mut [u8]) -> usize
     requires { (length script.now ≤ 65536) × (1747760 ≤ length out.old) }
     ensures puts { Puts out.old 0 (lines_from script.now (machine_of machine.old) 0) out.new result }
@@ -60,7 +61,7 @@ fn put_lines(machine: &mut Machine, script: &[u8], out: &mut [u8]) -> usize
 }
 
 // The last line of a run that ended at a place, if it has one.
-// Stays: as `print`.
+// Stays: what may not change, as at `print`.
 pub fn put_stop(out: &mut [u8], at: usize, stop: Stop, place: usize) -> usize
     ensures puts { Puts out.old at (in_room (length out.old) at (stop_text stop place)) out.new result }
     ensures upper_bound { result ≤ at + 80 }

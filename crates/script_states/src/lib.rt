@@ -16,7 +16,7 @@ use script_machine::{Did, Machine, Stop};
 pub const SPACE: usize = 4096;
 
 // Performs the field at a place, and puts its line and the words of the chips after it at the buffer's start: where the next one starts, what is said, and how many bytes are put.
-// Stays: it can't fail, and `puts` names every byte of the lent buffer; `write!` and `format!` may fail.
+// Stays: what may not change: it can't fail, and `puts` names every byte of the lent buffer; `write!` may fail.
 pub fn put_step(
     machine: &mut Machine,
     script: &[u8],
@@ -33,7 +33,7 @@ pub fn put_step(
 }
 
 // Puts the line of a script that is too long, and isn't run, at the buffer's start.
-// Stays: as `put_step`.
+// Stays: what may not change, as at `put_step`.
 pub fn put_refusal(out: &mut [u8; SPACE]) -> usize
     ensures puts { Puts out.old 0 too_long_line out.new result }
     ensures prefix_len { IsPrefixLen result out.new }
@@ -42,7 +42,7 @@ pub fn put_refusal(out: &mut [u8; SPACE]) -> usize
 }
 
 // The text of a step at a place, which left this machine.
-// Stays: as `put_step`.
+// Stays: what may not change, as at `put_step`.
 fn put_said(out: &mut [u8], said: Result<Did, Stop>, place: usize, machine: &Machine) -> usize
     requires { 4096 ≤ length out.old }
     ensures puts { Puts out.old 0 (state_text said place machine.now.ioapic machine.now.pic machine.now.apic machine.now.board_ioapic machine.now.board_apic) out.new result }
@@ -58,7 +58,7 @@ fn put_said(out: &mut [u8], said: Result<Did, Stop>, place: usize, machine: &Mac
 }
 
 // The words of the chips, where there is room.
-// Stays: as `put_step`.
+// Stays: what may not change, as at `put_step`.
 fn put_chips(out: &mut [u8], at: usize, machine: &Machine) -> usize
     requires { at + 3449 ≤ length out.old }
     ensures puts { Puts out.old at (chips_text machine.now.ioapic machine.now.pic machine.now.apic machine.now.board_ioapic machine.now.board_apic) out.new result }
