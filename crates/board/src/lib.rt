@@ -78,9 +78,9 @@ fn request_written(apic: &mut [u64; 48], value: u64, written: Result<Written, Re
 }
 
 // ---- The calls, over the words of both chips as C lends them, two arrays side by side.
-// Stays: the C interface (`ioapic` and `apic` are two parameters of each call: board_c hands on what C lends).
 
 // Updates one input line of the I/O APIC.
+// Stays: the C interface (`ioapic` and `apic` are two parameters of each call: board_c hands on what C lends).
 #[tactic(auto, using(crate::proofs::Ways::line_way))]
 pub fn set_gsi_level(
     ioapic: &mut [u64; 32],

@@ -7,7 +7,8 @@ ghost use Rattle.io.specs.Counts.{IsPrefixLen};
 use std::io::{Read, Result};
 
 // How many bytes were read, and whether a read failed before the end.
-// Stays: what may not change: `read_all` promises how many bytes there are where a read failed too.
+// Stays: what may not change: `read_all` promises how many bytes there are where a read failed too; and an `io::Error` has
+// no equality.
 #[derive(Debug, Drop)]
 pub struct Input {
     pub length: usize,

@@ -48,7 +48,7 @@ pub struct Place {
 
 impl Gsi {
     // The redirection entry, or 24 where the table has none.
-    // Stays: what may not change: the definition `entry_index` has the number 24; `place` answers an Option.
+    // Stays: what may not change: a public function with its clause, `entry_index`, which has 24; `place` answers an Option.
     pub fn entry_index(self) -> usize
         ensures { result ≡ entry_index self }
     {
@@ -69,7 +69,7 @@ impl Gsi {
 
 impl PicLine {
     // The line of a number as C has them: any number from 16 up is line 16, which the pair hasn't.
-    // Stays: what may not change: the definition `line_of` has line 16 for all of these.
+    // Stays: the C interface: a line comes in as any number, and is never refused here.
     pub fn of_number(irq: u64) -> PicLine
         ensures { result ≡ line_of irq }
     {
@@ -121,6 +121,7 @@ impl VcpuId {
     }
 
     // The id of its local APIC: the same number, in 32 bits.
+    // Stays: the new form is no plainer: a `From` would make one counter of another (tests/mixups).
     pub fn apic_id(self) -> u32
         ensures { result ≡ apic_id self }
     {
@@ -184,7 +185,7 @@ impl From<Refusal> for u8 {
 
 impl Refusal {
     // As `u8::from`.
-    // Stays: what may not change: a public function, whose clause and name the crates above and docs/ cite.
+    // Stays: what may not change: a public function with its clause; `reply_code` and `reply_text` call it.
     pub fn number(self) -> u8
         ensures { result ≡ refusal_number self }
     {
@@ -216,7 +217,7 @@ impl Reply {
 }
 
 // A flag as a value of a reply.
-// Stays: what may not change: a public function, whose clause and name the crates above cite.
+// Stays: what may not change: a public function with its clause; `planner_c` calls it.
 pub fn flag(up: bool) -> u64
     ensures { result ≡ flag up }
 {

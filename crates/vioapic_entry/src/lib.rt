@@ -1,8 +1,9 @@
 // Ported to Rattle from vioapic.rs of the Rust crate x86_vlapic 0.5.4 (Apache License, Version 2.0; the text stands in LICENSE).
 //
 // Changed: one entry of the redirection table with its two flags is a struct, `Entry`, in the place of the Rust's three arrays. Here
-// are the fields of its register; masks became divisions and remainders by powers of two. Its rules are definitions of one entry
-// (specs/Redirection.antt), and the code of crate `vioapic` does them in place. What a call answers says its reply (`ToReply` of `types`).
+// are the fields of its register; its flags are members of the word as a set, and other masks became divisions and remainders by
+// powers of two. Its rules are definitions of one entry (specs/Redirection.antt), and the code of crate `vioapic` does them in place.
+// The trait `ToReply` of `types` says the reply of each answer.
 
 #![tactic(auto)]
 
@@ -88,7 +89,7 @@ pub fn without_remote_irr(word: u64) -> u64
 
 // Unmasked, of fixed delivery, with a vector that can be delivered: the mask, the delivery mode and the vector's upper
 // half in one number, since every send asks it.
-// Stays: what may not change (DECISIONS, "Two tests became one comparison").
+// Stays: it would miss a bar of speed (docs/DECISIONS.md, "Two tests became one comparison"): every send asks it (`fit_is`).
 pub fn is_fit(word: u64) -> bool
     ensures { result ≡ is_fit word }
 {
@@ -100,8 +101,8 @@ pub fn is_fit(word: u64) -> bool
 }
 
 // Whether the low word written is the one that is there, Remote IRR apart.
-// Stays: the new form is no plainer: a register, and the value that the guest writes over half of it, belong together in
-// one call alone.
+// Stays: the new form is no plainer: no fact binds a register to the value that the guest writes over half of it, and a struct
+// of both would be made for each call.
 pub fn same_low(word: u64, value: u64) -> bool
     ensures { result ≡ same_low word value }
 {
@@ -160,7 +161,7 @@ pub fn keeps_deferred(word: u64, value: u32) -> bool
 impl Entry {
     // Whether an EOI of the vector ends it: level, in flight and of that vector, all in one comparison, since an EOI asks
     // it of every entry in flight.
-    // Stays: what may not change (DECISIONS, "Two tests became one comparison").
+    // Stays: it would miss a bar of speed (docs/DECISIONS.md, "Two tests became one comparison"): `awaits_sum`.
     pub fn awaits(self, vector: Vector) -> bool
         ensures { result ≡ awaits vector self }
     {

@@ -9,7 +9,7 @@ ghost use Rattle.vpic_priority.specs.Ring.{rank, above, first_by};
 mod table;
 
 // The highest line of a set, or 8 where the set is empty. Any number is taken for a lowest line, by its remainder.
-// Stays: what may not change: `first_by` has 8 for none, a rank below all lines, which the chip's rule compares with.
+// Stays: what may not change: `first_by` has 8 for none, whose rank is below that of all lines: the chip's rule compares.
 pub fn first_line(lowest: u8, set: u8) -> u8
     ensures { result ≡ first_by lowest (bit set) }
 {
