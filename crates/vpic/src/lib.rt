@@ -154,6 +154,7 @@ fn vector_of(claim: Option<PicInterruptClaim>) -> Option<Vector>
 // `specs/Claim.antt` has its bits.
 
 // A claim of a line with its vector, and which in-service bits it set; without a vector none was taken.
+// Stays: what may not change (`claim_irq_number`, `claim_pending_number`: a claim's number is what they promise).
 fn claimed(
     vector: Option<Vector>,
     irq: PicLine,
@@ -175,6 +176,7 @@ fn claimed(
 }
 
 // The claim of a number.
+// Stays: what may not change (`claim_irq_number`, `claim_pending_number`: a claim's number is what they promise).
 fn claim_in(number: u64) -> Option<PicInterruptClaim>
     ensures { result ≡ claim_in number }
 {
@@ -211,6 +213,7 @@ fn master_chip(words: &[u64; 4]) -> PicChip
     PicChip(words[0])
 }
 
+// Stays: the new form is no plainer: the pair has two chips, and a function by place would choose in each clause.
 fn slave_chip(words: &[u64; 4]) -> PicChip
     ensures plain { chip_in result.0 ≡ (plain_view words.now).slave }
     ensures full { placed false (full_in result.0) ≡ (full_view words.now).slave }
@@ -225,6 +228,7 @@ pub fn master(words: &[u64; 4]) -> PicChip
     master_chip(words)
 }
 
+// Stays: the new form is no plainer: the pair has two chips, and a function by place would choose in each clause.
 pub fn slave(words: &[u64; 4]) -> PicChip
     ensures { chip_in result.0 ≡ (plain_view words.now).slave }
 {
@@ -245,6 +249,7 @@ fn set_master(words: &mut [u64; 4], chip: PicChip)
     words[0] = chip.0;
 }
 
+// Stays: the new form is no plainer: the pair has two chips, and a function by place would choose in each clause.
 fn set_slave(words: &mut [u64; 4], chip: PicChip)
     ensures plain { plain_view words.new ≡ chips (plain_view words.old) (plain_view words.old).master (chip_in chip.0) }
     ensures full { full_view words.new ≡ chips (full_view words.old) (full_view words.old).master (placed false (full_in chip.0)) }
@@ -434,7 +439,7 @@ fn claim_line(words: &mut [u64; 4], irq: PicLine) -> u64
 }
 
 // Latches an edge on one line and claims what can be delivered at once.
-// Stays: the C interface: it lends the pair's four words, and `words` and `irq` are two parameters of each call.
+// Stays: the C interface: it lends the four words, whose rule each call asks for once, beside the line.
 pub fn claim_irq(words: &mut [u64; 4], irq: PicLine) -> Option<PicInterruptClaim>
     ensures { claim_outcome (view words.new) result ≡ with_claim (claim_irq (view words.old) irq) }
 {
@@ -445,6 +450,7 @@ pub fn claim_irq(words: &mut [u64; 4], irq: PicLine) -> Option<PicInterruptClaim
 }
 
 // The same, and the claim as one number.
+// Stays: the C interface: the words that it lends hold the rule, and each call asks for it once.
 pub fn claim_irq_number(words: &mut [u64; 4], irq: PicLine) -> u64
     ensures { numbered (view words.new) result ≡ with_number (claim_irq (view words.old) irq) }
 {
@@ -456,6 +462,7 @@ pub fn claim_irq_number(words: &mut [u64; 4], irq: PicLine) -> u64
 
 // What can be delivered is claimed, by either road. Called by several, so that it stays a function of its own: a claim that finds nothing requested then doesn't begin
 // by saving registers for what follows.
+// Stays: the C interface: the words that it lends hold the rule, and each call asks for it once.
 fn claim_open(words: &mut [u64; 4]) -> u64
     ensures { (state_claim (view words.new) (claim_in result) ≡ claim_pending (view words.old)) × (result ≡ claim_number (claim_in result)) }
 {
@@ -491,6 +498,7 @@ pub fn claim_pending_number(words: &mut [u64; 4]) -> u64
 }
 
 // Latches an edge and answers the vector alone: such a claim can't be restored.
+// Stays: the C interface: the words that it lends hold the rule, and each call asks for it once.
 pub fn pulse_irq(words: &mut [u64; 4], irq: PicLine) -> Option<Vector>
     ensures { vector_outcome (view words.new) result ≡ with_vector (claim_irq (view words.old) irq) }
 {
@@ -500,6 +508,7 @@ pub fn pulse_irq(words: &mut [u64; 4], irq: PicLine) -> Option<Vector>
     vector_of(claim_in(claim_line(words, irq)))
 }
 
+// Stays: the C interface: the words that it lends hold the rule, and each call asks for it once.
 pub fn next_interrupt(words: &mut [u64; 4]) -> Option<Vector>
     ensures { vector_outcome (view words.new) result ≡ with_vector (claim_pending (view words.old)) }
 {
@@ -541,6 +550,7 @@ fn restore_at(words: &mut [u64; 4], place: PicPlace, claim: PicInterruptClaim)
 }
 
 // Restores a claim whose vector couldn't be published.
+// Stays: the C interface: the words that it lends hold the rule, and each call asks for it once.
 pub fn restore_interrupt(words: &mut [u64; 4], claim: PicInterruptClaim) -> Result<(), Refusal>
     ensures { done_outcome (view words.new) result ≡ restore_interrupt (view words.old) claim }
 {
@@ -610,7 +620,7 @@ fn read_port(words: &[u64; 4], port: u64) -> Result<u8, Refusal>
 }
 
 // A read of a port, `width` bytes wide. Numbers come in at their full width.
-// Stays: the C interface: it lends the pair's four words, and `words` and `port` are two parameters of each call.
+// Stays: the C interface: it lends the four words, whose rule each call asks for once, beside the port.
 pub fn handle_read(words: &mut [u64; 4], port: u64, width: u64) -> Result<u8, Refusal>
     ensures { value_outcome (view words.new) result ≡ handle_read (view words.old) port width }
 {
@@ -624,6 +634,7 @@ pub fn handle_read(words: &mut [u64; 4], port: u64, width: u64) -> Result<u8, Re
 }
 
 // What a byte read of a port shows, and nothing where that isn't all: the pair may have a poll that waits, or hasn't that port.
+// Stays: the C interface: the words that it lends hold the rule, and each call asks for it once.
 pub fn plain_read(words: &[u64; 4], port: u64) -> Option<u8>
     ensures { result ≡ plain_shown (view words.now) port }
 {
@@ -664,6 +675,7 @@ fn write_at(words: &mut [u64; 4], port: u64, byte: u8) -> Result<(), Refusal>
 }
 
 // A write to a port, `width` bytes wide.
+// Stays: the C interface: the words that it lends hold the rule, and each call asks for it once.
 pub fn handle_write(words: &mut [u64; 4], port: u64, width: u64, value: u64) -> Result<(), Refusal>
     ensures { done_outcome (view words.new) result ≡ handle_write (view words.old) port width value }
 {

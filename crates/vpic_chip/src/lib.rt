@@ -152,7 +152,7 @@ impl PicChip {
     }
 
     // One line of a set is a bit of the word.
-    // Stays: the new form is no plainer: each is one line over `Set`, of another register; a type of the chip's eight lines
+    // Stays: the new form is no plainer: each is one line over `Set`, of another register; a type of the chip's lines
     // beside `PicLine` would be made anew before each of these calls.
     #[tactic(auto, using(crate::proofs::Packing::requested_put))]
     fn requested(self, irq: PicLine) -> Self
@@ -492,6 +492,7 @@ impl PicChip {
     }
 
     // ICW1 puts all registers but the base.
+    // Stays: the new form is no plainer: `icw1` keeps the mask, and the registers that are the full profile's alone.
     fn full_icw1(self, value: u8) -> Self
         ensures { full_in result.0 ≡ icw1 (full_in self.0) value }
     {
@@ -707,7 +708,7 @@ impl PicChip {
 
 // The lowest line of the set, line 0 being the highest in priority, or 8 where the set is empty. Three tests find it: of four lines, then of two, then of one,
 // each whether no line below is in the set, as none of lines 0 to 3 is where `bits % 16 == 0`.
-// Stays: what may not change (docs/DECISIONS.md, "Numbers as sets": the lowest line is 8 where there is none; `lowest 8`).
+// Stays: what may not change (docs/DECISIONS.md, "Numbers as sets": 8 where there is none; `lowest 8`).
 pub fn highest_priority(bits: u8) -> PicLine
     ensures { result.0 ≡ lowest 8 bits }
 {

@@ -40,7 +40,6 @@ fn eoi_both(pic: EmulatedPic) -> EmulatedPic {
     write(write(pic, SLAVE_COMMAND, 0x20), MASTER_COMMAND, 0x20)
 }
 
-// Stays: the new form is no plainer: three functions print one line each of the pair that they are given.
 fn print_claim<W: Write>(
     out: &mut W,
     name: &[u8],
@@ -50,6 +49,7 @@ fn print_claim<W: Write>(
     reply_text::print_reply(out, claim.reply())
 }
 
+// Stays: the new form is no plainer: three functions print one line each of the pair that they are given.
 fn claim<W: Write>(
     out: &mut W,
     name: &[u8],
