@@ -55,7 +55,7 @@ pub enum DestinationShorthand {
     AllExcludingSelf,
 }
 
-// Stays: no `From` makes a counter (tests/mixups); the field is named.
+// Stays: what may not change (tests/mixups: no `From` makes a counter of a number).
 pub fn vector(lo: u32) -> Vector
     ensures { result.0 ≡ vector_field lo }
 {
