@@ -386,7 +386,7 @@ module _ (p q : PicState) (c d : Option PicInterruptClaim) (e : d ≡ c) where
 
 module _ (p : PicState) (c : PicInterruptClaim) (o : Option PicPlace) (eo : o ≡ place_of c.irq) where
   pub restore_out : o ≡ None → done_outcome p (Err OutOfRange) ≡ restore_interrupt p c
-  restore_out h = rw (there c.irq o eo None h)
+  restore_out h = ap (λ (b : Bool). cond b (record { state = restored p c; reply = reply.Nothing }) (refused p OutOfRange)) (sym (there c.irq o eo None h))
 
   pub restore_way : (q r : PicState) (x : PicPlace) → o ≡ Some x → q ≡ restored_at p (Some x) c.master_in_service c.slave_in_service → r ≡ settled q → r ≡ restored p c
   unfolding restored
