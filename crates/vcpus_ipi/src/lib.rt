@@ -287,7 +287,8 @@ impl Placed {
         match answer {
             Ok(IcrAnswer::SendIllegalVector) if self.place == sender.0 => self.vcpu.noted(),
             Ok(IcrAnswer::Ipi(ipi)) if has(ipi.mask, self.place) => self.vcpu.received(ipi),
-            _ => self.vcpu,
+            Ok(_) => self.vcpu,
+            Err(_) => self.vcpu,
         }
     }
 }
