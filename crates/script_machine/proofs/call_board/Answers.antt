@@ -19,7 +19,7 @@ returns-in-HandleEoi c = rw c.in-HandleEoi.is (board_gives _ _ _ _ eoi_reply _ _
 
 pub returns-in-WriteTpr : goal.returns-in-WriteTpr
 unfolding outcome
-returns-in-WriteTpr c = rw (c.in-WriteTpr.is, ← c.from.ensures) (board_becomes _ _ _ _ _ (c.write_tpr.ensures c.args.ioapic.now))
+returns-in-WriteTpr c = rw c.in-WriteTpr.is (board_becomes _ _ _ _ _ (rw c.from.ensures at (c.write_tpr.ensures c.args.ioapic.now)))
 
 pub returns-in-HandleWrite : goal.returns-in-HandleWrite
 unfolding outcome
