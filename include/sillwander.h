@@ -25,8 +25,8 @@
  * The archives use the xmm registers: a caller that holds a guest's has to save them first. They use the red zone, the
  * 128 bytes below the stack pointer: on a stack on which interrupts are taken too, as a kernel's, these have to be off
  * during a call, and NMIs and other exceptions need a stack of their own. A call takes at most 4 KB of stack,
- * sillwander_image_restore 12 KB. libimage_c.a and libplanner_c.a call memcpy, and libimage_c.a memset, as compiled code
- * does: a host without a C library supplies them.
+ * sillwander_image_restore 12 KB. libimage_c.a and libplanner_c.a call memcpy, and libimage_c.a memset, as compiled
+ * code does: a host without a C library supplies them.
  */
 #ifndef SILLWANDER_H
 #define SILLWANDER_H
