@@ -1,15 +1,14 @@
 -- Texts on a page, one put behind the other. Assumes nothing.
-use mathlib.Core.List.{List, [], ◌∷◌, ◌++◌, append_assoc}
+use mathlib.Core.List.{List, [], ◌∷◌, ◌++◌}
 use mathlib.Core.Path.{◌≡◌, refl, sym, ap, ◌∙◌}
-use Prim.Native.Nat.{ℕ, ◌+◌, ◌-◌, ◌^◌, ◌≤◌, ◌<◌}
+use Prim.Native.Nat.{ℕ, ◌+◌, ◌^◌, ◌≤◌, ◌<◌}
+use native.Mathlib.Numerals.{add-one}
 use native.Mathlib.Omega.{arith}
-use lib.ListN.{length, take, get_or, drop}
-use lib.Seq.{sets, length-sets, take_all}
-use borrow.Rule.Slice.PartMut.{put_mid, Post-is}
-use Rattle.std.proofs.lemmas.List.Edits.{sets-eq}
+use lib.ListN.{length, take, get_or}
+use lib.Seq.{take-suc, take_all}
 use Rattle.io.specs.Digits.{last_digits, IsDigitCount}
 use Rattle.reply_text.specs.declared.Page.{Page}
-use Rattle.reply_text.specs.Text.{Puts, decimal, space, newline, words_text, words_line}
+use Rattle.reply_text.specs.Text.{decimal, space, newline, words_text, words_line}
 use Rattle.reply_text.specs.Pages.{PutsOn}
 use Rattle.reply_text.proofs.Digits.{at_most_20, digits_decimal}
 use Rattle.reply_text.proofs.Puts.{then_put, one_more_word}
@@ -28,19 +27,15 @@ text_is e a = rw e at a
 pub byte_is : {p q : Page} {b c : ℕ} → b ≡ c → PutsOn p (b ∷ []) q → PutsOn p (c ∷ []) q
 byte_is e a = rw e at a
 
--- a text copied onto the page
-module _ (l m b : List ℕ) (at : ℕ) (copied : m ≡ b) (fits : at + length b ≤ length l) where
-  copied_is : put_mid at (at + length b - at) l m ≡ sets l at b
-  copied_is =
-      ap (put_mid at (at + length b - at) l) copied
-      ∙ ap (λ (rest : List ℕ). take at l ++ (b ++ rest)) (Post-is at (at + length b) l (omega arith))
-      ∙ sym (sets-eq b l at fits ∙ append_assoc (take at l) b (drop (at + length b) l))
+-- bytes put one by one
+pub no_bytes : {p : Page} (ws : List ℕ) → PutsOn p (take 0 ws) p
+no_bytes ws = record { puts = record { buffer = refl; end = omega arith }; long = refl }
 
-  pub copied_puts : Puts l at b (put_mid at (at + length b - at) l m) (at + length b)
-  copied_puts = record { buffer = copied_is; end = refl }
+pub more_bytes : {p q r : Page} (ws : List ℕ) (k : ℕ) → k < length ws → PutsOn p (take k ws) q → PutsOn q (get_or ws k 0 ∷ []) r → PutsOn p (take (k + 1) ws) r
+more_bytes ws k h a b = text_is (sym (rw (add-one k) (take-suc ws k 0 h))) (then_text a b)
 
-  pub copied_long : length (put_mid at (at + length b - at) l m) ≡ length l
-  copied_long = ap length copied_is ∙ length-sets l at b
+pub all_bytes : {p q : Page} (ws : List ℕ) (k : ℕ) → length ws ≤ k → PutsOn p (take k ws) q → PutsOn p ws q
+all_bytes ws k h a = text_is (take_all k ws h) a
 
 -- a number's digits
 pub digits_are : (n k : ℕ) (d : List ℕ) → n < 2 ^ 64 → d ≡ last_digits 10 k n → IsDigitCount 10 1 n k → d ≡ decimal n

@@ -2,15 +2,16 @@
 use mathlib.Core.Bool.{Bool, true, false, cond}
 use mathlib.Core.List.{List, [], ◌∷◌, ◌++◌, append_assoc}
 use mathlib.Core.Path.{◌≡◌, refl, sym, ap, ◌∙◌}
-use Prim.Native.Nat.{ℕ, suc, ◌+◌, ◌-◌, ◌≤◌, ◌<◌}
+use Prim.Native.Nat.{ℕ, suc, ◌+◌, ◌-◌, ◌%◌, ◌≤◌, ◌<◌}
+use native.Mathlib.Nat.{mod-eq_of_lt}
 use native.Mathlib.Numerals.{add-one}
 use native.Mathlib.Omega.{arith}
 use lib.ListN.{length, take, get_or, set, length-append}
 use lib.Seq.{sets, take-suc}
 use lib.Dec.{ltb}
-use borrow.Author.Tests.{le-ltb}
+use borrow.Author.Tests.{lt-ltb, le-ltb}
 use Rattle.io.specs.Digits.{hex_digit_ascii}
-use Rattle.reply_text.specs.Text.{Puts, decimal, space, words_text}
+use Rattle.reply_text.specs.Text.{Puts, decimal_in, decimal, space, words_text}
 
 sets_append : (l : List ℕ) (i : ℕ) (vs ws : List ℕ) → sets l i (vs ++ ws) ≡ sets (sets l i vs) (i + length vs) ws
 sets_append l i [] ws = let z : i + 0 ≡ i = omega arith in rw z
@@ -47,6 +48,15 @@ put_no_room vs e = rw e (record { buffer = refl; end = omega arith })
 -- a digit above nine
 pub digit_letter : (d : ℕ) → 10 ≤ d → 97 + (d - 10) ≡ hex_digit_ascii d
 digit_letter d h = let t : ltb d 10 ≡ false = le-ltb d 10 h in rw t (omega arith)
+
+-- ---- decimals
+
+pub small_decimal : (n : ℕ) → n < 10 → hex_digit_ascii (n % 16) ∷ [] ≡ decimal n
+unfolding decimal_in
+small_decimal n h =
+    let t : ltb n 10 ≡ true = lt-ltb n 10 h in
+    let m : n % 16 ≡ n = mod-eq_of_lt (omega arith) in
+    rw (m, t)
 
 -- ---- words
 
