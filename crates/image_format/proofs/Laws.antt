@@ -88,6 +88,13 @@ module _ (s : List ℕ) (at end depth k : ℕ) (r : Option Place) where
       pub group_more : (p : Place) → f ≡ Some p → ((j : ℕ) → m ≤ j → r ≡ group_by j s p.at end depth p.row) → r ≡ group_by n s at end depth k
       group_more p u q = open_group m n l (λ j le. of_more at end k _ _ r o p (sym (ef j le) ∙ u) (q j le))
 
+-- what a group answers from a place on; and it answers from here whatever it answers from a later one on
+abbrev pub GroupIs : List ℕ → ℕ → ℕ → ℕ → ℕ → Option Place → Type 0
+GroupIs s end depth at k r = (n : ℕ) → (end - at) + (end - at) + 1 < n → r ≡ group_by n s at end depth k
+
+abbrev pub GoesOn : List ℕ → ℕ → ℕ → ℕ → ℕ → ℕ → ℕ → Type 0
+GoesOn s end depth at k later row = (r : Option Place) → GroupIs s end depth later row r → GroupIs s end depth at k r
+
 module _ (s : List ℕ) (at k : ℕ) (r : Option Place) where
   pub from_past : length s < at → r ≡ refused → r ≡ field_from s at k
   unfolding field_from

@@ -103,7 +103,11 @@ struct Part<'a> {
 fn has_field(part: Part<'_>, row: Row) -> bool
     ensures { result ≡ has_field part.entry.image.now part.entry.at part.entry.end row }
 {
-    part.end - part.at >= 3 + row.size() && part.image[part.at..].starts_with(&row.header())
+    let [tag, low, high] = row.header();
+    part.end - part.at >= 3 + row.size()
+        && part.image[part.at] == tag
+        && part.image[part.at + 1] == low
+        && part.image[part.at + 2] == high
 }
 
 // One field of the part's bytes, which should be this row.
@@ -136,23 +140,25 @@ fn read_field(part: Part<'_>, depth: u8, row: usize) -> Option<Place>
     read_group(group, depth - 1, row + 1)
 }
 
-// All the fields of the part's bytes, from this row on.
+// All the fields of the part's bytes, from this row on, one behind the other: a call of this function for each would take
+// stack for each.
+// Stays: the new form of its loop is no plainer: it has no count, since the part's end or a field that is none ends it.
 #[cycle(read_field_read_group)]
 fn read_group(part: Part<'_>, depth: u8, row: usize) -> Option<Place>
     ensures is { (n : ℕ) → (part.entry.end - part.entry.at) + (part.entry.end - part.entry.at) + 1 < n →
         result ≡ group_by n part.entry.image.now part.entry.at part.entry.end depth row }
     ensures moves { IfSome result (λ next. (part.entry.at ≤ next.at) × (next.at ≤ part.entry.end)) }
 {
-    if part.at == part.end {
-        return Some(Place { at: part.at, row });
+    let mut next = Place { at: part.at, row };
+    while next.at != part.end {
+        let rest = Part {
+            image: part.image,
+            at: next.at,
+            end: part.end,
+        };
+        next = read_field(rest, depth, next.row)?;
     }
-    let next = read_field(part, depth, row)?;
-    let rest = Part {
-        image: part.image,
-        at: next.at,
-        end: part.end,
-    };
-    read_group(rest, depth, next.row)
+    Some(next)
 }
 
 // ---- The reader keeps the lent image and its place
