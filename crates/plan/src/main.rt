@@ -8,24 +8,27 @@
 
 #![tactic(auto)]
 
-use rows::{Line, Setup, Trouble};
-use std::alloc::Global;
-use std::io::{self, Read, Write};
+use input::Input;
+use rows::{LINES, Line, Setup};
+use std::io::{self, Write};
 use types::{Refusal, Vector};
 use utils::Set;
 
 mod rows;
 
+// Stays: what may not change: `input::read_all` promises how many bytes of a lent buffer were read, and `plan` asks for
+// no memory, so that it can't run out of it.
 fn main(rt: HostRuntime) -> io::Result<()> {
-    let mut text = Vec::new(rt.alloc());
-    if let Err(error) = rt.reader().take(65_536).read_to_end(&mut text) {
+    let mut text = [0u8; 65_536];
+    let Input { length, ended } = input::read_all(&mut rt.reader(), &mut text);
+    if let Err(error) = ended {
         return eprintln!(rt; "plan: standard input: {error}");
     }
     let mut out = io::writer(&rt);
-    let written = if text.len() > 65_535 {
+    let written = if length > 65_535 {
         writeln!(out, "plan: the text is longer than 65,535 bytes")
     } else {
-        run(&mut out, rt.alloc(), &text)
+        run(&mut out, &text[..length])
     };
     if let Err(error) = written {
         return eprintln!(rt; "plan: standard output: {error}");
@@ -35,20 +38,21 @@ fn main(rt: HostRuntime) -> io::Result<()> {
 
 // ---- planning
 
-fn run<W: Write>(out: &mut W, alloc: Global, text: &[u8]) -> io::Result<()> {
-    match Setup::read(alloc, text) {
-        Ok(setup) => setup.answer(out, alloc),
-        Err(Trouble::Row(bad)) => writeln!(out, "{bad}"),
-        Err(Trouble::Memory(error)) => Err(error.into()),
+fn run<W: Write>(out: &mut W, text: &[u8]) -> io::Result<()> {
+    let mut setup = Setup::new();
+    match setup.read(text) {
+        Ok(()) => setup.answer(out),
+        Err(bad) => write!(out, "{bad}"),
     }
 }
 
 // ---- writing: the first write that fails ends it
 
 impl<'a> Setup<'a> {
-    fn answer<W: Write>(&self, out: &mut W, alloc: Global) -> io::Result<()> {
-        let ranges = self.ranges(alloc)?;
-        let mut plan = vec![in alloc; 0u8; self.lines.len()]?;
+    fn answer<W: Write>(&self, out: &mut W) -> io::Result<()> {
+        let ranges = self.ranges();
+        // Stays: a rule of the project: no heap.
+        let mut plan = [0u8; LINES];
         match planner::plan(&ranges, &self.taken, &mut plan) {
             Ok(()) => {
                 for (line, vector) in self.lines.iter().zip(&plan) {
@@ -92,9 +96,12 @@ impl<'a> Setup<'a> {
         let highest = crowded.highest.0;
         let free = planner::shortage::count_free(&self.taken, crowded.lowest, crowded.highest);
         let confined = planner::shortage::count_confined(ranges, crowded.lowest, crowded.highest);
+        write!(out, "vectors ")?;
+        write!(out, "0x{lowest:02x} to ")?;
+        write!(out, "0x{highest:02x}")?;
         writeln!(
             out,
-            "vectors 0x{lowest:02x} to 0x{highest:02x}: {free} free; lines that may have no other: {confined}"
+            ": {free} free; lines that may have no other: {confined}"
         )?;
         for (k, line) in self.lines.iter().enumerate() {
             if k < 64 && crowded.lines.has(k as u32) {
@@ -111,10 +118,8 @@ impl<'a> Line<'a> {
         let input = self.input;
         let register = 16 + 2 * u32::from(input);
         let number = vector.0;
-        write!(
-            out,
-            "entry {input}, register 0x{register:02x}: vector 0x{number:02x}    "
-        )?;
+        write!(out, "entry {input}, register 0x{register:02x}: vector ")?;
+        write!(out, "0x{number:02x}    ")?;
         out.write_all(self.name)?;
         writeln!(out)
     }

@@ -2,7 +2,7 @@
 
 ghost use Rattle.std.specs.Prelude.{◌≤◌};
 
-use std::alloc::{AllocError, Global};
+use arrayvec::ArrayVec;
 use std::fmt;
 use std::num::TryFromIntError;
 use types::Vector;
@@ -20,19 +20,20 @@ pub enum Fault {
     Inverted,
 }
 
-impl fmt::Display for Fault {
-    fn fmt<W: fmt::Write>(&self, f: &mut fmt::Formatter<W>) -> fmt::Result {
-        f.write_str(match self {
-            Fault::FewWords => "too few words; a row is: name lowest highest [input]",
+impl Fault {
+    // What a row's line says of it, behind the row's number and up to the line's end: one text, which is written at once.
+    fn rest(self) -> &'static str {
+        match self {
+            Fault::FewWords => ": too few words; a row is: name lowest highest [input]\n",
             Fault::ManyWords => {
-                "too many words; a row is: name lowest highest [input], or: taken lowest highest"
+                ": too many words; a row is: name lowest highest [input], or: taken lowest highest\n"
             }
-            Fault::NoNumber => "a word that is no number, decimal or hexadecimal behind 0x",
-            Fault::LargeNumber => "a number above 255",
-            Fault::LargeInput => "an input above 23",
-            Fault::SameInput => "an input that a row before has",
-            Fault::Inverted => "the lowest taken vector is above the highest",
-        })
+            Fault::NoNumber => ": a word that is no number, decimal or hexadecimal behind 0x\n",
+            Fault::LargeNumber => ": a number above 255\n",
+            Fault::LargeInput => ": an input above 23\n",
+            Fault::SameInput => ": an input that a row before has\n",
+            Fault::Inverted => ": the lowest taken vector is above the highest\n",
+        }
     }
 }
 
@@ -43,7 +44,7 @@ impl From<TryFromIntError> for Fault {
     }
 }
 
-// A row that is none, by its number from 1.
+// A row that is none, by its number from 1: printed, it is a line, with its end.
 #[derive(Clone, Copy, Debug, PartialEq, Eq, Hash)]
 pub struct BadRow {
     pub number: usize,
@@ -53,21 +54,8 @@ pub struct BadRow {
 impl fmt::Display for BadRow {
     fn fmt<W: fmt::Write>(&self, f: &mut fmt::Formatter<W>) -> fmt::Result {
         let number = self.number;
-        let fault = self.fault;
-        write!(f, "row {number}: {fault}")
-    }
-}
-
-// Why a text has no lines to plan.
-#[derive(Debug, Drop, PartialEq, Eq)]
-pub enum Trouble {
-    Row(BadRow),
-    Memory(AllocError),
-}
-
-impl From<AllocError> for Trouble {
-    fn from(error: AllocError) -> Trouble {
-        Trouble::Memory(error)
+        write!(f, "row {number}")?;
+        f.write_str(self.fault.rest())
     }
 }
 
@@ -106,6 +94,16 @@ pub struct Line<'a> {
     pub input: u8,
 }
 
+impl<'a> Default for Line<'a> {
+    fn default() -> Line<'a> {
+        Line {
+            name: b"".as_slice(),
+            range: 0,
+            input: 0,
+        }
+    }
+}
+
 #[derive(Clone, Copy, Debug, PartialEq, Eq, Hash)]
 enum Row<'a> {
     Blank,
@@ -115,6 +113,23 @@ enum Row<'a> {
 
 fn is_blank(byte: u8) -> bool {
     matches!(byte, b'\t' | b'\r' | b' ')
+}
+
+// The first word of a row, and what is behind it; a comment has none. Blanks are passed over one by one: a `split` at each
+// would answer an empty word for each.
+fn first_word(row: &[u8]) -> Option<(&[u8], &[u8])> {
+    let start = row.iter().position(|byte| !is_blank(*byte))?;
+    let word = &row[start..];
+    if word[0] == b'#' {
+        return None;
+    }
+    match word
+        .iter()
+        .position(|byte| is_blank(*byte) || *byte == b'#')
+    {
+        Some(end) => Some(word.split_at(end)),
+        None => Some((word, &word[word.len()..])),
+    }
 }
 
 fn taken_row<'a>(lowest: u64, highest: u64) -> Result<Row<'a>, Fault> {
@@ -128,48 +143,50 @@ fn taken_row<'a>(lowest: u64, highest: u64) -> Result<Row<'a>, Fault> {
 
 // ---- all rows: the lines, and the vectors that are taken
 
+// One line more than there may be, so that the planner sees them to be too many.
+pub const LINES: usize = 25;
+
 // Stays: the C interface (the planner's calls take the vectors taken as four words).
 #[derive(Debug, Drop, PartialEq, Eq)]
 pub struct Setup<'a> {
-    pub lines: Vec<Line<'a>>,
+    pub lines: ArrayVec<Line<'a>, LINES>,
     pub taken: [u64; 4],
 }
 
 impl<'a> Setup<'a> {
     // Stays: the C interface, as above.
-    pub fn read(alloc: Global, text: &'a [u8]) -> Result<Setup<'a>, Trouble> {
-        let mut setup = Setup {
-            lines: Vec::new(alloc),
+    pub fn new() -> Setup<'a> {
+        Setup {
+            lines: ArrayVec::new(),
             taken: [0; 4],
-        };
+        }
+    }
+
+    // Takes in the rows of a text, up to the first that is none. It fills what is there: an answer of that size would be
+    // copied, and take its size of the stack twice.
+    pub fn read(&mut self, text: &'a [u8]) -> Result<(), BadRow> {
         let mut number = 0usize;
         for row in text.split(|byte| *byte == b'\n') {
             number = number.saturating_add(1);
-            let read = match setup.read_row(row) {
-                Ok(read) => read,
-                Err(fault) => return Err(Trouble::Row(BadRow { number, fault })),
-            };
-            setup.add(read)?;
+            match self.read_row(row) {
+                Ok(read) => self.add(read),
+                Err(fault) => return Err(BadRow { number, fault }),
+            }
         }
-        Ok(setup)
+        Ok(())
     }
 
     fn read_row(&self, row: &'a [u8]) -> Result<Row<'a>, Fault> {
-        let mut parts = row.split(|byte| *byte == b'#');
-        let Some(said) = parts.next() else {
+        let Some((name, rest)) = first_word(row) else {
             return Ok(Row::Blank);
         };
-        let mut words = said
-            .split(|byte| is_blank(*byte))
-            .filter(|word| !word.is_empty());
-        let Some(name) = words.next() else {
-            return Ok(Row::Blank);
+        let (lowest, rest) = first_word(rest).ok_or(Fault::FewWords)?;
+        let (highest, rest) = first_word(rest).ok_or(Fault::FewWords)?;
+        let (input, rest) = match first_word(rest) {
+            Some((input, rest)) => (Some(input), rest),
+            None => (None, rest),
         };
-        let (Some(lowest), Some(highest)) = (words.next(), words.next()) else {
-            return Err(Fault::FewWords);
-        };
-        let input = words.next();
-        if words.next().is_some() {
+        if first_word(rest).is_some() {
             return Err(Fault::ManyWords);
         }
         if name == b"taken".as_slice() {
@@ -218,22 +235,28 @@ impl<'a> Setup<'a> {
         Ok(Row::Line(Line { name, range, input }))
     }
 
-    fn add(&mut self, row: Row<'a>) -> Result<(), AllocError> {
+    // What follows a line too many is one too.
+    fn add(&mut self, row: Row<'a>) {
         match row {
             Row::Blank => {}
-            Row::Line(line) => self.lines.push(line)?,
+            Row::Line(line) => {
+                let _too_many = self.lines.try_push(line);
+            }
             Row::Taken(lowest, highest) => {
-                for vector in lowest.0..=highest.0 {
-                    let word = usize::from(vector) / 64;
-                    self.taken[word] = self.taken[word].with(u32::from(vector) % 64);
+                for vector in u32::from(lowest.0)..u32::from(highest.0) + 1 {
+                    let word = vector as usize / 64;
+                    self.taken[word] = self.taken[word].with(vector % 64);
                 }
             }
         }
-        Ok(())
     }
 
     // The lines' ranges, as the planner takes them.
-    pub fn ranges(&self, alloc: Global) -> Result<Vec<u16>, AllocError> {
-        self.lines.iter().map(|line| line.range).collect(alloc)
+    pub fn ranges(&self) -> ArrayVec<u16, LINES> {
+        let mut ranges = ArrayVec::new();
+        for line in &self.lines {
+            let _fits = ranges.try_push(line.range);
+        }
+        ranges
     }
 }
